@@ -1,0 +1,10 @@
+pub mod Bytes
+pub mod Tokens
+pub mod Notation
+pub mod Rules
+pub mod Model
+pub mod Texts
+pub mod Layout
+pub mod Regular
+pub mod Promises
+pub mod working

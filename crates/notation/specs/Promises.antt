@@ -1,0 +1,41 @@
+-- What is promised of texts, each promise a type that a theorem of proofs/ inhabits.
+-- Assumes nothing.
+use mathlib.Core.Path.{_≡_}
+use mathlib.Core.List.{List}
+use mathlib.Core.Logic.{_↔_, _⊎_}
+use Prim.Native.Nat.{ℕ}
+use Rattle.notation.specs.Notation.{Tree}
+use Rattle.notation.specs.Model.{Model}
+use Rattle.notation.specs.Layout.{layoutOf}
+use Rattle.notation.specs.Regular.{Regular}
+use Rattle.notation.specs.Texts.{TextSaysTree, TextSays, TextRefused}
+use Rattle.notation.specs.working.Machine.{read, refused}
+use Rattle.notation.specs.working.Answer.{answer}
+
+-- No text says two models.
+abbrev pub OneModel : Type 0
+OneModel = (text : List ℕ) (m n : Model) → TextSays text m → TextSays text n → m ≡ n
+
+-- Every text says a model or has a first refusal, never both, and it has one first refusal only.
+pub record Answered (text : List ℕ) : Type 0 where
+  pub some : ((m : Model) × TextSays text m) ⊎ ((n i : ℕ) × TextRefused text n i)
+  pub apart : (m : Model) (n i : ℕ) → TextSays text m → TextRefused text n i → ⊥
+  pub once : (n i m j : ℕ) → TextRefused text n i → TextRefused text m j → (n ≡ m) × (i ≡ j)
+
+abbrev pub OneAnswer : Type 0
+OneAnswer = (text : List ℕ) → Answered text
+
+-- The computed answer is a tree exactly where the text says that tree, and a refusal exactly where that is the text's first.
+abbrev pub SaysIffAnswer : Type 0
+SaysIffAnswer = (text : List ℕ) (x : Tree) → TextSaysTree text x ↔ (answer text ≡ read x)
+
+abbrev pub RefusedIffAnswer : Type 0
+RefusedIffAnswer = (text : List ℕ) (n i : ℕ) → TextRefused text n i ↔ (answer text ≡ refused n i)
+
+-- A model that a text says has its names in range, its stars numbered in text order and its counts within the limits.
+abbrev pub AllRegular : Type 0
+AllRegular = (text : List ℕ) (m : Model) → TextSays text m → Regular m
+
+-- The flat form tells the model: two models that texts say and that have the same flat form are the same.
+abbrev pub LayoutTells : Type 0
+LayoutTells = (m n : Model) → Regular m → Regular n → layoutOf m ≡ layoutOf n → m ≡ n
