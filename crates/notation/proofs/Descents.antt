@@ -12,7 +12,7 @@ use Rattle.notation.specs.Notation.{part, Tree}
 use Rattle.notation.specs.working.Ledger.{Book, blankBook, note, fault}
 use Rattle.notation.specs.working.Table.{Sym, whole, Val, Cont, feed, Found, find, lines, skips, State, pick, past, step, ending}
 use Rattle.notation.specs.working.Machine.{Outcome, read, refused, atLast, ruled, stepped, reads, reading}
-use Rattle.notation.specs.working.Descent.{Got, got, stop, Reader, followedBy, sequence, pass, ruling, taken, descend}
+use Rattle.notation.specs.working.Descent.{Got, got, stop, Reader, thenReads, sequence, pass, ruling, taken, descend}
 
 -- The whole reading after one symbol's.
 abbrev pub follow : {A : Type 0} → Got A → (A → List Lexeme → Book → Outcome) → Outcome
@@ -43,7 +43,7 @@ module _ (len l : ℕ) (d : Reader) (s : Serves len l d) where
   sequence-short X [] x ts b h = omega arith
   sequence-short X (m ∷ α) f ts b h = go (d m ts b) (s .short m ts b h) (λ v us b h. sequence-short X α (f v) us b h)
     where
-      go : (g : Got (Val m)) → Shorter (length ts) g → ((v : Val m) (us : List Lexeme) (b : Book) → length us < l → Shorter (length us) (sequence d α (f v) us b)) → Shorter (length ts) (followedBy g (λ v ts b. sequence d α (f v) ts b))
+      go : (g : Got (Val m)) → Shorter (length ts) g → ((v : Val m) (us : List Lexeme) (b : Book) → length us < l → Shorter (length us) (sequence d α (f v) us b)) → Shorter (length ts) (thenReads g (λ v ts b. sequence d α (f v) ts b))
       go (got v us b) i rec = longer i (sequence d α (f v) us b) (rec v us b (omega arith))
       go (stop n j) i rec = tt
 
@@ -56,7 +56,7 @@ module _ (len l : ℕ) (d : Reader) (s : Serves len l d) where
     where
       go : (g : Got (Val m)) → Shorter (length ts) g →
           ((v : Val m) (us : List Lexeme) (b : Book) → length us < l → reads len us (atState (α ++ σ) (feed X σ α (f v) k)) b ≡ follow (sequence d α (f v) us b) (λ v ts b. reads len ts (atState σ (k v)) b)) →
-          follow g (λ v ts b. reads len ts (atState (α ++ σ) (feed X σ α (f v) k)) b) ≡ follow (followedBy g (λ v ts b. sequence d α (f v) ts b)) (λ v ts b. reads len ts (atState σ (k v)) b)
+          follow g (λ v ts b. reads len ts (atState (α ++ σ) (feed X σ α (f v) k)) b) ≡ follow (thenReads g (λ v ts b. sequence d α (f v) ts b)) (λ v ts b. reads len ts (atState σ (k v)) b)
       go (got v us b) i rec = rec v us b (omega arith)
       go (stop n j) i rec = refl
 

@@ -11,3 +11,11 @@ pub mod Outcomes
 pub mod Descents
 pub mod Readers
 pub mod Texts
+pub mod Decode
+pub mod Parts
+pub mod Stars
+pub mod Scopes
+pub mod Counts
+pub mod Limits
+pub mod Heights
+pub mod Regular

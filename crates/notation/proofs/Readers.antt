@@ -11,7 +11,7 @@ use Rattle.notation.specs.Tokens.{Token, sign, AND, OR, Lexeme, at}
 use Rattle.notation.specs.Notation.{part, Mode, joins, Expr, and′, or′}
 use Rattle.notation.specs.working.Ledger.{Book, note, fault}
 use Rattle.notation.specs.working.Table.{Sym, factor, ands, ors, Val, Cont, Found, find, lines, skips}
-use Rattle.notation.specs.working.Descent.{Got, got, stop, Reader, followedBy, sequence, pass, ruling, taken, descend, reader, orReader, andReader, orLoop, andLoop}
+use Rattle.notation.specs.working.Descent.{Got, got, stop, Reader, thenReads, sequence, pass, ruling, taken, descend, reader, orReader, andReader, orLoop, andLoop}
 use Rattle.notation.proofs.Descents.{Shorter, Serves, serves}
 
 -- Readers that agree on fewer than l tokens agree on sequences.
@@ -24,7 +24,7 @@ sequence-agree X l d e short agree (m ∷ α) f ts b h =
     rw (← (agree m ts b h)) (go (d m ts b) (short m ts b h) (λ v us b h. sequence-agree X l d e short agree α (f v) us b h))
   where
     go : (g : Got (Val m)) → Shorter (length ts) g → ((v : Val m) (us : List Lexeme) (b : Book) → length us < l → sequence d α (f v) us b ≡ sequence e α (f v) us b) →
-        followedBy g (λ v ts b. sequence d α (f v) ts b) ≡ followedBy g (λ v ts b. sequence e α (f v) ts b)
+        thenReads g (λ v ts b. sequence d α (f v) ts b) ≡ thenReads g (λ v ts b. sequence e α (f v) ts b)
     go (got v us b) i rec = rec v us b (omega arith)
     go (stop n j) i rec = refl
 
@@ -63,32 +63,32 @@ unfolding reader descend
 reader-byte len n i ts b = refl
 
 -- Joining what was got.
-then-then : {A B C : Type 0} (g : Got A) (h : A → List Lexeme → Book → Got B) (k : B → List Lexeme → Book → Got C) → followedBy (followedBy g h) k ≡ followedBy g (λ a ts b. followedBy (h a ts b) k)
+then-then : {A B C : Type 0} (g : Got A) (h : A → List Lexeme → Book → Got B) (k : B → List Lexeme → Book → Got C) → thenReads (thenReads g h) k ≡ thenReads g (λ a ts b. thenReads (h a ts b) k)
 then-then (got a ts b) h k = refl
 then-then (stop n i) h k = refl
 
-then-ruling : {A B : Type 0} (i : ℕ) (o : Option ℕ) (g : Got A) (k : A → List Lexeme → Book → Got B) → followedBy (ruling i o g) k ≡ ruling i o (followedBy g k)
+then-ruling : {A B : Type 0} (i : ℕ) (o : Option ℕ) (g : Got A) (k : A → List Lexeme → Book → Got B) → thenReads (ruling i o g) k ≡ ruling i o (thenReads g k)
 then-ruling i none g k = refl
 then-ruling i (some n) g k = refl
 
--- The andReader is a factor and followedBy the loop; the orReader an andReader and followedBy the loop.
-pub and-level-is : (len : ℕ) (m : Mode) (d : ℕ) (ts : List Lexeme) (b : Book) → andReader len m d ts b ≡ followedBy (reader len (factor m d) ts b) (λ f ts b. andLoop len m d f ts b)
+-- The andReader is a factor and thenReads the loop; the orReader an andReader and thenReads the loop.
+pub and-level-is : (len : ℕ) (m : Mode) (d : ℕ) (ts : List Lexeme) (b : Book) → andReader len m d ts b ≡ thenReads (reader len (factor m d) ts b) (λ f ts b. andLoop len m d f ts b)
 unfolding sequence
 and-level-is len m d ts b = refl
 
-pub or-level-is : (len : ℕ) (m : Mode) (d : ℕ) (ts : List Lexeme) (b : Book) → orReader len m d ts b ≡ followedBy (andReader len m d ts b) (λ e ts b. orLoop len m d e ts b)
+pub or-level-is : (len : ℕ) (m : Mode) (d : ℕ) (ts : List Lexeme) (b : Book) → orReader len m d ts b ≡ thenReads (andReader len m d ts b) (λ e ts b. orLoop len m d e ts b)
 unfolding sequence
 or-level-is len m d ts b = simp then-then
 
 -- A turn of the andLoop.
 pub and-loop-turn : (len : ℕ) (m : Mode) (d : ℕ) (e : Expr) (i : ℕ) (ts : List Lexeme) (b : Book) →
-    andLoop len m d e (at i (some (sign AND)) ∷ ts) b ≡ ruling i (fault b (part joins (sign AND))) (followedBy (reader len (factor m d) ts (note b (part joins (sign AND)))) (λ f ts b. andLoop len m d (and′ e f) ts b))
+    andLoop len m d e (at i (some (sign AND)) ∷ ts) b ≡ ruling i (fault b (part joins (sign AND))) (thenReads (reader len (factor m d) ts (note b (part joins (sign AND)))) (λ f ts b. andLoop len m d (and′ e f) ts b))
 unfolding sequence find lines skips
 and-loop-turn len m d e i ts b = rw (reader-token len (ands m d)) (simp (then-ruling, then-then))
 
 -- A turn of the orLoop.
 pub or-loop-turn : (len : ℕ) (m : Mode) (d : ℕ) (e : Expr) (i : ℕ) (ts : List Lexeme) (b : Book) →
-    orLoop len m d e (at i (some (sign OR)) ∷ ts) b ≡ ruling i (fault b (part joins (sign OR))) (followedBy (andReader len m d ts (note b (part joins (sign OR)))) (λ f ts b. orLoop len m d (or′ e f) ts b))
+    orLoop len m d e (at i (some (sign OR)) ∷ ts) b ≡ ruling i (fault b (part joins (sign OR))) (thenReads (andReader len m d ts (note b (part joins (sign OR)))) (λ f ts b. orLoop len m d (or′ e f) ts b))
 unfolding sequence find lines skips
 or-loop-turn len m d e i ts b = rw (reader-token len (ors m d)) (simp (then-ruling, then-then))
 

@@ -18,14 +18,14 @@ pub data Got (A : Type 0) : Type 0 where
 abbrev pub Reader : Type 0
 Reader = (m : Sym) → List Lexeme → Book → Got (Val m)
 
-abbrev pub followedBy : {A B : Type 0} → Got A → (A → List Lexeme → Book → Got B) → Got B
-followedBy (got a ts b) f = f a ts b
-followedBy (stop n i) f = stop n i
+abbrev pub thenReads : {A B : Type 0} → Got A → (A → List Lexeme → Book → Got B) → Got B
+thenReads (got a ts b) f = f a ts b
+thenReads (stop n i) f = stop n i
 
 -- One symbol after the other.
 unfoldable pub sequence : {X : Type 0} → Reader → (α : List Sym) → Cont α X → List Lexeme → Book → Got X
 sequence d [] x ts b = got x ts b
-sequence d (m ∷ α) f ts b = followedBy (d m ts b) (λ v ts b. sequence d α (f v) ts b)
+sequence d (m ∷ α) f ts b = thenReads (d m ts b) (λ v ts b. sequence d α (f v) ts b)
 
 -- A symbol that doesn't take the next token: nothing stands for it, or the text is refused.
 abbrev pub pass : {A : Type 0} → Option A → List Lexeme → Book → ℕ → ℕ → Got A
@@ -60,7 +60,7 @@ andReader len m d ts b = sequence (reader len) (factor m d ∷ ands m d ∷ []) 
 
 -- The rest of each, once the expression e is read: what a loop has still to do.
 abbrev pub andLoop : ℕ → Mode → ℕ → Expr → List Lexeme → Book → Got Expr
-andLoop len m d e ts b = followedBy (reader len (ands m d) ts b) (λ a ts b. got (a e) ts b)
+andLoop len m d e ts b = thenReads (reader len (ands m d) ts b) (λ a ts b. got (a e) ts b)
 
 abbrev pub orLoop : ℕ → Mode → ℕ → Expr → List Lexeme → Book → Got Expr
-orLoop len m d e ts b = followedBy (reader len (ors m d) ts b) (λ o ts b. got (o e) ts b)
+orLoop len m d e ts b = thenReads (reader len (ors m d) ts b) (λ o ts b. got (o e) ts b)

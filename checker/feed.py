@@ -1,0 +1,20 @@
+"""How texts are handed to a program that answers one line for each."""
+
+import subprocess
+
+
+def packed(texts):
+    """Each text's length in digits, a newline, its bytes, a newline."""
+    return b"".join(b"%d\n%s\n" % (len(text), text) for text in texts)
+
+
+def answers(program, texts):
+    """The program's lines; an unfinished last line is kept as it stands."""
+    run = subprocess.run([program], input=packed(texts),
+                         stdout=subprocess.PIPE, check=False)
+    lines = run.stdout.decode("latin-1").split("\n")
+    if lines[-1] == "":
+        lines.pop()
+    if run.returncode != 0:
+        lines.append(f"(ended with status {run.returncode})")
+    return lines
