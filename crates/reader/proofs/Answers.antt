@@ -1,0 +1,74 @@
+-- The answers of the small functions that follow a reader or store one code word.
+-- Assumes nothing.
+use mathlib.Core.Path.{_≡_, refl, sym, ap, _∙_, subst}
+use mathlib.Core.List.{List}
+use Prim.Native.Nat.{ℕ, _+_, _≤_, _<_}
+use native.Mathlib.Omega.{arith}
+use lib.ListN.{set}
+use Rattle.reader.specs.declared.cursor.Cursor.{Cursor}
+use Rattle.reader.specs.declared.cursor.Parsed.{Parsed}
+use Rattle.reader.specs.declared.cursor.Parsed.the-variants.{Ok, Refused}
+use Rattle.reader.specs.working.Cursors.{moved, emitted, Past, Expected}
+use Rattle.reader.specs.working.Expressions.{Leaf, AfterNode, AfterClose}
+use Rattle.reader.specs.working.Items.{Marked, Skipped}
+
+module _ (inner : Parsed) (code : ℕ) (b : List ℕ) where
+  pub node-ok : (x r : Cursor) (a : List ℕ) → inner ≡ Ok x → (r ≡ emitted x) × (a ≡ set b (x .emitted) code) → AfterNode code inner b a (Ok r)
+  unfolding AfterNode
+  node-ok x r a e h = subst (λ (i : Parsed). AfterNode code i b a (Ok r)) (sym e) (ap Ok (h .0), h .1)
+
+  pub node-bad : (n i : ℕ) → inner ≡ Refused n i → AfterNode code inner b b (Refused n i)
+  unfolding AfterNode
+  node-bad n i e = subst (λ (x : Parsed). AfterNode code x b b (Refused n i)) (sym e) (refl, refl)
+
+module _ (text : List ℕ) (inner : Parsed) where
+  pub close-ok : (x : Cursor) (r : Parsed) → inner ≡ Ok x → Expected text x 22 r → AfterClose text inner r
+  unfolding AfterClose
+  close-ok x r e h = subst (λ (i : Parsed). AfterClose text i r) (sym e) h
+
+  pub close-bad : (n i : ℕ) → inner ≡ Refused n i → AfterClose text inner (Refused n i)
+  unfolding AfterClose
+  close-bad n i e = subst (λ (x : Parsed). AfterClose text x (Refused n i)) (sym e) refl
+
+-- A cursor past a piece, with one code word more.
+past-emitted : (text : List ℕ) (c d r : Cursor) (items nodes stars : ℕ) → Past text c items nodes stars d → r ≡ emitted d → r ≡ emitted (moved (d .next) c items nodes stars)
+past-emitted text c d r items nodes stars q e = e ∙ ap emitted (q .is)
+
+module _ (text : List ℕ) (c : Cursor) (b : List ℕ) where
+  pub leaf-full : (code stars : ℕ) (a : List ℕ) → 1024 ≤ c .nodes → Leaf text c code stars b a (Refused 7 (c .next .start))
+  unfolding Leaf
+  leaf-full code stars a h = (h, (refl, refl))
+
+  pub leaf-fits : (code stars : ℕ) (d r : Cursor) (a : List ℕ) → c .nodes < 1024 → Past text c (c .items) (c .nodes + 1) stars d → (r ≡ emitted d) × (a ≡ set b (d .emitted) code) → Leaf text c code stars b a (Ok r)
+  unfolding Leaf
+  leaf-fits code stars d r a h q e = (h, (d .next, (q .next, (past-emitted text c d r (c .items) (c .nodes + 1) stars q (e .0), e .1 ∙ ap (λ (z : Cursor). set b (z .emitted) code) (q .is)))))
+
+  pub skip-full : (a : List ℕ) → 256 ≤ c .items → Skipped text c b a (Refused 7 (c .next .start))
+  unfolding Skipped
+  skip-full a h = (h, (refl, refl))
+
+  pub skip-fits : (d r : Cursor) (a : List ℕ) → c .items < 256 → Past text c (c .items + 1) (c .nodes) (c .stars) d → (r ≡ emitted d) × (a ≡ set b (d .emitted) 320) → Skipped text c b a (Ok r)
+  unfolding Skipped
+  skip-fits d r a h q e = (h, (d .next, (q .next, (past-emitted text c d r (c .items + 1) (c .nodes) (c .stars) q (e .0), e .1 ∙ ap (λ (z : Cursor). set b (z .emitted) 320) (q .is)))))
+
+  pub past-room : (items nodes stars : ℕ) (d : Cursor) → Past text c items nodes stars d → c .emitted < 2048 → d .emitted < 2048
+  past-room items nodes stars d q h = subst (λ (z : Cursor). z .emitted < 2048) (sym (q .is)) h
+
+-- A sign that has to follow, and a code word.
+module _ (text : List ℕ) (kind word : ℕ) (read : Parsed) (b : List ℕ) where
+  pub mark-bad : (n i : ℕ) (a : List ℕ) → read ≡ Refused n i → Marked text kind word read b a read
+  unfolding Marked
+  mark-bad n i a e = subst (λ (x : Parsed). Marked text kind word x b a x) (sym e) refl
+
+  module _ (c : Cursor) (e : read ≡ Ok c) (next : Parsed) (h : Expected text c kind next) where
+    pub mark-missing : (n i : ℕ) (a : List ℕ) → next ≡ Refused n i → Marked text kind word read b a next
+    unfolding Marked
+    mark-missing n i a f = subst (λ (x : Parsed). Marked text kind word x b a next) (sym e) (subst (λ (x : Parsed). Marked text kind word (Ok c) b a x) (sym f) (subst (λ (x : Parsed). Expected text c kind x) f h))
+
+    pub mark-ok : (d r : Cursor) (a : List ℕ) → next ≡ Ok d → (r ≡ emitted d) × (a ≡ set b (d .emitted) word) → Marked text kind word read b a (Ok r)
+    unfolding Marked
+    mark-ok d r a f g = subst (λ (x : Parsed). Marked text kind word x b a (Ok r)) (sym e) (d, (subst (λ (x : Parsed). Expected text c kind x) f h, (g .0, g .1)))
+
+    pub mark-room : (d : Cursor) → next ≡ Ok d → c .emitted < 2048 → d .emitted < 2048
+    unfolding Expected
+    mark-room d f k = let q = subst (λ (x : Parsed). Expected text c kind x) f h in past-room text c b (c .items) (c .nodes) (c .stars) d (q .1) k

@@ -1,0 +1,10 @@
+pub mod Books
+pub mod Symbols
+pub mod Done
+pub mod Chains
+pub mod Factors
+pub mod Lookup
+pub mod Spelling
+pub mod Lexing
+pub mod Operands
+pub mod Answers

@@ -1,0 +1,261 @@
+-- Looking a word up among the declared names, byte by byte, finds its place among their words, which says whether it is a name and of which kind.
+-- Assumes nothing.
+use mathlib.Core.Path.{_≡_, refl, sym, ap, _∙_}
+use mathlib.Core.Bool.{Bool, true, false, cond}
+use mathlib.Core.List.{List, [], _∷_, _++_}
+use Prim.Native.Nat.{ℕ, zero, suc, _+_, _-_, _≤_, _<_}
+use native.Mathlib.Nat.{add-zero, zero-add, suc-add, sub-zero}
+use native.Mathlib.Numerals.{add-one}
+use native.Mathlib.Omega.{arith}
+use lib.Dec.{eqb, ltb, leb·suc-suc}
+use lib.ListN.{length, getD, set, length-set}
+use lib.Seq.{slice, slice-cons, slice-empty, length-slice, getD-set-same, getD-set-other}
+use borrow.Author.Tests.{ltb-true, ltb-false, lt-ltb, le-ltb, eq-eqb, ne-eqb}
+use Rattle.notation.specs.Bytes.{sameWord}
+use Rattle.notation.specs.Tokens.{Word}
+use Rattle.notation.specs.Notation.{Kind, sharedName, rowName, commandName}
+use Rattle.notation.specs.Rules.{has}
+use Rattle.notation.specs.Texts.{among, placeOf}
+use Rattle.reader.specs.declared.cursor.Ledger.{Ledger}
+use Rattle.reader.specs.working.Names.{window, wordAt, wordsIn, sharedWords, rowWords, commandWords, kinded, namesKept}
+
+-- ---- windows of the text
+
+pub window-length : (text : List ℕ) (a n : ℕ) → length (window text a n) ≡ n
+unfolding window
+window-length text a zero = refl
+window-length text a (suc n) = ap suc (window-length text (suc a) n)
+
+window-from : (text : List ℕ) (e s n : ℕ) → s + n ≡ e → e ≤ length text → window text s n ≡ slice s e text
+unfolding window
+window-from text e s zero h k = let i : s ≡ e = omega arith in rw i (sym (slice-empty e text))
+window-from text e s (suc n) h k = rw (window-from text e (suc s) n (omega arith) k) (sym (slice-cons s e text 0 (omega arith) k))
+
+pub window-slice : (text : List ℕ) (s e : ℕ) → s ≤ e → e ≤ length text → window text s (e - s) ≡ slice s e text
+window-slice text s e h k = window-from text e s (e - s) (omega arith) k
+
+pub lengths-differ : (v w : Word) → (length v ≡ length w → ⊥) → false ≡ sameWord v w
+unfolding sameWord
+lengths-differ [] [] h = absurd (h refl)
+lengths-differ [] (b ∷ w) h = refl
+lengths-differ (a ∷ v) [] h = refl
+lengths-differ (a ∷ v) (b ∷ w) h = go (eqb a b) (lengths-differ v w (λ e. h (omega arith)))
+  where
+    go : (x : Bool) → false ≡ sameWord v w → false ≡ cond x (sameWord v w) false
+    go true e = e
+    go false e = refl
+
+-- The piece from s to e against the name i, of n bytes from a on.
+module _ (text names : List ℕ) (i s e a n : ℕ) (h : s ≤ e) (k : e ≤ length text) (p : a ≡ getD names i 0) (q : n ≡ getD names (28 + i) 0) where
+  pub other-name : (e - s ≡ n → ⊥) → false ≡ sameWord (slice s e text) (wordAt text names i)
+  unfolding wordAt
+  other-name d = lengths-differ _ _ (λ z. d (sym (length-slice s e text k) ∙ z ∙ window-length text _ _ ∙ sym q))
+
+  pub this-name : e - s ≡ n → sameWord (window text s n) (window text a n) ≡ sameWord (slice s e text) (wordAt text names i)
+  unfolding wordAt
+  this-name g = rw (sym p, sym q, sym g, window-slice text s e h k)
+
+-- Two windows, byte by byte.
+module _ (text : List ℕ) (a b n : ℕ) where
+  -- Whether they are the same from byte j on.
+  abbrev pub sameFrom : ℕ → Bool
+  sameFrom j = sameWord (window text (b + j) (n - j)) (window text (a + j) (n - j))
+
+  pub same-start : sameFrom 0 ≡ sameWord (window text b n) (window text a n)
+  same-start = simp (add-zero, sub-zero)
+
+  module _ (j : ℕ) (h : j < n) where
+    same-turn : sameFrom j ≡ cond (eqb (getD text (b + j) 0) (getD text (a + j) 0)) (sameFrom (j + 1)) false
+    unfolding sameWord window
+    same-turn =
+        let e : n - j ≡ suc (n - (j + 1)) = omega arith in
+        let f : b + (j + 1) ≡ suc (b + j) = omega arith in
+        let g : a + (j + 1) ≡ suc (a + j) = omega arith in
+        rw (e, f, g)
+
+    pub same-no : (getD text (b + j) 0 ≡ getD text (a + j) 0 → ⊥) → false ≡ sameFrom j
+    same-no d = sym (same-turn ∙ rw (ne-eqb (getD text (b + j) 0) (getD text (a + j) 0) d))
+
+    pub same-more : getD text (b + j) 0 ≡ getD text (a + j) 0 → sameFrom (j + 1) ≡ sameFrom j
+    same-more d = sym (same-turn ∙ rw (eq-eqb (getD text (b + j) 0) (getD text (a + j) 0) d))
+
+  pub same-end : (j : ℕ) → n ≤ j → true ≡ sameFrom j
+  unfolding sameWord window
+  same-end j h = let e : n - j ≡ 0 = omega arith in rw e
+
+-- ---- the place of a word among words
+
+or-false : (x : Bool) → cond x true false ≡ x
+or-false true = refl
+or-false false = refl
+
+or-or : (x y z : Bool) → cond x true (cond y true z) ≡ cond (cond x true y) true z
+or-or true y z = refl
+or-or false y z = refl
+
+module _ (w : Word) where
+  pub place-le : (ws : List Word) → placeOf w ws ≤ length ws
+  unfolding placeOf
+  place-le [] = omega arith
+  place-le (v ∷ ws) = go (sameWord w v) (place-le ws)
+    where
+      go : (x : Bool) → placeOf w ws ≤ length ws → cond x 0 (suc (placeOf w ws)) ≤ suc (length ws)
+      go true h = omega arith
+      go false h = omega arith
+
+  pub place-among : (ws : List Word) → among w ws ≡ ltb (placeOf w ws) (length ws)
+  unfolding placeOf among
+  place-among [] = refl
+  place-among (v ∷ ws) = go (sameWord w v) (place-among ws)
+    where
+      go : (x : Bool) → among w ws ≡ ltb (placeOf w ws) (length ws) → cond x true (among w ws) ≡ ltb (cond x 0 (suc (placeOf w ws))) (suc (length ws))
+      go true e = sym (lt-ltb 0 (suc (length ws)) (omega arith))
+      go false e = e ∙ sym (leb·suc-suc (suc (placeOf w ws)) (length ws))
+
+  pub among-append : (ws vs : List Word) → among w (ws ++ vs) ≡ cond (among w ws) true (among w vs)
+  unfolding among
+  among-append [] vs = refl
+  among-append (v ∷ ws) vs = rw (among-append ws vs) (or-or (sameWord w v) (among w ws) (among w vs))
+
+  pub place-front : (ws vs : List Word) → among w ws ≡ true → placeOf w (ws ++ vs) ≡ placeOf w ws
+  unfolding placeOf among
+  place-front [] vs h = cc
+  place-front (v ∷ ws) vs h = go (sameWord w v) h (place-front ws vs)
+    where
+      go : (x : Bool) → cond x true (among w ws) ≡ true → (among w ws ≡ true → placeOf w (ws ++ vs) ≡ placeOf w ws) → cond x 0 (suc (placeOf w (ws ++ vs))) ≡ cond x 0 (suc (placeOf w ws))
+      go true h f = refl
+      go false h f = ap suc (f h)
+
+  pub place-append : (ws vs : List Word) → among w ws ≡ false → placeOf w (ws ++ vs) ≡ length ws + placeOf w vs
+  unfolding placeOf among
+  place-append [] vs h = sym (zero-add (placeOf w vs))
+  place-append (v ∷ ws) vs h = go (sameWord w v) h (place-append ws vs)
+    where
+      go : (x : Bool) → cond x true (among w ws) ≡ false → (among w ws ≡ false → placeOf w (ws ++ vs) ≡ length ws + placeOf w vs) → cond x 0 (suc (placeOf w (ws ++ vs))) ≡ suc (length ws) + placeOf w vs
+      go true h f = cc
+      go false h f = omega (arith, f h)
+
+-- ---- the words of the names
+
+module _ (text names : List ℕ) where
+  pub words-length : (i n : ℕ) → length (wordsIn text names i n) ≡ n
+  unfolding wordsIn
+  words-length i zero = refl
+  words-length i (suc n) = ap suc (words-length (suc i) n)
+
+  pub words-append : (i m n : ℕ) → wordsIn text names i (m + n) ≡ wordsIn text names i m ++ wordsIn text names (i + m) n
+  unfolding wordsIn
+  words-append i zero n = rw (zero-add, add-zero)
+  words-append i (suc m) n =
+      let e : i + suc m ≡ suc i + m = omega arith in
+      rw (suc-add, e, words-append (suc i) m n)
+
+below-shift : (i p to : ℕ) → ltb p (to - i) ≡ ltb (i + p) to
+below-shift i p to = go (ltb p (to - i)) refl
+  where
+    go : (x : Bool) → ltb p (to - i) ≡ x → ltb p (to - i) ≡ ltb (i + p) to
+    go true e = e ∙ sym (lt-ltb (i + p) to (omega (arith, ltb-true p (to - i) e)))
+    go false e = e ∙ sym (le-ltb (i + p) to (omega (arith, ltb-false p (to - i) e)))
+
+-- A word looked up among the names up to `to`.
+module _ (text names : List ℕ) (w : Word) (to : ℕ) where
+  -- The first name from i on that it is.
+  abbrev pub foundFrom : ℕ → ℕ
+  foundFrom i = i + placeOf w (wordsIn text names i (to - i))
+
+  module _ (i : ℕ) (h : i < to) where
+    found-turn : placeOf w (wordsIn text names i (to - i)) ≡ cond (sameWord w (wordAt text names i)) 0 (suc (placeOf w (wordsIn text names (i + 1) (to - (i + 1)))))
+    unfolding placeOf wordsIn
+    found-turn =
+        let e : to - i ≡ suc (to - (i + 1)) = omega arith in
+        rw (e, add-one i)
+
+    pub found-here : sameWord w (wordAt text names i) ≡ true → i ≡ foundFrom i
+    found-here t = rw (found-turn, t) (omega arith)
+
+    pub found-later : sameWord w (wordAt text names i) ≡ false → foundFrom (i + 1) ≡ foundFrom i
+    found-later t = rw (found-turn, t) (omega arith)
+
+  pub found-none : (i : ℕ) → to ≤ i → i ≡ foundFrom i
+  unfolding placeOf wordsIn
+  found-none i h = let e : to - i ≡ 0 = omega arith in rw e (omega arith)
+
+  -- It is one of the names from i on.
+  pub found-among : (i : ℕ) → among w (wordsIn text names i (to - i)) ≡ ltb (foundFrom i) to
+  found-among i = place-among w (wordsIn text names i (to - i)) ∙ rw (words-length text names i (to - i)) (below-shift i _ to)
+
+-- ---- the names with their kinds
+
+module _ (f : Kind → Bool) (w : Word) where
+  pub has-append : (xs ys : List (Word × Kind)) → has (xs ++ ys) f w ≡ cond (has xs f w) true (has ys f w)
+  unfolding has
+  has-append [] ys = refl
+  has-append (x ∷ xs) ys = rw (has-append xs ys) (or-or (cond (f (x .1)) (sameWord w (x .0)) false) (has xs f w) (has ys f w))
+
+  pub has-kinded : (k : Kind) (ws : List Word) → has (kinded k ws) f w ≡ cond (f k) (among w ws) false
+  unfolding has among
+  has-kinded k [] = go (f k)
+    where
+      go : (x : Bool) → false ≡ cond x false false
+      go true = refl
+      go false = refl
+  has-kinded k (v ∷ ws) = rw (has-kinded k ws) (go (f k))
+    where
+      go : (x : Bool) → cond (cond x (sameWord w v) false) true (cond x (among w ws) false) ≡ cond x (cond (sameWord w v) true (among w ws)) false
+      go true = refl
+      go false = refl
+
+module _ (text names : List ℕ) (l : Ledger) (f : Kind → Bool) (w : Word) where
+  has-kept : (x y z : Bool) → f sharedName ≡ x → f rowName ≡ y → f commandName ≡ z → has (namesKept text names l) f w ≡
+      cond (cond x (among w (sharedWords text names l)) false) true
+      (cond (cond y (among w (rowWords text names l)) false) true (cond z (among w (commandWords text names l)) false))
+  unfolding namesKept
+  has-kept x y z p q r = simp (has-append, has-kinded, p, q, r)
+
+  pub shared-name : f sharedName ≡ true → f rowName ≡ false → f commandName ≡ false → has (namesKept text names l) f w ≡ among w (sharedWords text names l)
+  shared-name p q r = has-kept true false false p q r ∙ or-false _
+
+  pub row-name : f sharedName ≡ false → f rowName ≡ true → f commandName ≡ false → has (namesKept text names l) f w ≡ among w (rowWords text names l)
+  row-name p q r = has-kept false true false p q r ∙ or-false _
+
+  pub table-name : f sharedName ≡ true → f rowName ≡ true → f commandName ≡ false → has (namesKept text names l) f w ≡ among w (wordsIn text names 0 (l .shared + l .row))
+  table-name p q r = has-kept true true false p q r ∙ simp (words-append, among-append, zero-add, or-false)
+
+pub any-name : (text names : List ℕ) (l : Ledger) (w : Word) → has (namesKept text names l) (λ s. true) w ≡ among w (wordsIn text names 0 (l .shared + l .row + l .commands))
+any-name text names l w = has-kept text names l (λ s. true) w true true true refl refl refl ∙ simp (words-append, among-append, zero-add, or-or)
+
+-- ---- one name more
+
+-- The names, and n bytes from s on as the name j.
+abbrev pub withName : List ℕ → ℕ → ℕ → ℕ → List ℕ
+withName names j s n = set (set names j s) (28 + j) n
+
+pub with-length : (names : List ℕ) (j s n : ℕ) → length (withName names j s n) ≡ length names
+with-length names j s n = simp length-set
+
+module _ (text names : List ℕ) (j s n : ℕ) (h : j < 28) where
+  entry-kept : (k : ℕ) → (k ≡ j → ⊥) → (k ≡ 28 + j → ⊥) → getD (withName names j s n) k 0 ≡ getD names k 0
+  entry-kept k a b = getD-set-other (set names j s) (28 + j) k n 0 b ∙ getD-set-other names j k s 0 a
+
+  word-kept : (k : ℕ) → k < j → wordAt text (withName names j s n) k ≡ wordAt text names k
+  unfolding wordAt
+  word-kept k u =
+      rw (entry-kept k (λ z. omega arith) (λ z. omega arith), entry-kept (28 + k) (λ z. omega arith) (λ z. omega arith))
+
+  pub words-kept : (i m : ℕ) → i + m ≤ j → wordsIn text (withName names j s n) i m ≡ wordsIn text names i m
+  unfolding wordsIn
+  words-kept i zero k = refl
+  words-kept i (suc m) k = rw (word-kept i (omega arith), words-kept (suc i) m (omega arith))
+
+  word-new : length names ≡ 56 → wordAt text (withName names j s n) j ≡ window text s n
+  unfolding wordAt
+  word-new e =
+      rw (
+        getD-set-other (set names j s) (28 + j) j n 0 (λ z. omega arith),
+        getD-set-same names j s 0 (omega arith),
+        getD-set-same (set names j s) (28 + j) n 0 (omega (arith, length-set names j s)),
+      )
+
+  pub words-declared : (i m : ℕ) → i + m ≡ j → length names ≡ 56 → wordsIn text (withName names j s n) i (m + 1) ≡ wordsIn text names i m ++ (window text s n ∷ [])
+  unfolding wordsIn
+  words-declared i m k e = words-append text (withName names j s n) i m 1 ∙ rw (words-kept i m (omega arith), k, word-new e)

@@ -1,0 +1,20 @@
+-- `expect` meets its contract: it refuses at another kind, and is past the piece otherwise.
+-- Assumes nothing.
+use borrow.Author.Needs.{needs}
+use Rattle.reader.specs.working.Cursors.{Expected}
+use Rattle.reader.proofs.cursor.expect.Statement.{statement}
+use Rattle.reader.proofs.cursor.expect.Tie as tie
+
+returns : tie.Need-returns
+unfolding Expected
+returns c = search needs
+
+past-requires : tie.Need-past-requires
+past-requires c κs = search needs
+
+returns-2 : tie.Need-returns-2
+unfolding Expected
+returns-2 c = search needs
+
+pub expect-spec : {M : Type 1} → statement M
+expect-spec = tie.close (tie.spec returns past-requires returns-2)

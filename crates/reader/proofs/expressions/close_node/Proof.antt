@@ -1,0 +1,27 @@
+-- `close_node` meets its contract: it stores the code word after an operand, and passes a refusal on.
+-- Assumes nothing.
+use mathlib.Core.Path.{subst}
+use Rattle.reader.specs.working.Expressions.{roomed}
+use Rattle.reader.proofs.Answers.{node-ok, node-bad}
+use borrow.Author.Needs.{needs}
+use Rattle.reader.proofs.expressions.close_node.Statement.{statement}
+use Rattle.reader.proofs.expressions.close_node.Tie as tie
+
+enum-known-inner : tie.Need-enum-known-inner
+enum-known-inner c = search needs
+
+emit-requires : tie.Need-emit-requires
+emit-requires c κs = subst roomed (c .before .before .inner .given .1) (c .before .before .before .before .pre)
+
+enum-known-inner-2 : tie.Need-enum-known-inner-2
+enum-known-inner-2 c = search needs
+
+returns : tie.Need-returns
+returns c = node-ok _ _ _ _ _ _ (c .before .before .before .inner .given .1) (c .emit .ensures)
+
+returns-2 : tie.Need-returns-2
+returns-2 c = node-bad _ _ _ _ _ (c .before .inner2 .given .1)
+
+pub close-node-spec : {M : Type 1} → statement M
+close-node-spec =
+    tie.close (tie.spec enum-known-inner emit-requires enum-known-inner-2 returns returns-2)

@@ -1,0 +1,68 @@
+-- At the first place that holds no blank stands a word or a mark, and its piece is the next.
+-- Assumes nothing.
+use mathlib.Core.Path.{sym, _∙_}
+use borrow.Author.Needs.{needs}
+use Rattle.reader.proofs.Lexing.{piece-end, Held, piece-mark, run-grows, piece-word}
+use Rattle.reader.proofs.pieces.piece_at.Statement.{statement}
+use Rattle.reader.proofs.pieces.piece_at.Tie as tie
+
+held : (c : tie.Else1) → let a = c .before .before .before .args in Held (a .text .now) (a .at) (c .before .skip-blanks .result)
+held c = record { same = c .before .skip-blanks .ensures .0; within = c .if1 .left; held = c .before .skip-blanks .ensures .1 (c .if1 .left) }
+
+skip-blanks-requires : tie.Need-skip-blanks-requires
+skip-blanks-requires c κs = search needs
+
+token-requires : tie.Need-token-requires
+token-requires c κs = search needs
+
+returns : tie.Need-returns
+returns c = piece-end (c .before .before .skip-blanks .ensures .0) (c .before .if1 .taken) (c .token .ensures)
+
+shared-slice-read-b : tie.Need-shared-slice-read-b
+shared-slice-read-b c = search needs
+
+is-word-requires : tie.Need-is-word-requires
+is-word-requires c κs = search needs
+
+word-end-requires : tie.Need-word-end-requires
+word-end-requires c κs = search needs
+
+word-piece-requires : tie.Need-word-piece-requires
+word-piece-requires c κs =
+    (run-grows (held (c .before .before .before .before)) (sym (c .before .before .is-word .ensures) ∙ c .before .if2 .taken) (c .word-end .ensures .0), c .word-end .ensures .1)
+
+returns-2 : tie.Need-returns-2
+returns-2 c =
+    piece-word (held (c .before .before .before .before .before)) (sym (c .before .before .before .is-word .ensures) ∙ c .before .before .if2 .taken)
+    (c .before .word-end .ensures .0) (c .before .word-end .ensures .1) (c .word-piece .ensures)
+
+add-byte-at : tie.Need-add-byte-at
+add-byte-at c = search needs
+
+byte-at-requires : tie.Need-byte-at-requires
+byte-at-requires c κs = search needs
+
+mark-piece-requires : tie.Need-mark-piece-requires
+mark-piece-requires c κs = search needs
+
+returns-3 : tie.Need-returns-3
+returns-3 c =
+    piece-mark (held (c .before .before .before .before .before)) (sym (c .before .before .before .is-word .ensures) ∙ c .before .before .if2 .left)
+    (c .before .byte-at .ensures) (c .mark-piece .ensures)
+
+pub piece-at-spec : {M : Type 1} → statement M
+piece-at-spec =
+    tie.close
+    (tie.spec
+    skip-blanks-requires
+    token-requires
+    returns
+    shared-slice-read-b
+    is-word-requires
+    word-end-requires
+    word-piece-requires
+    returns-2
+    add-byte-at
+    byte-at-requires
+    mark-piece-requires
+    returns-3)

@@ -1,0 +1,56 @@
+-- The invariant: the word's number among all the reserved words is its number among those from k on.
+-- Assumes nothing.
+use mathlib.Core.Path.{_≡_, refl, sym, _∙_}
+use Prim.Native.Nat.{_-_, _≤_}
+use native.Mathlib.Omega.{arith}
+use lib.ListN.{drop}
+use lib.Seq.{slice}
+use Rattle.notation.specs.Tokens.{reserved, wordIn}
+use Rattle.reader.proofs.Spelling.{look-hit, look-on, look-none}
+use Rattle.reader.proofs.words.reserved_at.Statement.{statement}
+use Rattle.reader.proofs.words.reserved_at.Tie as tie
+
+abbrev Inv-loop : tie.InvT-loop
+Inv-loop text s e k₀ k = (k ≤ 15) × (wordIn (slice s e text) (drop k reserved) k ≡ wordIn (slice s e text) reserved 0)
+
+abbrev μ-loop : tie.MeasureT-loop
+μ-loop text s e k₀ k = 15 - k
+
+loop-holds : tie.Need-loop-holds Inv-loop μ-loop
+loop-holds c = (omega arith, refl)
+
+matches-requires : tie.Need-matches-requires Inv-loop μ-loop
+matches-requires c κs = (c .before .before .before .pre .0, (c .before .before .before .pre .1, c .loop-test .taken))
+
+cast-result : tie.Need-cast-result Inv-loop μ-loop
+cast-result c = omega arith
+
+returns : tie.Need-returns Inv-loop μ-loop
+returns c = look-hit _ _ (c .before .before .before .loop .inv .1) (c .before .before .loop-test .taken) (sym (c .before .matches .ensures) ∙ c .if1 .taken)
+
+add-k : tie.Need-add-k Inv-loop μ-loop
+add-k c = omega arith
+
+loop-less : tie.Need-loop-less Inv-loop μ-loop
+loop-less c = omega arith
+
+loop-again : tie.Need-loop-again Inv-loop μ-loop
+loop-again c = (omega arith, look-on _ _ (c .before .before .before .loop .inv .1) (c .before .before .loop-test .taken) (sym (c .before .matches .ensures) ∙ c .if1 .left))
+
+returns-2 : tie.Need-returns-2 Inv-loop μ-loop
+returns-2 c = look-none _ _ (c .before .loop .inv .1) (c .loop-test .left)
+
+pub reserved-at-spec : {M : Type 1} → statement M
+reserved-at-spec =
+    tie.close
+    (tie.spec
+    Inv-loop
+    μ-loop
+    loop-holds
+    matches-requires
+    cast-result
+    returns
+    add-k
+    loop-less
+    loop-again
+    returns-2)

@@ -1,0 +1,38 @@
+-- The declared names, as the code keeps them: name i begins at entry i of an array, and entry 28 + i is its length.
+-- Assumes nothing.
+use mathlib.Core.List.{List, [], _∷_, _++_, map}
+use Prim.Native.Nat.{ℕ, zero, suc, _+_}
+use lib.ListN.{getD}
+use Rattle.notation.specs.Tokens.{Word}
+use Rattle.notation.specs.Notation.{Kind, sharedName, rowName, commandName}
+use Rattle.reader.specs.declared.cursor.Ledger.{Ledger}
+
+-- The n bytes from place a on.
+unfoldable pub window : List ℕ → ℕ → ℕ → Word
+window text a zero = []
+window text a (suc n) = getD text a 0 ∷ window text (suc a) n
+
+-- The word of name i, and those of the n names from i on.
+unfoldable pub wordAt : List ℕ → List ℕ → ℕ → Word
+wordAt text names i = window text (getD names i 0) (getD names (28 + i) 0)
+
+unfoldable pub wordsIn : List ℕ → List ℕ → ℕ → ℕ → List Word
+wordsIn text names i zero = []
+wordsIn text names i (suc n) = wordAt text names i ∷ wordsIn text names (suc i) n
+
+abbrev pub sharedWords : List ℕ → List ℕ → Ledger → List Word
+sharedWords text names l = wordsIn text names 0 (l .shared)
+
+abbrev pub rowWords : List ℕ → List ℕ → Ledger → List Word
+rowWords text names l = wordsIn text names (l .shared) (l .row)
+
+abbrev pub commandWords : List ℕ → List ℕ → Ledger → List Word
+commandWords text names l = wordsIn text names (l .shared + l .row) (l .commands)
+
+abbrev pub kinded : Kind → List Word → List (Word × Kind)
+kinded k ws = map (λ w. (w, k)) ws
+
+-- The names with their kinds, in the order of their declaration.
+unfoldable pub namesKept : List ℕ → List ℕ → Ledger → List (Word × Kind)
+namesKept text names l =
+    kinded sharedName (sharedWords text names l) ++ (kinded rowName (rowWords text names l) ++ kinded commandName (commandWords text names l))

@@ -1,0 +1,66 @@
+-- Pieces of a text, as the code keeps them, and what they stand for among the text's lexemes.
+-- Assumes nothing.
+use mathlib.Core.Path.{_≡_}
+use mathlib.Core.Bool.{Bool, true, false, cond}
+use mathlib.Core.List.{List, [], _∷_}
+use mathlib.Core.Option.{Option, none, some}
+use Prim.Native.Nat.{ℕ, _+_, _≤_, _<_}
+use lib.Dec.{eqb}
+use lib.ListN.{length}
+use lib.Seq.{slice}
+use Rattle.notation.specs.Tokens.{Token, sign, name, Name, Lexeme, at, wordToken}
+use Rattle.notation.specs.working.Lexing.{tokensFrom}
+use Rattle.reader.specs.declared.pieces.Piece.{Piece}
+
+-- A number that was found, or 15.
+abbrev pub numberOr : Option ℕ → ℕ
+numberOr none = 15
+numberOr (some k) = k
+
+abbrev pub pieceOf : ℕ → ℕ → ℕ → ℕ → Piece
+pieceOf k s e f = record { kind = k; start = s; end = e; fault = f }
+
+-- The name that a piece is.
+abbrev pub nameIn : List ℕ → Piece → Name
+nameIn text t = record { place = t .start; word = slice (t .start) (t .end) text }
+
+-- The token that a piece is: 25 is the kind of what is no token, 24 that of names.
+unfoldable pub tokenOf : List ℕ → Piece → Option Token
+tokenOf text t = cond (eqb (t .kind) 25) none (some (cond (eqb (t .kind) 24) (name (nameIn text t)) (sign (t .kind))))
+
+-- The lexemes that begin with the piece: none if it is the end of the text, whose kind is 26.
+unfoldable pub listed : List ℕ → Piece → List Lexeme
+listed text t = cond (eqb (t .kind) 26) [] (at (t .start) (tokenOf text t) ∷ tokensFrom text (t .end))
+
+-- What holds of every piece of a text.
+pub record Fresh (text : List ℕ) (t : Piece) : Type 0 where
+  pub fault : t .fault ≡ cond (eqb (t .kind) 25) 2 3
+  pub last : t .kind ≡ 26 → t .start ≡ length text
+  pub ordered : t .start ≤ t .end
+  pub inside : t .end ≤ length text
+  pub short : t .kind ≡ 24 → t .end ≤ t .start + 16
+
+-- The piece is the next one from place i on.
+pub record Tokened (text : List ℕ) (i : ℕ) (t : Piece) : Type 0 where
+  pub tokens : tokensFrom text i ≡ listed text t
+  pub fresh : Fresh text t
+
+-- The piece is the word from s to e.
+pub record Worded (text : List ℕ) (s e : ℕ) (r : Piece) : Type 0 where
+  pub start : r .start ≡ s
+  pub ends : r .end ≡ e
+  pub token : tokenOf text r ≡ wordToken s (slice s e text)
+  pub fault : r .fault ≡ cond (eqb (r .kind) 25) 2 3
+  pub kind : r .kind < 26
+  pub short : r .kind ≡ 24 → e ≤ s + 16
+
+unfoldable pub markPiece : ℕ → ℕ → ℕ → Piece
+markPiece b next s =
+    cond (eqb b 46) (pieceOf 18 s (s + 1) 3)
+    (cond (eqb b 59) (pieceOf 19 s (s + 1) 3)
+    (cond (eqb b 40) (pieceOf 21 s (s + 1) 3)
+    (cond (eqb b 41) (pieceOf 22 s (s + 1) 3)
+    (cond (eqb b 42) (pieceOf 17 s (s + 1) 3)
+    (cond (eqb b 61) (pieceOf 23 s (s + 1) 3)
+    (cond (eqb b 58) (cond (eqb next 61) (pieceOf 20 s (s + 2) 3) (pieceOf 23 s (s + 1) 3))
+    (pieceOf 25 s (s + 1) 2)))))))

@@ -1,0 +1,53 @@
+// The bytes that a text may have.
+ghost use mathlib.Core.Path.{_≡_};
+ghost use lib.ListN.{getD};
+ghost use Rattle.notation.specs.Bytes.{blankByte, letter, wordByte};
+
+// A space or a newline.
+pub fn is_blank(b: u8) -> bool
+    ensures { λ r. ⌜ r ≡ blankByte b ⌝ }
+{
+    b == b' ' || b == b'\n'
+}
+
+pub fn is_letter(b: u8) -> bool
+    ensures { λ r. ⌜ r ≡ letter b ⌝ }
+{
+    if b < b'A' {
+        return false;
+    }
+    if b <= b'Z' {
+        return true;
+    }
+    if b < b'a' {
+        return false;
+    }
+    b <= b'z'
+}
+
+// A letter, a digit or an underscore.
+pub fn is_word(b: u8) -> bool
+    ensures { λ r. ⌜ r ≡ wordByte b ⌝ }
+{
+    let named = is_letter(b);
+    if named {
+        return true;
+    }
+    if b == b'_' {
+        return true;
+    }
+    if b < b'0' {
+        return false;
+    }
+    b <= b'9'
+}
+
+// The byte at i, or 0 past the end.
+pub fn byte_at(text: &[u8], i: usize) -> u8
+    ensures { λ r. ⌜ r ≡ getD (now (text .entry)) i 0 ⌝ }
+{
+    if i < text.len() {
+        return text[i];
+    }
+    0
+}

@@ -1,0 +1,7 @@
+// The reader of model texts.
+mod bytes;
+mod cursor;
+mod expressions;
+mod names;
+mod pieces;
+mod words;

@@ -1,0 +1,204 @@
+// Pieces of a text: the next token, with its place, or what is no token.
+ghost use mathlib.Core.Path.{_≡_};
+ghost use mathlib.Core.Bool.{false};
+ghost use Prim.Native.Nat.{_+_, _≤_, _<_, _^_};
+ghost use lib.ListN.{length, getD, drop};
+ghost use Rattle.notation.specs.Bytes.{blankByte};
+ghost use Rattle.notation.specs.working.Lexing.{tokensFrom, span};
+ghost use Rattle.reader.specs.working.Pieces.{pieceOf, Worded, markPiece, Tokened};
+use crate::bytes::byte_at;
+use crate::bytes::is_blank;
+use crate::bytes::is_letter;
+use crate::bytes::is_word;
+use crate::words::reserved_at;
+
+// The kinds: the signs by their numbers, then a name, a byte or word that is refused, and the end of the text.
+pub const SHARED: u8 = 0;
+
+pub const ROW: u8 = 1;
+
+pub const START: u8 = 2;
+
+pub const KEEP: u8 = 3;
+
+pub const EACH: u8 = 4;
+
+pub const COMMAND: u8 = 5;
+
+pub const IF: u8 = 6;
+
+pub const DO: u8 = 7;
+
+pub const ELSE: u8 = 8;
+
+pub const FOR: u8 = 9;
+
+pub const END: u8 = 10;
+
+pub const SKIP: u8 = 11;
+
+pub const AND: u8 = 12;
+
+pub const OR: u8 = 13;
+
+pub const NOT: u8 = 14;
+
+pub const ZERO: u8 = 15;
+
+pub const ONE: u8 = 16;
+
+pub const STAR: u8 = 17;
+
+pub const DOT: u8 = 18;
+
+pub const SEMI: u8 = 19;
+
+pub const ASSIGN: u8 = 20;
+
+pub const OPEN: u8 = 21;
+
+pub const CLOSE: u8 = 22;
+
+pub const OTHER: u8 = 23;
+
+pub const NAME: u8 = 24;
+
+pub const BAD: u8 = 25;
+
+pub const FINISH: u8 = 26;
+
+// From start to end, with the number that refuses it where nothing of its kind may stand.
+pub struct Piece {
+    pub kind: u8,
+    pub start: usize,
+    pub end: usize,
+    pub fault: u8,
+}
+
+// A piece that is a token, or the end.
+pub fn token(kind: u8, start: usize, end: usize) -> Piece
+    ensures { λ r. ⌜ r ≡ pieceOf kind start end 3 ⌝ }
+{
+    Piece {
+        kind: kind,
+        start: start,
+        end: end,
+        fault: 3,
+    }
+}
+
+// A byte that is not allowed, or a word that is too long.
+pub fn refused(start: usize, end: usize) -> Piece
+    ensures { λ r. ⌜ r ≡ pieceOf 25 start end 2 ⌝ }
+{
+    Piece {
+        kind: BAD,
+        start: start,
+        end: end,
+        fault: 2,
+    }
+}
+
+// The first place from `at` on that holds no blank.
+pub fn skip_blanks(text: &[u8], at: usize) -> usize
+    ensures same { λ r. ⌜ tokensFrom (now (text .entry)) at ≡ tokensFrom (now (text .entry)) r ⌝ }
+    ensures held { λ r. ⌜ (r < length (now (text .entry)) → blankByte (getD (now (text .entry)) r 0) ≡ false) ⌝ }
+{
+    let mut i = at;
+    while i < text.len() {
+        let b = text[i];
+        if !is_blank(b) {
+            return i;
+        }
+        i += 1;
+    }
+    i
+}
+
+// The end of the word that begins at `from`.
+pub fn word_end(text: &[u8], from: usize) -> usize
+    requires { ⌜ from ≤ length (now text) ⌝ }
+    ensures { λ r. ⌜ (r ≡ from + span (drop from (now (text .entry)))) × (r ≤ length (now (text .entry))) ⌝ }
+{
+    let mut i = from;
+    while i < text.len() {
+        let ok = is_word(text[i]);
+        if !ok {
+            return i;
+        }
+        i += 1;
+    }
+    i
+}
+
+// The piece that the word from s to e is.
+pub fn word_piece(text: &[u8], s: usize, e: usize) -> Piece
+    requires { ⌜ (s < e) × (e ≤ length (now text)) ⌝ }
+    ensures { λ r. ⌜ Worded (now (text .entry)) s e r ⌝ }
+{
+    let n = e - s;
+    if 16 < n {
+        return refused(s, e);
+    }
+    let k = reserved_at(text, s, e);
+    if k < 15 {
+        return token(k, s, e);
+    }
+    let b = text[s];
+    let named = is_letter(b);
+    if named {
+        return token(NAME, s, e);
+    }
+    if n != 1 {
+        return token(OTHER, s, e);
+    }
+    if b == b'0' {
+        return token(ZERO, s, e);
+    }
+    if b == b'1' {
+        return token(ONE, s, e);
+    }
+    token(OTHER, s, e)
+}
+
+// The piece that the mark b is at s, with the byte after it, or 0.
+pub fn mark_piece(b: u8, next: u8, s: usize) -> Piece
+    requires { ⌜ s + 2 < 2 ^ 64 ⌝ }
+    ensures { λ r. ⌜ r ≡ markPiece b next s ⌝ }
+{
+    let e = s + 1;
+    match b {
+        b'.' => token(DOT, s, e),
+        b';' => token(SEMI, s, e),
+        b'(' => token(OPEN, s, e),
+        b')' => token(CLOSE, s, e),
+        b'*' => token(STAR, s, e),
+        b'=' => token(OTHER, s, e),
+        b':' => {
+            if next == b'=' {
+                return token(ASSIGN, s, s + 2);
+            }
+            token(OTHER, s, e)
+        }
+        _ => refused(s, e),
+    }
+}
+
+// The next piece from `at` on.
+pub fn piece_at(text: &[u8], at: usize) -> Piece
+    ensures { λ r. ⌜ Tokened (now (text .entry)) at r ⌝ }
+{
+    let s = skip_blanks(text, at);
+    let n = text.len();
+    if n <= s {
+        return token(FINISH, n, n);
+    }
+    let b = text[s];
+    let word = is_word(b);
+    if word {
+        let e = word_end(text, s);
+        return word_piece(text, s, e);
+    }
+    let next = byte_at(text, s + 1);
+    mark_piece(b, next, s)
+}

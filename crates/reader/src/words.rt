@@ -1,0 +1,68 @@
+// The reserved words: a table of their letters and lengths, and the look-up in it.
+ghost use mathlib.Core.Path.{_≡_};
+ghost use Prim.Native.Nat.{_≤_, _<_};
+ghost use mathlib.Core.List.{[]};
+ghost use lib.ListN.{length, getD};
+ghost use lib.Seq.{slice};
+ghost use Rattle.notation.specs.Bytes.{sameWord};
+ghost use Rattle.notation.specs.Tokens.{reserved, wordIn};
+ghost use Rattle.reader.specs.working.Pieces.{numberOr};
+
+// Seven bytes to a word, in the order of the words' numbers.
+const LETTERS: [u8; 105] =
+    *b"shared\0row\0\0\0\0start\0\0keep\0\0\0each\0\0\0commandif\0\0\0\0\0do\0\0\0\0\0else\0\0\0for\0\0\0\0end\0\0\0\0skip\0\0\0and\0\0\0\0or\0\0\0\0\0not\0\0\0\0";
+
+const LENGTHS: [u8; 15] = [6, 3, 5, 4, 4, 7, 2, 2, 4, 3, 3, 4, 3, 2, 3];
+
+// Letter j of reserved word k.
+pub fn letter_of(k: usize, j: usize) -> u8
+    requires { ⌜ (k < 15) × (j < 7) ⌝ }
+    ensures { λ r. ⌜ r ≡ getD (getD reserved k []) j 0 ⌝ }
+{
+    LETTERS[7 * k + j]
+}
+
+// The length of reserved word k.
+pub fn length_of(k: usize) -> u8
+    requires { ⌜ k < 15 ⌝ }
+    ensures { λ r. ⌜ (r ≡ length (getD reserved k [])) × (r ≤ 7) ⌝ }
+{
+    LENGTHS[k]
+}
+
+// Whether the word from s to e is reserved word k.
+pub fn matches(text: &[u8], s: usize, e: usize, k: usize) -> bool
+    requires { ⌜ (s ≤ e) × ((e ≤ length (now text)) × (k < 15)) ⌝ }
+    ensures { λ r. ⌜ r ≡ sameWord (slice s e (now (text .entry))) (getD reserved k []) ⌝ }
+{
+    let n = length_of(k) as usize;
+    if e - s != n {
+        return false;
+    }
+    let mut j = 0;
+    while j < n {
+        let a = text[s + j];
+        let b = letter_of(k, j);
+        if a != b {
+            return false;
+        }
+        j += 1;
+    }
+    true
+}
+
+// The number of the reserved word from s to e; 15 for none.
+pub fn reserved_at(text: &[u8], s: usize, e: usize) -> u8
+    requires { ⌜ (s ≤ e) × (e ≤ length (now text)) ⌝ }
+    ensures { λ r. ⌜ r ≡ numberOr (wordIn (slice s e (now (text .entry))) reserved 0) ⌝ }
+{
+    let mut k: usize = 0;
+    while k < 15 {
+        let hit = matches(text, s, e, k);
+        if hit {
+            return k as u8;
+        }
+        k += 1;
+    }
+    15
+}
