@@ -63,11 +63,11 @@ unfolding reader descend
 reader-byte len n i ts b = refl
 
 -- Joining what was got.
-then-then : {A B C : Type 0} (g : Got A) (h : A → List Lexeme → Book → Got B) (k : B → List Lexeme → Book → Got C) → thenReads (thenReads g h) k ≡ thenReads g (λ a ts b. thenReads (h a ts b) k)
+pub then-then : {A B C : Type 0} (g : Got A) (h : A → List Lexeme → Book → Got B) (k : B → List Lexeme → Book → Got C) → thenReads (thenReads g h) k ≡ thenReads g (λ a ts b. thenReads (h a ts b) k)
 then-then (got a ts b) h k = refl
 then-then (stop n i) h k = refl
 
-then-ruling : {A B : Type 0} (i : ℕ) (o : Option ℕ) (g : Got A) (k : A → List Lexeme → Book → Got B) → thenReads (ruling i o g) k ≡ ruling i o (thenReads g k)
+pub then-ruling : {A B : Type 0} (i : ℕ) (o : Option ℕ) (g : Got A) (k : A → List Lexeme → Book → Got B) → thenReads (ruling i o g) k ≡ ruling i o (thenReads g k)
 then-ruling i none g k = refl
 then-ruling i (some n) g k = refl
 

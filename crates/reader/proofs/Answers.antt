@@ -21,6 +21,9 @@ module _ (inner : Parsed) (code : ℕ) (b : List ℕ) where
   unfolding AfterNode
   node-bad n i e = subst (λ (x : Parsed). AfterNode code x b b (Refused n i)) (sym e) (refl, refl)
 
+pub expected-said : (text : List ℕ) (c : Cursor) (k : ℕ) (r r′ : Parsed) → Expected text c k r → r ≡ r′ → Expected text c k r′
+expected-said text c k r r′ h e = subst (λ (x : Parsed). Expected text c k x) e h
+
 module _ (text : List ℕ) (inner : Parsed) where
   pub close-ok : (x : Cursor) (r : Parsed) → inner ≡ Ok x → Expected text x 22 r → AfterClose text inner r
   unfolding AfterClose

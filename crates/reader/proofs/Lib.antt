@@ -8,3 +8,8 @@ pub mod Spelling
 pub mod Lexing
 pub mod Operands
 pub mod Answers
+pub mod Sequences
+pub mod Series
+pub mod Lists
+pub mod Tests
+pub mod Branches

@@ -58,6 +58,11 @@ pub visible-few : (rows : Bool) (a b n : ℕ) → n ≡ cond rows (a + b) a → 
 visible-few true a b n e h = omega arith
 visible-few false a b n e h = omega arith
 
+-- So are those that may be assigned to.
+pub target-range : (rows : Bool) (a b from to : ℕ) → from ≡ cond rows a 0 → to ≡ cond rows (a + b) a → a + b ≤ 12 → (from ≤ to) × (to ≤ 28)
+target-range true a b from to e f h = (omega arith, omega arith)
+target-range false a b from to e f h = (omega arith, omega arith)
+
 pub few-found : (text names : List ℕ) (rows : Bool) (a b : ℕ) (w : Word) (n i : ℕ) → n ≡ cond rows (a + b) a → a + b ≤ 12 → i ≡ 0 + placeOf w (wordsIn text names 0 (n - 0)) → (i ≡ n → ⊥) → i < 12
 few-found text names rows a b w n i e h f z =
     let k = visible-few rows a b n e h in

@@ -15,13 +15,9 @@ use Rattle.notation.specs.working.Lexing.{tokensFrom}
 use Rattle.notation.specs.working.Ledger.{Book, note, fault}
 use Rattle.notation.specs.working.Table.{Sym, lit, factor, ands, ors, Found, find, lines, skips}
 use Rattle.notation.specs.working.Descent.{Got, got, stop, thenReads, ruling, reader, sequence, orReader, andReader, andLoop, orLoop}
-use Rattle.notation.proofs.Readers.{reader-token, reader-end, reader-byte}
+use Rattle.notation.proofs.Readers.{reader-token, reader-end, reader-byte, then-then}
 use Rattle.reader.specs.declared.pieces.Piece.{Piece}
 use Rattle.reader.specs.working.Pieces.{nameIn, tokenOf, listed, Fresh}
-
-pub then-then : {A B C : Type 0} (g : Got A) (h : A → List Lexeme → Book → Got B) (k : B → List Lexeme → Book → Got C) → thenReads (thenReads g h) k ≡ thenReads g (λ a ts b. thenReads (h a ts b) k)
-then-then (got a ts b) h k = refl
-then-then (stop n i) h k = refl
 
 module _ (text : List ℕ) (t : Piece) where
   pub listed-sign : (k : ℕ) → t .kind ≡ k → k < 24 → listed text t ≡ at (t .start) (some (sign k)) ∷ tokensFrom text (t .end)

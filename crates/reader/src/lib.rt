@@ -2,6 +2,7 @@
 mod bytes;
 mod cursor;
 mod expressions;
+mod items;
 mod names;
 mod pieces;
 mod words;

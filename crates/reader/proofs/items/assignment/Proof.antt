@@ -1,0 +1,80 @@
+-- `assignment` meets its contract: the name is looked up and counted, `:=` asked for, and the expression's code followed by the store.
+-- Assumes nothing.
+use native.Mathlib.Omega.{arith}
+use Rattle.reader.proofs.Done.{says-bad, says-same}
+use Rattle.reader.proofs.Answers.{expected-said}
+use Rattle.reader.proofs.Operands.{target-range}
+use Rattle.reader.proofs.Sequences.{ready-less, says-roomed}
+use Rattle.reader.proofs.Branches.{assign-unknown, assign-full, assign-bad, value-ready, target-few, assign-says}
+use borrow.Author.Needs.{needs}
+use Rattle.reader.proofs.items.assignment.Statement.{statement}
+use Rattle.reader.proofs.items.assignment.Tie as tie
+
+first-target-requires : tie.Need-first-target-requires
+first-target-requires c κs = search needs
+
+visible-requires : tie.Need-visible-requires
+visible-requires c κs = c .before .before .before .pre .0 .names
+
+find-name-requires : tie.Need-find-name-requires
+find-name-requires c κs = let k = target-range (c .before .before .before .before .args .rows) (c .before .before .before .before .args .l .shared) (c .before .before .before .before .args .l .row) _ _ (c .before .first-target .ensures) (c .visible .ensures) (c .before .before .before .before .pre .0 .names) in (k .0, (k .1, c .before .before .before .before .pre .0 .fresh))
+
+returns : tie.Need-returns
+returns c = says-bad _ _ _ _ _ _ _ _ _ _ _ (assign-unknown _ (c .before .before .before .before .before .before .args .names .now) _ _ (c .before .before .before .before .before .before .pre .0) (c .before .before .before .before .before .before .args .rows) _ _ _ (c .before .before .before .first-target .ensures) (c .before .before .visible .ensures) (c .before .find-name .ensures) (c .if1 .taken))
+
+returns-2 : tie.Need-returns-2
+returns-2 c = says-bad _ _ _ _ _ _ _ _ _ _ _ (assign-full _ (c .before .before .before .before .before .before .before .args .names .now) _ _ (c .before .before .before .before .before .before .before .pre .0) (c .before .before .before .before .before .before .before .args .rows) _ _ _ (c .before .before .before .before .first-target .ensures) (c .before .before .before .visible .ensures) (c .before .before .find-name .ensures) (c .before .if1 .left) (c .if2 .taken))
+
+add-past : tie.Need-add-past
+add-past c = search needs
+
+past-requires : tie.Need-past-requires
+past-requires c κs = search needs
+
+expect-requires : tie.Need-expect-requires
+expect-requires c κs = search needs
+
+enum-known-marked : tie.Need-enum-known-marked
+enum-known-marked c = search needs
+
+enum-told : tie.Need-enum-told
+enum-told c = search needs
+
+returns-3 : tie.Need-returns-3
+returns-3 c = says-same _ _ _ _ _ _ _ _ _ _ _ _ (c .enum-told .given .1) (assign-bad _ (c .before .before .before .before .before .before .before .before .before .before .before .args .names .now) _ _ (c .before .before .before .before .before .before .before .before .before .before .before .pre .0) (c .before .before .before .before .before .before .before .before .before .before .before .args .rows) _ _ _ (c .before .before .before .before .before .before .before .before .first-target .ensures) (c .before .before .before .before .before .before .before .visible .ensures) (c .before .before .before .before .before .before .find-name .ensures) (c .before .before .before .before .before .if1 .left) (c .before .before .before .before .if2 .left) _ (c .before .before .before .past .ensures) _ _ (expected-said _ _ _ _ _ (c .before .before .expect .ensures) (c .enum-told .given .1)))
+
+or-level-requires : tie.Need-or-level-requires
+or-level-requires c κs = (omega arith, ready-less _ (c .before .before .before .before .before .before .before .before .before .before .before .before .before .args .names .now) _ 1 0 _ (omega arith) (value-ready _ (c .before .before .before .before .before .before .before .before .before .before .before .before .before .args .names .now) _ _ (c .before .before .before .before .before .before .before .before .before .before .before .before .before .pre .0) (c .before .before .before .before .before .before .before .before .before .before .before .before .before .args .rows) _ _ _ (c .before .before .before .before .before .before .before .before .before .before .first-target .ensures) (c .before .before .before .before .before .before .before .before .before .visible .ensures) (c .before .before .before .before .before .before .before .before .find-name .ensures) (c .before .before .before .before .before .before .before .if1 .left) (c .before .before .before .before .before .before .if2 .left) _ (c .before .before .before .before .before .past .ensures) _ (expected-said _ _ _ _ _ (c .before .before .before .before .expect .ensures) (c .before .before .marked .given .1))))
+
+cast-close-node : tie.Need-cast-close-node
+cast-close-node c = omega (arith, target-few _ (c .before .before .before .before .before .before .before .before .before .before .before .before .before .before .before .args .names .now) _ _ (c .before .before .before .before .before .before .before .before .before .before .before .before .before .before .before .pre .0) (c .before .before .before .before .before .before .before .before .before .before .before .before .before .before .before .args .rows) _ _ _ (c .before .before .before .before .before .before .before .before .before .before .before .before .first-target .ensures) (c .before .before .before .before .before .before .before .before .before .before .before .visible .ensures) (c .before .before .before .before .before .before .before .before .before .before .find-name .ensures) (c .before .before .before .before .before .before .before .before .before .before .before .before .before .before .before .pre .0 .names) (c .before .before .before .before .before .before .before .before .before .if1 .left))
+
+add-close-node : tie.Need-add-close-node
+add-close-node c = omega (arith, target-few _ (c .before .before .before .before .before .before .before .before .before .before .before .before .before .before .before .args .names .now) _ _ (c .before .before .before .before .before .before .before .before .before .before .before .before .before .before .before .pre .0) (c .before .before .before .before .before .before .before .before .before .before .before .before .before .before .before .args .rows) _ _ _ (c .before .before .before .before .before .before .before .before .before .before .before .before .first-target .ensures) (c .before .before .before .before .before .before .before .before .before .before .before .visible .ensures) (c .before .before .before .before .before .before .before .before .before .before .find-name .ensures) (c .before .before .before .before .before .before .before .before .before .before .before .before .before .before .before .pre .0 .names) (c .before .before .before .before .before .before .before .before .before .if1 .left))
+
+close-node-requires : tie.Need-close-node-requires
+close-node-requires c κs = says-roomed _ _ _ _ 0 _ _ _ _ 0 _ (value-ready _ (c .before .before .before .before .before .before .before .before .before .before .before .before .before .before .before .args .names .now) _ _ (c .before .before .before .before .before .before .before .before .before .before .before .before .before .before .before .pre .0) (c .before .before .before .before .before .before .before .before .before .before .before .before .before .before .before .args .rows) _ _ _ (c .before .before .before .before .before .before .before .before .before .before .before .before .first-target .ensures) (c .before .before .before .before .before .before .before .before .before .before .before .visible .ensures) (c .before .before .before .before .before .before .before .before .before .before .find-name .ensures) (c .before .before .before .before .before .before .before .before .before .if1 .left) (c .before .before .before .before .before .before .before .before .if2 .left) _ (c .before .before .before .before .before .before .before .past .ensures) _ (expected-said _ _ _ _ _ (c .before .before .before .before .before .before .expect .ensures) (c .before .before .before .before .marked .given .1))) (c .before .or-level .ensures)
+
+returns-4 : tie.Need-returns-4
+returns-4 c = assign-says _ (c .before .before .before .before .before .before .before .before .before .before .before .before .before .before .before .before .args .names .now) _ _ (c .before .before .before .before .before .before .before .before .before .before .before .before .before .before .before .before .pre .0) (c .before .before .before .before .before .before .before .before .before .before .before .before .before .before .before .before .args .rows) _ _ _ (c .before .before .before .before .before .before .before .before .before .before .before .before .before .first-target .ensures) (c .before .before .before .before .before .before .before .before .before .before .before .before .visible .ensures) (c .before .before .before .before .before .before .before .before .before .before .before .find-name .ensures) (c .before .before .before .before .before .before .before .before .before .before .if1 .left) (c .before .before .before .before .before .before .before .before .before .if2 .left) _ (c .before .before .before .before .before .before .before .before .past .ensures) _ (expected-said _ _ _ _ _ (c .before .before .before .before .before .before .before .expect .ensures) (c .before .before .before .before .before .marked .given .1)) _ _ _ _ _ (c .before .before .or-level .ensures) (c .close-node .ensures)
+
+pub assignment-spec : {M : Type 1} → statement M
+assignment-spec =
+    tie.close
+    (tie.spec
+    first-target-requires
+    visible-requires
+    find-name-requires
+    returns
+    returns-2
+    add-past
+    past-requires
+    expect-requires
+    enum-known-marked
+    enum-told
+    returns-3
+    or-level-requires
+    cast-close-node
+    add-close-node
+    close-node-requires
+    returns-4)

@@ -1,0 +1,40 @@
+-- `item` meets its contract, by the kind of its first token.
+-- Assumes nothing.
+use Rattle.reader.proofs.Done.{says-bad}
+use Rattle.reader.proofs.Branches.{item-skip, item-assign, item-missing}
+use borrow.Author.Needs.{needs}
+use Rattle.reader.proofs.items.item.Statement.{statement}
+use Rattle.reader.proofs.items.item.Tie as tie
+
+skip-item-requires : tie.Need-skip-item-requires
+skip-item-requires c κs = search needs
+
+returns : tie.Need-returns
+returns c = item-skip _ _ _ _ (c .before .before .before .before .before .pre) (c .before .before .if1 .taken) _ _ _ (c .skip-item .ensures)
+
+assignment-requires : tie.Need-assignment-requires
+assignment-requires c κs = (c .before .before .before .before .before .pre, c .before .if2 .taken)
+
+returns-2 : tie.Need-returns-2
+returns-2 c = item-assign _ _ _ _ (c .before .before .before .before .before .before .pre) (c .before .before .if2 .taken) _ _ _ (c .assignment .ensures)
+
+for-item-requires : tie.Need-for-item-requires
+for-item-requires c κs = (c .before .before .before .before .before .before .pre, c .before .if3 .taken)
+
+returns-3 : tie.Need-returns-3
+returns-3 c = c .for-item .ensures
+
+returns-4 : tie.Need-returns-4
+returns-4 c = says-bad _ _ _ _ _ _ _ _ _ _ _ (item-missing _ _ _ _ (c .before .before .before .before .before .pre) (c .before .before .if1 .left) (c .before .if2 .left) (c .if3 .left))
+
+pub item-spec : {M : Type 1} → statement M
+item-spec =
+    tie.close
+    (tie.spec
+    skip-item-requires
+    returns
+    assignment-requires
+    returns-2
+    for-item-requires
+    returns-3
+    returns-4)

@@ -1,0 +1,49 @@
+-- `mark` meets its contract: it asks for the sign, stores the code word, and passes refusals on.
+-- Assumes nothing.
+use mathlib.Core.Path.{subst}
+use Rattle.reader.specs.working.Expressions.{roomed}
+use Rattle.reader.proofs.Answers.{mark-bad, mark-missing, mark-room, mark-ok}
+use borrow.Author.Needs.{needs}
+use Rattle.reader.proofs.items.mark.Statement.{statement}
+use Rattle.reader.proofs.items.mark.Tie as tie
+
+enum-known-read : tie.Need-enum-known-read
+enum-known-read c = search needs
+
+enum-told : tie.Need-enum-told
+enum-told c = search needs
+
+returns : tie.Need-returns
+returns c = mark-bad _ _ _ _ _ _ _ _ (c .enum-told .given .1)
+
+expect-requires : tie.Need-expect-requires
+expect-requires c κs = search needs
+
+enum-known-after : tie.Need-enum-known-after
+enum-known-after c = search needs
+
+enum-told-2 : tie.Need-enum-told-2
+enum-told-2 c = search needs
+
+returns-2 : tie.Need-returns-2
+returns-2 c = mark-missing _ _ _ _ _ _ (c .before .before .before .before .read .given .1) _ (c .before .before .expect .ensures) _ _ _ (c .enum-told2 .given .1)
+
+emit-requires : tie.Need-emit-requires
+emit-requires c κs = mark-room _ _ (c .before .before .before .before .before .before .before .before .before .args .code) _ (c .before .before .before .before .before .before .before .before .before .args .ops .now) _ (c .before .before .before .before .before .before .read .given .1) _ (c .before .before .before .before .expect .ensures) _ (c .before .before .after .given .1) (subst roomed (c .before .before .before .before .before .before .read .given .1) (c .before .before .before .before .before .before .before .before .before .pre))
+
+returns-3 : tie.Need-returns-3
+returns-3 c = mark-ok _ _ _ _ _ _ (c .before .before .before .before .before .before .before .read .given .1) _ (c .before .before .before .before .before .expect .ensures) _ _ _ (c .before .before .before .after .given .1) (c .emit .ensures)
+
+pub mark-spec : {M : Type 1} → statement M
+mark-spec =
+    tie.close
+    (tie.spec
+    enum-known-read
+    enum-told
+    returns
+    expect-requires
+    enum-known-after
+    enum-told-2
+    returns-2
+    emit-requires
+    returns-3)

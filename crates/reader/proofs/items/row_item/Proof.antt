@@ -1,0 +1,26 @@
+-- `row_item` meets its contract, by the kind of its first token.
+-- Assumes nothing.
+use Rattle.reader.proofs.Done.{says-bad}
+use Rattle.reader.proofs.Branches.{row-skip, row-assign, row-missing}
+use borrow.Author.Needs.{needs}
+use Rattle.reader.proofs.items.row_item.Statement.{statement}
+use Rattle.reader.proofs.items.row_item.Tie as tie
+
+skip-item-requires : tie.Need-skip-item-requires
+skip-item-requires c κs = search needs
+
+returns : tie.Need-returns
+returns c = row-skip _ _ _ _ (c .before .before .before .before .before .pre) (c .before .before .if1 .taken) _ _ _ (c .skip-item .ensures)
+
+assignment-requires : tie.Need-assignment-requires
+assignment-requires c κs = (c .before .before .before .before .before .pre, c .before .if2 .taken)
+
+returns-2 : tie.Need-returns-2
+returns-2 c = row-assign _ _ _ _ (c .before .before .before .before .before .before .pre) (c .before .before .if2 .taken) _ _ _ (c .assignment .ensures)
+
+returns-3 : tie.Need-returns-3
+returns-3 c = says-bad _ _ _ _ _ _ _ _ _ _ _ (row-missing _ _ _ _ (c .before .before .before .before .pre) (c .before .if1 .left) (c .if2 .left))
+
+pub row-item-spec : {M : Type 1} → statement M
+row-item-spec =
+    tie.close (tie.spec skip-item-requires returns assignment-requires returns-2 returns-3)
