@@ -19,3 +19,6 @@ pub mod Counts
 pub mod Limits
 pub mod Heights
 pub mod Regular
+pub mod Cases
+pub mod Edges
+pub mod CaseFacts

@@ -2,7 +2,7 @@
 -- Assumes nothing.
 use mathlib.Core.Path.{_≡_, refl}
 use mathlib.Core.Bool.{Bool, true, false, cond, not}
-use mathlib.Core.List.{List, [], _∷_}
+use mathlib.Core.List.{List, [], _∷_, _++_}
 use mathlib.Core.Option.{Option, none, some}
 use Prim.Native.Nat.{ℕ, suc, _+_, _≤_, _<_}
 use native.Mathlib.Numerals.{add-one}
@@ -10,14 +10,16 @@ use native.Mathlib.Omega.{arith}
 use lib.Dec.{ltb}
 use borrow.Author.Tests.{lt-ltb, le-ltb}
 use Rattle.notation.specs.Tokens.{Token, Name, name}
-use Rattle.notation.specs.Notation.{Kind, Mode, part, quiet, uses, constant, chance, joins, negates, opens, target, beginsItem}
-use Rattle.notation.specs.Rules.{view, has, elem, allowed, sameKind}
+use Rattle.notation.specs.Notation.{Kind, Mode, part, quiet, declares, uses, constant, chance, joins, negates, opens, target, beginsItem}
+use Rattle.notation.specs.Rules.{view, has, elem, allowed, sameKind, nameCounts}
 use Rattle.notation.specs.working.Ledger.{Book, note, fault, tally, exceeds}
 use Rattle.reader.specs.declared.pieces.Piece.{Piece}
 use Rattle.reader.specs.declared.cursor.Cursor.{Cursor}
 use Rattle.reader.specs.declared.cursor.Ledger.{Ledger}
 use Rattle.reader.specs.working.Names.{namesKept}
 use Rattle.reader.specs.working.Cursors.{bookOf, moved}
+use Rattle.reader.specs.working.Items.{kindOf}
+use Rattle.reader.specs.working.Clauses.{grown}
 
 module _ (text names : List ℕ) (l : Ledger) (c : Cursor) where
   abbrev B : Book
@@ -117,6 +119,40 @@ module _ (text names : List ℕ) (l : Ledger) (c : Cursor) where
   unfolding fault view tally elem exceeds
   item-fits t h = rw (le-ltb 256 (suc (c .items)) (omega arith))
 
+  module _ (rows : Bool) (w : Name) where
+    pub declares-again : has (namesKept text names l) (λ s. true) (w .word) ≡ true → fault B (part (declares (kindOf rows)) (name w)) ≡ some 4
+    unfolding fault view
+    declares-again h = rw h
+
+    -- all names, and those of its kind
+    pub declares-many : has (namesKept text names l) (λ s. true) (w .word) ≡ false → 12 ≤ l .shared + l .row → fault B (part (declares (kindOf rows)) (name w)) ≡ some 7
+    unfolding fault view tally elem exceeds nameCounts
+    declares-many h k = go rows
+      where
+        either : (x : Bool) → cond {A = Option ℕ} (cond x true true) (some 7) none ≡ some 7
+        either true = refl
+        either false = refl
+
+        go : (x : Bool) → fault B (part (declares (kindOf x)) (name w)) ≡ some 7
+        go true = rw (h, lt-ltb 12 (suc (l .shared + l .row)) (omega arith)) (either (ltb 10 (suc (l .row))))
+        go false = rw (h, lt-ltb 12 (suc (l .shared + l .row)) (omega arith)) (either (ltb 8 (suc (l .shared))))
+
+    pub declares-full : has (namesKept text names l) (λ s. true) (w .word) ≡ false → cond rows 10 8 ≤ cond rows (l .row) (l .shared) → fault B (part (declares (kindOf rows)) (name w)) ≡ some 7
+    unfolding fault view tally elem exceeds nameCounts
+    declares-full h k = go rows k
+      where
+        go : (x : Bool) → cond x 10 8 ≤ cond x (l .row) (l .shared) → fault B (part (declares (kindOf x)) (name w)) ≡ some 7
+        go true k = rw (h, lt-ltb 10 (suc (l .row)) (omega arith))
+        go false k = rw (h, lt-ltb 8 (suc (l .shared)) (omega arith))
+
+    pub declares-fits : has (namesKept text names l) (λ s. true) (w .word) ≡ false → l .shared + l .row < 12 → cond rows (l .row) (l .shared) < cond rows 10 8 → fault B (part (declares (kindOf rows)) (name w)) ≡ none
+    unfolding fault view tally elem exceeds nameCounts
+    declares-fits h k f = go rows f
+      where
+        go : (x : Bool) → cond x (l .row) (l .shared) < cond x 10 8 → fault B (part (declares (kindOf x)) (name w)) ≡ none
+        go true f = rw (h, le-ltb 10 (suc (l .row)) (omega arith), le-ltb 12 (suc (l .shared + l .row)) (omega arith))
+        go false f = rw (h, le-ltb 8 (suc (l .shared)) (omega arith), le-ltb 12 (suc (l .shared + l .row)) (omega arith))
+
   -- ---- the book after a token
 
   module _ (u : Piece) where
@@ -155,3 +191,9 @@ module _ (text names : List ℕ) (l : Ledger) (c : Cursor) where
     pub note-item : (t : Token) → note B (part beginsItem t) ≡ bookOf text names l (moved u c (c .items + 1) (c .nodes) (c .stars))
     unfolding note view tally elem
     note-item t = rw add-one refl
+
+    pub note-declares : (rows : Bool) (w : Name) (names′ : List ℕ) → namesKept text names′ (grown rows 1 l) ≡ namesKept text names l ++ (w .word, kindOf rows) ∷ [] →
+        note B (part (declares (kindOf rows)) (name w)) ≡ bookOf text names′ (grown rows 1 l) (moved u c (c .items) (c .nodes) (c .stars))
+    unfolding note view tally elem nameCounts
+    note-declares true w names′ h = let e : l .shared + (l .row + 1) ≡ suc (l .shared + l .row) = omega arith in rw (h, e, add-one (l .row)) refl
+    note-declares false w names′ h = let e : l .shared + 1 + l .row ≡ suc (l .shared + l .row) = omega arith in rw (h, e, add-one (l .shared)) refl

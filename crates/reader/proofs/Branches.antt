@@ -39,8 +39,7 @@ use Rattle.reader.proofs.Lookup.{words-length, shared-name, row-name}
 use Rattle.reader.proofs.Operands.{found-out, found-in, from-first}
 use Rattle.reader.proofs.Factors.{expected-ok, expected-bad}
 use Rattle.reader.proofs.Sequences.{says-map, says-from, past-ready}
-use Rattle.reader.proofs.Lists.{allRows}
-use Rattle.reader.proofs.Tests.{Tested, tested, testedWords}
+use Rattle.reader.specs.working.Sequences.{allRows, Tested, tested, testedWords}
 
 -- Where the expressions of a `for` stand.
 abbrev pub inRow : Scope
@@ -260,7 +259,7 @@ module _ (text names : List ℕ) (l : Ledger) (c : Cursor) (r : Ready text l 0 c
     made v = for′ (v .one) (v .two .one) (v .two .two)
 
     abbrev loop : Got Expr → Got Item
-    loop g = thenReads (tested text names l (rowItemsWords text names l) (allRows (length text)) 10 g) (λ v ts b. got (made v) ts b)
+    loop g = thenReads (tested (length text) (allRows (length text)) 10 g) (λ v ts b. got (made v) ts b)
 
     for-is : itemAt text names l c ≡ ruling (t .start) (fault B (part beginsItem (sign 9))) (loop (orReader (length text) freeRow 0 rest (note B (part beginsItem (sign 9)))))
     unfolding sequence find lines skips
@@ -279,13 +278,13 @@ module _ (text names : List ℕ) (l : Ledger) (c : Cursor) (r : Ready text l 0 c
       for-ready = past-ready text names l 0 3 c d (c .items + 1) (c .nodes) (c .stars) r q (omega arith) (r .nodes) (r .stars) (omega (arith, r .room))
 
       abbrev forWords : ℕ → Tested RowItem → Numbered (List ℕ)
-      forWords = testedWords text names l (rowItemsWords text names l) (allRows (length text)) 10
+      forWords = testedWords text names l (rowItemsWords text names l)
 
       for-words : (v : Tested RowItem) → itemWords text names l (c .stars) (made v) ≡ forWords (c .stars) v
       unfolding itemWords itemOf itemCode exprWords rowItemsWords
       for-words v = simp append-assoc
 
-      pub for-says : (p a : List ℕ) (y : Parsed) → Says text names l forWords 3 d p (tested text names l (rowItemsWords text names l) (allRows (length text)) 10 (orAt text names inRow l 16 d)) a y → SaysItem text names l c p (itemAt text names l c) a y
+      pub for-says : (p a : List ℕ) (y : Parsed) → Says text names l forWords 3 d p (tested (length text) (allRows (length text)) 10 (orAt text names inRow l 16 d)) a y → SaysItem text names l c p (itemAt text names l c) a y
       for-says p a y s =
-          says-map text names l forWords (itemWords text names l) 0 c p (tested text names l (rowItemsWords text names l) (allRows (length text)) 10 (orAt text names inRow l 16 d)) (itemAt text names l c) made a y for-goes for-words
-          (says-from text names l forWords 3 0 c d (c .items + 1) (c .nodes) p (tested text names l (rowItemsWords text names l) (allRows (length text)) 10 (orAt text names inRow l 16 d)) a y q (omega arith) (omega arith) (omega arith) s)
+          says-map text names l forWords (itemWords text names l) 0 c p (tested (length text) (allRows (length text)) 10 (orAt text names inRow l 16 d)) (itemAt text names l c) made a y for-goes for-words
+          (says-from text names l forWords 3 0 c d (c .items + 1) (c .nodes) p (tested (length text) (allRows (length text)) 10 (orAt text names inRow l 16 d)) a y q (omega arith) (omega arith) (omega arith) s)

@@ -13,3 +13,10 @@ pub mod Series
 pub mod Lists
 pub mod Tests
 pub mod Branches
+pub mod Declaring
+pub mod NameLists
+pub mod Segments
+pub mod Bodies
+pub mod Titles
+pub mod Commanding
+pub mod CommandLists

@@ -23,13 +23,6 @@ use Rattle.reader.specs.working.Items.{rowItemWords, rowItemsWords, item
 use Rattle.reader.proofs.Symbols.{passed}
 use Rattle.reader.proofs.Series.{Series}
 
--- One and the rest.
-abbrev pub allRows : ℕ → List Lexeme → Book → Got (List RowItem)
-allRows len ts b = thenReads (reader len rowItem ts b) (λ x ts b. thenReads (reader len rowItems ts b) (λ xs ts b. got (x ∷ xs) ts b))
-
-abbrev pub allItems : ℕ → List Lexeme → Book → Got (List Item)
-allItems len ts b = thenReads (reader len item ts b) (λ x ts b. thenReads (reader len items ts b) (λ xs ts b. got (x ∷ xs) ts b))
-
 module _ (text names : List ℕ) (l : Ledger) where
   abbrev len : ℕ
   len = length text

@@ -19,29 +19,9 @@ use Rattle.reader.specs.working.Pieces.{listed}
 use Rattle.reader.specs.working.Cursors.{bookOf, emitted, Past, Expected, Ready, Done, Says}
 use Rattle.reader.specs.working.Expressions.{roomed}
 use Rattle.reader.specs.working.Items.{withWord, Marked}
+use Rattle.reader.specs.working.Sequences.{Pair, pairOf, paired, pairing, signedBy}
 use Rattle.reader.proofs.Done.{stores}
 use Rattle.reader.proofs.Factors.{expected-ok, expected-bad}
-
--- Two values that were read one after the other.
-pub record Pair (A B : Type 0) : Type 0 where
-  pub one : A
-  pub two : B
-
-abbrev pub pairOf : {A B : Type 0} → A → B → Pair A B
-pairOf a b = record { one = a; two = b }
-
--- Their codes, one behind the other.
-abbrev pub paired : {A B : Type 0} → (ℕ → A → Numbered (List ℕ)) → (ℕ → B → Numbered (List ℕ)) → ℕ → Pair A B → Numbered (List ℕ)
-paired code more k v =
-    numbered (code k (v .one) .is ++ more (code k (v .one) .next) (v .two) .is) (more (code k (v .one) .next) (v .two) .next)
-
--- The reader of the second, given that of the first.
-abbrev pub pairing : {A B : Type 0} → Got A → (List Lexeme → Book → Got B) → Got (Pair A B)
-pairing g h = thenReads g (λ a ts b. thenReads (h ts b) (λ v ts b. got (pairOf a v) ts b))
-
--- What is read, and then a sign.
-abbrev pub signedBy : {A : Type 0} → ℕ → ℕ → Got A → Got A
-signedBy len kind g = thenReads g (λ a ts b. thenReads (reader len (lit kind) ts b) (λ u ts b. got a ts b))
 
 module _ (text names : List ℕ) (l : Ledger) where
   module _ {A B : Type 0} (code : ℕ → A → Numbered (List ℕ)) (more : ℕ → B → Numbered (List ℕ)) (x y : ℕ) (s c : Cursor) (p b : List ℕ) (g : Got A) (h : List Lexeme → Book → Got B) (d : Done text names l code x s p g b c) where

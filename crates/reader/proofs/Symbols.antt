@@ -29,17 +29,21 @@ module _ (text : List ℕ) (t : Piece) where
   listed-name e = rw e refl
 
   -- Where a symbol has no line for the piece: nothing stands for it, if nothing may.
-  pub passed : (n : Sym) (len : ℕ) (b : Book) {v : _} → skips n ≡ some v → find (lines n) (sign (t .kind)) ≡ none → find (lines n) (name (nameIn text t)) ≡ none →
+  pub passed-by : (n : Sym) (len : ℕ) (b : Book) {v : _} → skips n ≡ some v → find (lines n) (sign (t .kind)) ≡ none → (t .kind ≡ 24 → find (lines n) (name (nameIn text t)) ≡ none) →
       reader len n (listed text t) b ≡ got v (listed text t) b
   unfolding listed tokenOf
-  passed n len b {v} s f g = go (eqb (t .kind) 26) (eqb (t .kind) 25) (eqb (t .kind) 24)
+  passed-by n len b {v} s f g = go (eqb (t .kind) 26) (eqb (t .kind) 25) (eqb (t .kind) 24) refl
     where
-      go : (x y z : Bool) → reader len n (cond x [] (at (t .start) (cond y none (some (cond z (name (nameIn text t)) (sign (t .kind))))) ∷ tokensFrom text (t .end))) b
+      go : (x y z : Bool) → eqb (t .kind) 24 ≡ z → reader len n (cond x [] (at (t .start) (cond y none (some (cond z (name (nameIn text t)) (sign (t .kind))))) ∷ tokensFrom text (t .end))) b
           ≡ got v (cond x [] (at (t .start) (cond y none (some (cond z (name (nameIn text t)) (sign (t .kind))))) ∷ tokensFrom text (t .end))) b
-      go true y z = rw (reader-end len n b, s)
-      go false true z = rw (reader-byte len n (t .start) (tokensFrom text (t .end)) b, s)
-      go false false true = rw (reader-token len n (t .start) (name (nameIn text t)) (tokensFrom text (t .end)) b, g, s)
-      go false false false = rw (reader-token len n (t .start) (sign (t .kind)) (tokensFrom text (t .end)) b, f, s)
+      go true y z u = rw (reader-end len n b, s)
+      go false true z u = rw (reader-byte len n (t .start) (tokensFrom text (t .end)) b, s)
+      go false false true u = rw (reader-token len n (t .start) (name (nameIn text t)) (tokensFrom text (t .end)) b, g (eqb-true (t .kind) 24 u), s)
+      go false false false u = rw (reader-token len n (t .start) (sign (t .kind)) (tokensFrom text (t .end)) b, f, s)
+
+  pub passed : (n : Sym) (len : ℕ) (b : Book) {v : _} → skips n ≡ some v → find (lines n) (sign (t .kind)) ≡ none → find (lines n) (name (nameIn text t)) ≡ none →
+      reader len n (listed text t) b ≡ got v (listed text t) b
+  passed n len b s f g = passed-by n len b s f (λ z. g)
 
   -- Where a symbol has to stand and has no line for the piece, the text is refused there.
   pub missing : (n : Sym) (b : Book) → Fresh text t → skips n ≡ none → find (lines n) (sign (t .kind)) ≡ none → (t .kind ≡ 24 → find (lines n) (name (nameIn text t)) ≡ none) →

@@ -20,23 +20,15 @@ use Rattle.reader.specs.working.Cursors.{bookOf, Ready, Done, Says}
 use Rattle.reader.specs.working.Expressions.{exprWords, SaysExpr, orAt, roomed}
 use Rattle.reader.specs.working.Items.{withWord, Marked}
 use Rattle.reader.proofs.Done.{said-ok, said-bad, says-same, done-ready}
-use Rattle.reader.proofs.Sequences.{Pair, paired, pairing, signedBy, says-pair, pair-bad, says-mark, says-roomed, ready-less}
-
--- What a test and two branches make.
-abbrev pub Tested : Type 0 → Type 0
-Tested A = Pair Expr (Pair (List A) (List A))
+use Rattle.reader.specs.working.Sequences.{Pair, paired, pairing, signedBy, tested, testedWords}
+use Rattle.reader.proofs.Sequences.{says-pair, pair-bad, says-mark, says-roomed, ready-less}
 
 module _ {A : Type 0} (text names : List ℕ) (l : Ledger) (code : ℕ → List A → Numbered (List ℕ)) (all : List Lexeme → Book → Got (List A)) (last : ℕ) where
-  -- The second branch and its last sign, and both branches.
-  abbrev pub ending : List Lexeme → Book → Got (List A)
+  abbrev ending : List Lexeme → Book → Got (List A)
   ending ts b = signedBy (length text) last (all ts b)
 
-  abbrev pub branches : List Lexeme → Book → Got (Pair (List A) (List A))
+  abbrev branches : List Lexeme → Book → Got (Pair (List A) (List A))
   branches ts b = pairing (signedBy (length text) 8 (all ts b)) ending
-
-  -- The test, `do` and the branches.
-  abbrev pub tested : Got Expr → Got (Tested A)
-  tested g = pairing (signedBy (length text) 7 g) branches
 
   abbrev testWords : ℕ → Expr → Numbered (List ℕ)
   testWords = withWord (exprWords text names l) 224
@@ -47,15 +39,12 @@ module _ {A : Type 0} (text names : List ℕ) (l : Ledger) (code : ℕ → List 
   abbrev lastWords : ℕ → List A → Numbered (List ℕ)
   lastWords = withWord code 288
 
-  abbrev pub testedWords : ℕ → Tested A → Numbered (List ℕ)
-  testedWords = paired testWords (paired firstWords lastWords)
-
   abbrev At : Cursor → Got (List A)
   At c = all (listed text (c .next)) (bookOf text names l c)
 
   module _ (small : last < 24) (d : Cursor) (r : Ready text l 3 d) (p : List ℕ) (g : Got Expr) (a : List ℕ) (test : Parsed) (s₁ : SaysExpr text names l d p g a test) where
     abbrev Whole : List ℕ → Parsed → Type 0
-    Whole z y = Says text names l testedWords 3 d p (tested g) z y
+    Whole z y = Says text names l (testedWords text names l code) 3 d p (tested (length text) all last g) z y
 
     pub test-roomed : roomed test
     test-roomed = says-roomed text names l (exprWords text names l) 0 d p g a 2 test r s₁
@@ -66,7 +55,7 @@ module _ {A : Type 0} (text names : List ℕ) (l : Ledger) (code : ℕ → List 
 
       pub first-bad : (n i : ℕ) → first ≡ Refused n i → Whole a₁ first
       first-bad n i e =
-          says-same text names l testedWords 3 d p (tested g) a₁ first n i e
+          says-same text names l (testedWords text names l code) 3 d p (tested (length text) all last g) a₁ first n i e
           (pair-bad text names l (signedBy (length text) 7 g) branches n i (said-bad text names l testWords 1 d p (signedBy (length text) 7 g) a₁ first n i marked₁ e))
 
       module _ (yes : Cursor) (e₁ : first ≡ Ok yes) where

@@ -4,3 +4,6 @@ pub mod Names
 pub mod Cursors
 pub mod Expressions
 pub mod Items
+pub mod Sequences
+pub mod Clauses
+pub mod Commands

@@ -1,5 +1,7 @@
 // The reader of model texts.
 mod bytes;
+mod clauses;
+mod commands;
 mod cursor;
 mod expressions;
 mod items;

@@ -5,7 +5,7 @@ use lib.ListN.{length}
 use Rattle.reader.specs.working.Items.{rowItemsWords}
 use Rattle.reader.proofs.Done.{says-bad}
 use Rattle.reader.proofs.Sequences.{ready-less}
-use Rattle.reader.proofs.Lists.{allRows}
+use Rattle.reader.specs.working.Sequences.{allRows}
 use Rattle.reader.proofs.Tests.{test-roomed, first-bad, yes-ready, done-roomed, second-bad, no-ready, rest-roomed, tested-says}
 use Rattle.reader.proofs.Branches.{for-full, for-ready, for-says}
 use borrow.Author.Needs.{needs}

@@ -1,0 +1,297 @@
+-- Texts and what they are answered: a table of short texts and one of long ones, every line of them computed.
+-- Assumes nothing.
+use mathlib.Core.Path.{_≡_, refl}
+use mathlib.Core.Bool.{true, false}
+use mathlib.Core.List.{List, [], _∷_, _++_, map}
+use lib.ListN.{replicate}
+use Prim.Native.Nat.{ℕ, zero, suc}
+use Prim.Native.Char.{code}
+use Prim.Native.String as S
+use Prim.Native.String.{String}
+use Rattle.notation.specs.Bytes.{bytes, sameWord}
+use Rattle.notation.specs.Tokens.{reserved, wordIn, wordToken}
+use Rattle.notation.specs.Notation.{Tree}
+use Rattle.notation.specs.Rules.{sameKind, allowed, nameCounts, view, has, elem}
+use Rattle.notation.specs.Model.{Expr, lit, star, shared, row, neg, conj, disj, skipRow, putRow, skip, put, for, Model}
+use Rattle.notation.specs.Texts.{placeOf, among, nameOf, exprOf, rowItemOf, rowItemsOf, itemOf, itemsOf, commandOf, clauseOf, modelOf}
+use Rattle.notation.specs.working.Lexing.{span, mark, front, lexemes, tokensFrom}
+use Rattle.notation.specs.working.Ledger.{tally, note, exceeds, fault}
+use Rattle.notation.specs.working.Table.{lines, skips, find, step, ending}
+use Rattle.notation.specs.working.Machine.{Outcome, read, refused, reads}
+use Rattle.notation.specs.working.Answer.{answer}
+
+-- What is expected of a text: the model that it says; that it says some model; or its first refusal, by number and place.
+pub data Expected : Type 0 where
+  saysModel : Model → Expected
+  isRead : Expected
+  isRefused : ℕ → ℕ → Expected
+
+pub record Case : Type 0 where
+  pub text : List ℕ
+  pub expected : Expected
+
+infix 68 _gives_
+abbrev pub _gives_ : List ℕ → Expected → Case
+_gives_ t e = record { text = t; expected = e }
+
+-- What came of a text, told as far as was expected: its model only where one is named.
+abbrev pub cameRead : Expected → Tree → Expected
+cameRead (saysModel m) x = saysModel (modelOf x)
+cameRead isRead x = isRead
+cameRead (isRefused n i) x = isRead
+
+abbrev pub came : Expected → Outcome → Expected
+came e (read x) = cameRead e x
+came e (refused n i) = isRefused n i
+
+-- The paper's models G and H, which differ in one expression.
+abbrev pub granting : Expr → Model
+granting e = record {
+  sharedNames = 1;
+  rowNames = 2;
+  start = record { whole = shared 0; each = neg (row 1) };
+  keep = record { whole = lit true; each = neg (conj (row 0) (row 1)) };
+  commands = record {
+    test = shared 0;
+    doItems = for (lit true) (putRow 0 (star 0) ∷ putRow 1 e ∷ []) (skipRow ∷ []) ∷ [];
+    elseItems = skip ∷ [];
+  } ∷ [];
+}
+
+-- Texts that begin with these 50 bytes, and the model of one with stars in two commands.
+abbrev pub begun : String → List ℕ
+begun s = bytes "shared m. row w x. start 1 each 1. keep 1 each 1. " ++ bytes s
+
+abbrev pub starred : Model
+starred = record {
+  sharedNames = 1;
+  rowNames = 2;
+  start = record { whole = lit true; each = lit true };
+  keep = record { whole = lit true; each = lit true };
+  commands =
+      record {
+        test = star 0;
+        doItems = for (star 1) (putRow 1 (star 2) ∷ putRow 0 (conj (row 1) (star 3)) ∷ []) (putRow 0 (star 4) ∷ []) ∷ put 0 (star 5) ∷ [];
+        elseItems = put 0 (disj (star 6) (star 7)) ∷ [];
+      } ∷
+      record { test = lit true; doItems = skip ∷ put 0 (neg (star 0)) ∷ []; elseItems = skip ∷ [] } ∷
+      [];
+}
+
+-- Texts with this in `start`, and their models.
+abbrev pub starting : String → List ℕ
+starting s = bytes "shared m n. row w. start " ++ bytes s ++ bytes " each w. keep 1 each 0. command c if 1 do skip else skip."
+
+abbrev pub startsWith : Expr → Model
+startsWith e = record {
+  sharedNames = 2;
+  rowNames = 1;
+  start = record { whole = e; each = row 0 };
+  keep = record { whole = lit true; each = lit false };
+  commands = record { test = lit true; doItems = skip ∷ []; elseItems = skip ∷ [] } ∷ [];
+}
+
+unfoldable pub cases : List Case
+cases =
+    -- the paper's G, H and empty text
+    bytes "shared m. row w x.\nstart m each not x.\nkeep 1 each not (w and x).\ncommand grant if m do\nfor 1 do w := *; x := * else skip end else skip.\n" gives saysModel (granting (star 1)) ∷
+    bytes "shared m. row w x.\nstart m each not x.\nkeep 1 each not (w and x).\ncommand grant if m do\nfor 1 do w := *; x := not w and * else skip end else skip.\n" gives saysModel (granting (conj (neg (row 0)) (star 1))) ∷
+    bytes "" gives isRefused 3 0 ∷
+    -- how expressions group: parentheses first, then `not`, `and`, `or`, and each operator from the left
+    starting "m and n and 0" gives saysModel (startsWith (conj (conj (shared 0) (shared 1)) (lit false))) ∷
+    starting "m or n or 0" gives saysModel (startsWith (disj (disj (shared 0) (shared 1)) (lit false))) ∷
+    starting "m or n and 0" gives saysModel (startsWith (disj (shared 0) (conj (shared 1) (lit false)))) ∷
+    starting "m and n or 0" gives saysModel (startsWith (disj (conj (shared 0) (shared 1)) (lit false))) ∷
+    starting "m and (n and 0)" gives saysModel (startsWith (conj (shared 0) (conj (shared 1) (lit false)))) ∷
+    starting "(m or n) and 0" gives saysModel (startsWith (conj (disj (shared 0) (shared 1)) (lit false))) ∷
+    starting "not m and n" gives saysModel (startsWith (conj (neg (shared 0)) (shared 1))) ∷
+    starting "not (m and n) or not not 1" gives saysModel (startsWith (disj (neg (conj (shared 0) (shared 1))) (neg (neg (lit true))))) ∷
+    -- stars are numbered on through the branches of `for` and past `else`, and from 0 in each command
+    begun "command c if * do for * do x := *; w := x and * else w := * end; m := * else m := * or *. command d if 1 do skip; m := not * else skip." gives saysModel starred ∷
+    -- bytes outside the notation, neighbours of those inside among them: such a byte ends a word, and is refused where it stands
+    bytes "/" gives isRefused 2 0 ∷
+    bytes "@" gives isRefused 2 0 ∷
+    bytes "[" gives isRefused 2 0 ∷
+    bytes "`" gives isRefused 2 0 ∷
+    bytes "{" gives isRefused 2 0 ∷
+    bytes "^" gives isRefused 2 0 ∷
+    bytes "-" gives isRefused 2 0 ∷
+    bytes "," gives isRefused 2 0 ∷
+    bytes "+" gives isRefused 2 0 ∷
+    bytes "<" gives isRefused 2 0 ∷
+    bytes ">" gives isRefused 2 0 ∷
+    bytes "'" gives isRefused 2 0 ∷
+    bytes "shared\tm." gives isRefused 2 6 ∷
+    bytes "shared m.\r\n" gives isRefused 2 9 ∷
+    bytes "shared ab-cd." gives isRefused 2 9 ∷
+    bytes "sha-red m." gives isRefused 3 0 ∷
+    bytes "shared m. row w.#" gives isRefused 2 16 ∷
+    begun "command c if 1&1" gives isRefused 2 64 ∷
+    begun "command c if 1 do skip else skip.!" gives isRefused 2 83 ∷
+    -- words of 16 bytes and of 17, in every kind of place
+    bytes "shared abcdefghijklmnop. row. start abcdefghijklmnop each 1. keep 1 each 1. command ABCDEFGHIJKLMNOP if 1 do skip else skip." gives isRead ∷
+    bytes "shared abcdefghijklmnopq." gives isRefused 2 7 ∷
+    bytes "sharedsharedshared m." gives isRefused 2 0 ∷
+    bytes "shared m 0000000000000000." gives isRefused 3 9 ∷
+    bytes "shared m 00000000000000000." gives isRefused 2 9 ∷
+    begun "command c if 1 a2345678901234567" gives isRefused 2 65 ∷
+    begun "command c if 1 do skip else skip. _2345678901234567" gives isRefused 2 84 ∷
+    -- marks and words that have no use
+    bytes ":" gives isRefused 3 0 ∷
+    bytes "=" gives isRefused 3 0 ∷
+    bytes "shared m: n" gives isRefused 3 8 ∷
+    begun "command c if 1 do m = 1" gives isRefused 3 70 ∷
+    begun "command c if 1 do m : = 1" gives isRefused 3 70 ∷
+    begun "command c if 1 do m :== 1" gives isRefused 3 72 ∷
+    begun "command c if 1 do m ::= 1" gives isRefused 3 70 ∷
+    bytes "shared 0m." gives isRefused 3 7 ∷
+    bytes "shared _m." gives isRefused 3 7 ∷
+    bytes "shared 9." gives isRefused 3 7 ∷
+    bytes "shared m. row. start 2" gives isRefused 3 21 ∷
+    bytes "shared m. row. start 00" gives isRefused 3 21 ∷
+    bytes "shared m. row. start 1m" gives isRefused 3 21 ∷
+    bytes "shared m. row. start _" gives isRefused 3 21 ∷
+    bytes "Shared m." gives isRefused 3 0 ∷
+    -- texts that end too soon: the place is the length, with the blanks at the end
+    bytes "shared m" gives isRefused 3 8 ∷
+    bytes "shared m  " gives isRefused 3 10 ∷
+    bytes "shared m.\n" gives isRefused 3 10 ∷
+    bytes " " gives isRefused 3 1 ∷
+    bytes "\n\n" gives isRefused 3 2 ∷
+    begun "" gives isRefused 3 50 ∷
+    begun "command c if 1 do skip else skip" gives isRefused 3 82 ∷
+    begun "command c if 1 do skip else skip \n" gives isRefused 3 84 ∷
+    -- tokens in the wrong place, whatever else is wrong with them
+    bytes "row" gives isRefused 3 0 ∷
+    bytes "  ." gives isRefused 3 2 ∷
+    bytes "shared row." gives isRefused 3 7 ∷
+    bytes "shared m. start" gives isRefused 3 10 ∷
+    bytes "shared m. row w. keep" gives isRefused 3 17 ∷
+    bytes "shared m. row w. start each" gives isRefused 3 23 ∷
+    bytes "shared m. row w. start 1." gives isRefused 3 24 ∷
+    bytes "shared m. row w. start m m" gives isRefused 3 25 ∷
+    bytes "shared m. row w. start m z" gives isRefused 3 25 ∷
+    bytes "shared m. row w. start m not" gives isRefused 3 25 ∷
+    bytes "shared m. row w. start m and or" gives isRefused 3 29 ∷
+    bytes "shared m. row w. start m := 1" gives isRefused 3 25 ∷
+    bytes "shared m. row w. start ()" gives isRefused 3 24 ∷
+    bytes "shared m. row w. start (m each" gives isRefused 3 26 ∷
+    bytes "shared m. row w. start m)" gives isRefused 3 24 ∷
+    bytes "shared *" gives isRefused 3 7 ∷
+    bytes "shared m. row w. start m *" gives isRefused 3 25 ∷
+    begun "command if" gives isRefused 3 58 ∷
+    begun "command c do" gives isRefused 3 60 ∷
+    begun "command c if 1 do else" gives isRefused 3 68 ∷
+    begun "command c if 1 do *" gives isRefused 3 68 ∷
+    begun "command c if 1 do 1" gives isRefused 3 68 ∷
+    begun "command c if 1 do skip; else" gives isRefused 3 74 ∷
+    begun "command c if 1 do skip." gives isRefused 3 72 ∷
+    begun "command c if 1 do skip end" gives isRefused 3 73 ∷
+    begun "command c if 1 do for 1 do for" gives isRefused 3 77 ∷
+    begun "command c if 1 do for 1 do skip else skip." gives isRefused 3 91 ∷
+    begun "command c if 1 do skip else skip. skip" gives isRefused 3 84 ∷
+    begun "command c if 1 do skip else skip.." gives isRefused 3 83 ∷
+    -- names declared twice, also where the second is over a limit, and where more is wrong after it
+    bytes "shared m m" gives isRefused 4 9 ∷
+    bytes "shared m. row w m" gives isRefused 4 16 ∷
+    bytes "shared m. row w w" gives isRefused 4 16 ∷
+    begun "command m" gives isRefused 4 58 ∷
+    begun "command x" gives isRefused 4 58 ∷
+    begun "command c if 1 do skip else skip. command c" gives isRefused 4 92 ∷
+    bytes "shared a b c d e f g h h" gives isRefused 4 23 ∷
+    bytes "shared. row a b c d e f g h i j a" gives isRefused 4 32 ∷
+    bytes "shared a b c d e f g h. row i j k l a" gives isRefused 4 36 ∷
+    bytes "shared m m @" gives isRefused 4 9 ∷
+    -- names that are unknown, or not of the kind wanted
+    bytes "shared m. row w. start z" gives isRefused 5 23 ∷
+    bytes "shared m. row w. start M" gives isRefused 5 23 ∷
+    bytes "shared m. row w. start w" gives isRefused 5 23 ∷
+    bytes "shared m. row w. start m each w and z" gives isRefused 5 36 ∷
+    bytes "shared m. row w. start 1 each 1. keep w" gives isRefused 5 38 ∷
+    begun "command c if x" gives isRefused 5 63 ∷
+    begun "command c if c" gives isRefused 5 63 ∷
+    begun "command c if 1 do x := 1" gives isRefused 5 68 ∷
+    begun "command c if 1 do c := 1" gives isRefused 5 68 ∷
+    begun "command c if 1 do z := 1" gives isRefused 5 68 ∷
+    begun "command c if 1 do m := w" gives isRefused 5 73 ∷
+    begun "command c if 1 do for c" gives isRefused 5 72 ∷
+    begun "command c if 1 do for w do m := 1" gives isRefused 5 77 ∷
+    begun "command c if 1 do for w do x := c" gives isRefused 5 82 ∷
+    begun "command c if 1 do skip else skip. command d if c" gives isRefused 5 97 ∷
+    -- stars in `start` and `keep`
+    bytes "shared m. row w. start *" gives isRefused 6 23 ∷
+    bytes "shared m. row w. start m and not *" gives isRefused 6 33 ∷
+    bytes "shared m. row w. start m each (*" gives isRefused 6 31 ∷
+    bytes "shared m. row w. start m each w. keep *" gives isRefused 6 38 ∷
+    bytes "shared m. row w. start m each w. keep m each w or *" gives isRefused 6 50 ∷
+    -- as many names as there may be, and one more
+    bytes "shared a b c d e f g h. row i j k l. start a and h each i or l. keep 1 each 1. command m if 1 do skip else skip." gives isRead ∷
+    bytes "shared a b. row d e f g h i j k l m. start 1 each 1. keep 1 each 1. command c if 1 do skip else skip." gives isRead ∷
+    bytes "shared a b c d e f g h. row. start 1 each 1. keep 1 each 1. command i if 1 do skip else skip." gives isRead ∷
+    bytes "shared. row a b d e f g h i j k. start 1 each 1. keep 1 each 1. command c if 1 do skip else skip." gives isRead ∷
+    bytes "shared a b c d e f g h i" gives isRefused 7 23 ∷
+    bytes "shared. row a b c d e f g h i j k" gives isRefused 7 32 ∷
+    bytes "shared a b c d e f g h. row i j k l m" gives isRefused 7 36 ∷
+    bytes "shared a b c. row d e f g h i j k l m" gives isRefused 7 36 ∷
+    -- nesting by parentheses, by `not` and by both, as deep as it may be and deeper
+    bytes "shared m. row. start ((((((((((((((((m)))))))))))))))) each 1. keep 1 each 1. command c if 1 do skip else skip." gives isRead ∷
+    bytes "shared m. row. start (((((((((((((((((m))))))))))))))))) each 1. keep 1 each 1. command c if 1 do skip else skip." gives isRefused 7 37 ∷
+    bytes "shared m. row. start not not not not not not not not not not not not not not not not m each 1. keep 1 each 1. command c if 1 do skip else skip." gives isRead ∷
+    bytes "shared m. row. start not not not not not not not not not not not not not not not not not m each 1. keep 1 each 1. command c if 1 do skip else skip." gives isRefused 7 85 ∷
+    bytes "shared m. row. start not(not(not(not(not(not(not(not(m)))))))) and not(not(not(not(not(not(not(not(m)))))))) each 1. keep 1 each 1. command c if 1 do skip else skip." gives isRead ∷
+    bytes "shared m. row. start not(not(not(not(not(not(not(not(m and not m" gives isRefused 7 59 ∷
+    bytes "shared m. row. start not(not(not(not(not(not(not(not(m and (m" gives isRefused 7 59 ∷
+    bytes "shared m. row. start m each ((((((((((((((((not m" gives isRefused 7 44 ∷
+    -- eight stars in each command, and a ninth
+    begun "command c if * do m := * and * else for * do x := * else x := * end; m := * or *. command d if * do m := * and * and * and * and * and * and * else skip." gives isRead ∷
+    begun "command c if * do m := * and * else for * do x := * else x := * end; m := * or * or *." gives isRefused 7 134 ∷
+    begun "command c if * and * and * and * and * and * and * and * and * do" gives isRefused 7 111 ∷
+    -- every end of the letters and digits; no names; no blanks; many; names like reserved words
+    bytes "shared A_0 Z. row a z_9 z. start A_0 and Z each a or z_9. keep Z each z. command Zz if Z do Z := A_0 else skip." gives isRead ∷
+    bytes "shared. row. start 1 each 0. keep 1 each 0. command c if 1 do skip else skip." gives isRead ∷
+    bytes "shared m.row w.start(m)each(w).keep(1)each(1).command c if(m)do m:=not(m);skip else skip." gives isRead ∷
+    bytes "\nshared\nm .\n row\n\n.start 1\neach 1 .keep 1 each 1.command c if 1 do skip else skip . \n " gives isRead ∷
+    bytes "shared m M mm shared1 Row. row rows. start M each rows. keep mm each 1. command commands if Row do skip else skip." gives isRead ∷
+    []
+
+pub all-cases : map (λ (c : Case). came (c .expected) (answer (c .text))) cases ≡ map (λ (c : Case). c .expected) cases
+unfolding bytes sameWord reserved wordIn wordToken sameKind allowed nameCounts view has elem placeOf among nameOf exprOf rowItemOf rowItemsOf itemOf itemsOf commandOf clauseOf modelOf
+    span mark front lexemes tokensFrom tally note exceeds fault lines skips find step ending reads answer cases
+all-cases = refl
+
+-- n times the same bytes, and a command of 34 bytes for each letter.
+abbrev pub times : ℕ → String → List ℕ
+times zero s = []
+times (suc n) s = bytes s ++ times n s
+
+abbrev pub eachNamed : String → List ℕ
+eachNamed S.[] = []
+eachNamed (S._∷_ c s) = bytes "command " ++ (code c ∷ bytes " if 1 do skip else skip. " ++ eachNamed s)
+
+-- So many spaces.
+abbrev pub blanks : ℕ → List ℕ
+blanks n = replicate n (code " ")
+
+unfoldable pub longCases : List Case
+longCases =
+    -- 16 commands, and 17
+    (begun "" ++ eachNamed "ABCDEFGHIJKLMNOP") gives isRead ∷
+    (begun "" ++ eachNamed "ABCDEFGHIJKLMNOPQ") gives isRefused 7 594 ∷
+    -- 256 items, and 257: `skip`, assignments, `for` and the items in it
+    (begun "command c if 1 do " ++ times 254 "skip; " ++ bytes "skip else skip.") gives isRead ∷
+    (begun "command c if 1 do " ++ times 255 "skip; " ++ bytes "skip else skip.") gives isRefused 7 1608 ∷
+    (begun "command c if 1 do " ++ times 84 "for w do x := 1 else skip end; " ++ bytes "m := 1; m := 0; skip else m := 1.") gives isRead ∷
+    (begun "command c if 1 do " ++ times 84 "for w do x := 1 else skip end; " ++ bytes "m := 1; m := 0; skip else m := 1; for") gives isRefused 7 2706 ∷
+    -- 1,024 nodes, and 1,025: five before `do`, then two, then three in each repetition
+    (begun "command c if 1 do m := not *" ++ times 339 " or not 0" ++ bytes " else skip.") gives isRead ∷
+    (begun "command c if 1 do m := not *" ++ times 339 " or not 0" ++ bytes " or 1") gives isRefused 7 3130 ∷
+    -- 16,384 bytes, and 16,385
+    (begun "command c if 1 do skip else skip." ++ blanks 16301) gives isRead ∷
+    (begun "command c if 1 do skip else skip." ++ blanks 16302) gives isRefused 1 16384 ∷
+    blanks 16384 gives isRefused 3 16384 ∷
+    times 16385 "@" gives isRefused 1 16384 ∷
+    []
+
+pub all-long-cases : map (λ (c : Case). came (c .expected) (answer (c .text))) longCases ≡ map (λ (c : Case). c .expected) longCases
+unfolding bytes sameWord reserved wordIn wordToken sameKind allowed nameCounts view has elem span mark front lexemes tokensFrom tally note exceeds fault lines skips find step ending reads answer longCases
+all-long-cases = refl

@@ -1,0 +1,49 @@
+-- A command's body: `if`, and then a test with its two branches.
+-- Assumes nothing.
+use mathlib.Core.Path.{_≡_, refl, sym, ap, _∙_, subst}
+use mathlib.Core.Bool.{true, false}
+use mathlib.Core.List.{List}
+use Prim.Native.Nat.{ℕ, _+_, _≤_}
+use native.Mathlib.Omega.{arith}
+use lib.ListN.{length}
+use Rattle.notation.specs.Notation.{freeShared, Item}
+use Rattle.notation.specs.working.Table.{lit}
+use Rattle.notation.specs.working.Descent.{Got, stop, thenReads, reader, orReader}
+use Rattle.reader.specs.declared.cursor.Cursor.{Cursor}
+use Rattle.reader.specs.declared.cursor.Ledger.{Ledger}
+use Rattle.reader.specs.declared.cursor.Scope.{Scope}
+use Rattle.reader.specs.declared.cursor.Parsed.{Parsed}
+use Rattle.reader.specs.declared.cursor.Parsed.the-variants.{Ok, Refused}
+use Rattle.reader.specs.working.Pieces.{listed}
+use Rattle.reader.specs.working.Cursors.{bookOf, Expected, Ready, Says}
+use Rattle.reader.specs.working.Expressions.{orAt}
+use Rattle.reader.specs.working.Items.{itemsWords}
+use Rattle.reader.specs.working.Sequences.{Tested, tested, testedWords, allItems}
+use Rattle.reader.specs.working.Commands.{bodyReader, BodySays}
+use Rattle.reader.proofs.Factors.{expected-ok, expected-bad}
+use Rattle.reader.proofs.Sequences.{says-from, past-ready}
+
+-- Where a command's test stands.
+abbrev pub inTable : Scope
+inTable = record { rows = false; stars = true }
+
+module _ (text names : List ℕ) (l : Ledger) (c : Cursor) (r : Ready text l 3 c) where
+  abbrev G : Got (Tested Item)
+  G = bodyReader (length text) (listed text (c .next)) (bookOf text names l c)
+
+  abbrev rest : Got (Unit {0}) → Got (Tested Item)
+  rest o = thenReads o (λ u ts b. tested (length text) (allItems (length text)) 18 (orReader (length text) freeShared 0 ts b))
+
+  pub body-bad : (n i : ℕ) → Expected text c 6 (Refused n i) → G ≡ stop n i
+  body-bad n i e = ap rest (expected-bad text names l c 6 n i (r .fresh) e)
+
+  module _ (d : Cursor) (e : Expected text c 6 (Ok d)) where
+    pub body-ready : Ready text l 3 d
+    unfolding Expected
+    body-ready = past-ready text names l 3 3 c d (c .items) (c .nodes) (c .stars) r (e .1) (r .items) (r .nodes) (r .stars) (r .room)
+
+    pub body-says : (p a : List ℕ) (y : Parsed) → Says text names l (testedWords text names l (itemsWords text names l)) 3 d p (tested (length text) (allItems (length text)) 18 (orAt text names inTable l 16 d)) a y → BodySays text names l c p a y
+    unfolding Expected
+    body-says p a y h =
+        says-from text names l (testedWords text names l (itemsWords text names l)) 3 3 c d (c .items) (c .nodes) p G a y (e .1) (omega arith) (omega arith) (omega arith)
+        (subst (λ (o : Got (Tested Item)). Says text names l (testedWords text names l (itemsWords text names l)) 3 d p o a y) (sym (ap rest (expected-ok text names l c 6 d (omega arith) e))) h)

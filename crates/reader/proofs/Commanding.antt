@@ -1,0 +1,160 @@
+-- A command: its title and its body, and what is stored of it.
+-- Assumes nothing.
+use mathlib.Core.Path.{_≡_, refl, sym, ap, _∙_, subst}
+use mathlib.Core.List.{List, [], _∷_, _++_, append-assoc, append-nil, map}
+use Prim.Native.Nat.{ℕ, suc, _+_, _*_, _≤_, _<_}
+use native.Mathlib.Omega.{arith}
+use lib.ListN.{length, set, length-set}
+use lib.Seq.{sets}
+use Rattle.notation.specs.Tokens.{Word, Name}
+use Rattle.notation.specs.Notation.{Expr, Item, Command, command′}
+use Rattle.notation.specs.Texts.{Numbered, exprOf, itemsOf, commandOf}
+use Rattle.notation.specs.Layout.{commandCode, endsFrom, joined}
+use Rattle.notation.specs.working.Descent.{Got, got, stop, thenReads}
+use Rattle.reader.specs.declared.cursor.Cursor.{Cursor}
+use Rattle.reader.specs.declared.cursor.Ledger.{Ledger}
+use Rattle.reader.specs.declared.cursor.Parsed.{Parsed}
+use Rattle.reader.specs.declared.cursor.Parsed.the-variants.{Ok, Refused}
+use Rattle.reader.specs.declared.clauses.Declared.{Declared}
+use Rattle.reader.specs.declared.clauses.Declared.the-variants as D
+use Rattle.reader.specs.working.Pieces.{listed}
+use Rattle.reader.specs.working.Names.{sharedWords, rowWords}
+use Rattle.reader.specs.working.Cursors.{bookOf, Ready, Done, Says}
+use Rattle.reader.specs.working.Expressions.{exprWords}
+use Rattle.reader.specs.working.Items.{itemsWords}
+use Rattle.reader.specs.working.Clauses.{placed}
+use Rattle.reader.specs.working.Sequences.{Tested, testedWords}
+use Rattle.reader.specs.working.Commands.{withCommands, Naming, titleAt, Titled, TitleSays, bodyReader, BodySays, commandWords, starsIn, commandAt, oneAt, Arrays, arrays, storedIn, Commanded, CommandsSay}
+use Rattle.reader.proofs.Done.{done-ready}
+use Rattle.reader.proofs.Lookup.{words-kept}
+
+-- A command made of its name and its body.
+abbrev pub made : Name → Tested Item → Command
+made n v = command′ n (v .one) (v .two .one) (v .two .two)
+
+-- The names stored before are as they were.
+module _ (text names : List ℕ) (j : ℕ) (n : Name) (few : j < 28) where
+  pub kept-shared : (l : Ledger) → l .shared ≤ j → sharedWords text (placed names j (n ∷ [])) l ≡ sharedWords text names l
+  unfolding placed
+  kept-shared l h = words-kept text names j (n .place) (length (n .word)) few 0 (l .shared) (omega arith)
+
+  pub kept-row : (l : Ledger) → l .shared + l .row ≤ j → rowWords text (placed names j (n ∷ [])) l ≡ rowWords text names l
+  unfolding placed
+  kept-row l h = words-kept text names j (n .place) (length (n .word)) few (l .shared) (l .row) (omega arith)
+
+pub placed-length : (names : List ℕ) (j : ℕ) (n : Name) → length (placed names j (n ∷ [])) ≡ length names
+unfolding placed
+placed-length names j n = simp length-set
+
+-- The code of a body is that of the command, and its stars are the command's.
+module _ (text names : List ℕ) (l : Ledger) (n : Name) (v : Tested Item) where
+  body-words : testedWords text names l (itemsWords text names l) 0 v .is ≡ commandWords (sharedWords text names l) (rowWords text names l) (l .shared) (made n v)
+  unfolding exprWords itemsWords commandOf commandCode
+  body-words = simp append-assoc
+
+  body-stars : testedWords text names l (itemsWords text names l) 0 v .next ≡ starsIn (sharedWords text names l) (rowWords text names l) (made n v)
+  unfolding exprWords itemsWords
+  body-stars = refl
+
+module _ (text names ops ends stars : List ℕ) (l : Ledger) (c : Cursor) (g : Naming text names l c) (titled : Declared) (names′ : List ℕ) (h : TitleSays text names l c names′ titled) where
+  abbrev S : Arrays
+  S = arrays names ops ends stars
+
+  pub title-refused : (n i : ℕ) (s : Arrays) → titled ≡ D.Refused n i → CommandsSay text l c S (oneAt text names l c) s titled
+  unfolding TitleSays CommandsSay
+  title-refused n i s e = subst (λ (z : Declared). CommandsSay text l c S (oneAt text names l c) s z) (sym e) (ap (λ (o : Got Name). thenReads (thenReads o (λ n ts b. thenReads (bodyReader (length text) ts b) (λ v ts b. got (made n v) ts b))) (λ x ts b. got (x ∷ []) ts b)) (subst (λ (z : Declared). TitleSays text names l c names′ z) e h))
+
+  module _ (d : Cursor) (l′ : Ledger) (e : titled ≡ D.Ok d l′) where
+    abbrev T : Titled text names l c names′ d l′
+    unfolding TitleSays
+    T = subst (λ (z : Declared). TitleSays text names l c names′ z) e h
+
+    same : d ≡ record { next = d .next; emitted = c .emitted; items = c .items; nodes = c .nodes; stars = 0 }
+    same = T .same
+
+    pub title-ready : Ready text l′ 3 d
+    title-ready = subst (λ (z : Ledger). Ready text z 3 d) (sym (T .ledger)) (record {
+      fits = g .ready .fits;
+      fresh = T .fresh;
+      names = g .ready .names;
+      commands = omega (arith, T .few);
+      items = subst (λ (z : Cursor). z .items ≤ 256) (sym same) (g .ready .items);
+      nodes = subst (λ (z : Cursor). z .nodes ≤ 1024) (sym same) (g .ready .nodes);
+      stars = subst (λ (z : Cursor). z .stars ≤ 8) (sym same) (omega arith);
+      room = subst (λ (z : Cursor). z .emitted + 3 ≤ z .nodes + 3 * z .items + 3 * (l .commands + 1)) (sym same) (omega (arith, g .ready .room));
+    })
+
+    pub title-few : l .commands < 16
+    title-few = T .few
+
+    abbrev body : Got (Tested Item)
+    body = bodyReader (length text) (listed text (d .next)) (bookOf text names′ l′ d)
+
+    titled-is : oneAt text names l c ≡ thenReads (thenReads body (λ v ts b. got (made (T .tree) v) ts b)) (λ x ts b. got (x ∷ []) ts b)
+    titled-is = ap (λ (o : Got Name). thenReads (thenReads o (λ n ts b. thenReads (bodyReader (length text) ts b) (λ v ts b. got (made n v) ts b))) (λ x ts b. got (x ∷ []) ts b)) (T .says)
+
+    pub body-refused : (ops′ : List ℕ) (s : Arrays) (read : Parsed) (n i : ℕ) → BodySays text names′ l′ d ops ops′ read → read ≡ Refused n i → CommandsSay text l c S (oneAt text names l c) s (D.Refused n i)
+    unfolding Says CommandsSay
+    body-refused ops′ s read n i b f = titled-is ∙ ap (λ (o : Got (Tested Item)). thenReads (thenReads o (λ v ts b. got (made (T .tree) v) ts b)) (λ x ts b. got (x ∷ []) ts b)) (subst (λ (z : Parsed). BodySays text names′ l′ d ops ops′ z) f b)
+
+    module _ (ops′ : List ℕ) (read : Parsed) (v : Cursor) (b : BodySays text names′ l′ d ops ops′ read) (f : read ≡ Ok v) where
+      abbrev W : ℕ → Tested Item → Numbered (List ℕ)
+      W = testedWords text names′ l′ (itemsWords text names′ l′)
+
+      done : Done text names′ l′ W 3 d ops body ops′ v
+      unfolding Says
+      done = subst (λ (z : Parsed). BodySays text names′ l′ d ops ops′ z) f b
+
+      pub command-small : (v .emitted < 65536) × (v .stars < 65536)
+      command-small = (omega (arith, title-ready .room, title-ready .commands, done .level, done .nodes, done .items), omega (arith, done .stars))
+
+      abbrev j : ℕ
+      j = l .shared + l .row + l .commands
+
+      abbrev x : Command
+      x = made (T .tree) (done .tree)
+
+      abbrev code : List ℕ
+      code = commandWords (sharedWords text names l) (rowWords text names l) (l .shared) x
+
+      shared-same : sharedWords text names′ l′ ≡ sharedWords text names l
+      shared-same = ap (λ (z : Ledger). sharedWords text names′ z) (T .ledger) ∙ ap (λ (z : List ℕ). sharedWords text z (withCommands 1 l)) (T .stored) ∙ kept-shared text names j (T .tree) (omega (arith, g .ready .names, T .few)) (withCommands 1 l) (omega arith)
+
+      row-same : rowWords text names′ l′ ≡ rowWords text names l
+      row-same = ap (λ (z : Ledger). rowWords text names′ z) (T .ledger) ∙ ap (λ (z : List ℕ). rowWords text z (withCommands 1 l)) (T .stored) ∙ kept-row text names j (T .tree) (omega (arith, g .ready .names, T .few)) (withCommands 1 l) (omega arith)
+
+      from-zero : d .stars ≡ 0
+      from-zero = ap (λ (z : Cursor). z .stars) same
+
+      from-place : d .emitted ≡ c .emitted
+      from-place = ap (λ (z : Cursor). z .emitted) same
+
+      words-are : W (d .stars) (done .tree) .is ≡ code
+      words-are =
+          ap (λ (k : ℕ). W k (done .tree) .is) from-zero ∙ body-words text names′ l′ (T .tree) (done .tree)
+          ∙ ap (λ (ws : List Word). commandWords ws (rowWords text names′ l′) (l′ .shared) x) shared-same
+          ∙ ap (λ (vs : List Word). commandWords (sharedWords text names l) vs (l′ .shared) x) row-same
+          ∙ ap (λ (z : Ledger). commandWords (sharedWords text names l) (rowWords text names l) (z .shared) x) (T .ledger)
+
+      stars-are : v .stars ≡ starsIn (sharedWords text names l) (rowWords text names l) x
+      stars-are =
+          done .numbered ∙ ap (λ (k : ℕ). W k (done .tree) .next) from-zero ∙ body-stars text names′ l′ (T .tree) (done .tree)
+          ∙ ap (λ (ws : List Word). starsIn ws (rowWords text names′ l′) x) shared-same ∙ ap (λ (vs : List Word). starsIn (sharedWords text names l) vs x) row-same
+
+      place-is : v .emitted ≡ c .emitted + length code
+      place-is = done .long ∙ ap (λ (i : ℕ). i + length (W (d .stars) (done .tree) .is)) from-place ∙ ap (λ (z : List ℕ). c .emitted + length z) words-are
+
+      ops-are : ops′ ≡ sets ops (c .emitted) code
+      ops-are = done .stored ∙ ap (λ (i : ℕ). sets ops i (W (d .stars) (done .tree) .is)) from-place ∙ ap (λ (z : List ℕ). sets ops (c .emitted) z) words-are
+
+      pub command-says : CommandsSay text l c S (oneAt text names l c) (arrays names′ ops′ (set ends (4 + l .commands) (v .emitted)) (set stars (l .commands) (v .stars))) (D.Ok v l′)
+      unfolding CommandsSay joined endsFrom
+      command-says = record {
+        tree = x ∷ [];
+        some = omega arith;
+        says = titled-is ∙ ap (λ (o : Got (Tested Item)). thenReads (thenReads o (λ v ts b. got (made (T .tree) v) ts b)) (λ x ts b. got (x ∷ []) ts b)) (done .says);
+        stored = λ t. arrays (T .stored t) ((ops-are ∙ ap (λ (z : List ℕ). sets ops (c .emitted) z) (sym (append-nil code))) t) (set ends (4 + l .commands) (place-is t)) (set stars (l .commands) (stars-are t));
+        place = place-is ∙ ap (λ (z : List ℕ). c .emitted + length z) (sym (append-nil code));
+        ledger = T .ledger;
+        naming = record { ready = done-ready text names′ l′ W 3 d ops body ops′ 0 v title-ready done; long = ap length (T .stored) ∙ placed-length names j (T .tree) ∙ g .long };
+      }

@@ -1,0 +1,231 @@
+-- Segments, a sign and an expression each, and clauses, which are two segments and a full stop.
+-- Assumes nothing.
+use mathlib.Core.Path.{_≡_, refl, sym, ap, _∙_, subst}
+use mathlib.Core.Bool.{Bool, true, false}
+use mathlib.Core.List.{List, [], _∷_}
+use Prim.Native.Nat.{ℕ, _+_, _<_}
+use native.Mathlib.Numerals.{add-one}
+use native.Mathlib.Omega.{arith}
+use lib.Dec.{eqb}
+use lib.ListN.{length, set}
+use lib.Seq.{sets}
+use borrow.Author.Tests.{eqb-true, eqb-false, eq-eqb, ne-eqb}
+use Rattle.notation.specs.Tokens.{Lexeme}
+use Rattle.notation.specs.Notation.{Mode, fixedShared, fixedRow, Expr, Clause, clause′}
+use Rattle.notation.specs.Texts.{Numbered}
+use Rattle.notation.specs.working.Ledger.{Book}
+use Rattle.notation.specs.working.Table as T
+use Rattle.notation.specs.working.Table.{find, lines, skips}
+use Rattle.notation.specs.working.Descent.{Got, got, stop, thenReads, reader, sequence, orReader}
+use Rattle.notation.proofs.Readers.{reader-token, then-then, then-ruling}
+use Rattle.reader.specs.declared.cursor.Cursor.{Cursor}
+use Rattle.reader.specs.declared.cursor.Ledger.{Ledger}
+use Rattle.reader.specs.declared.cursor.Scope.{Scope}
+use Rattle.reader.specs.declared.cursor.Parsed.{Parsed}
+use Rattle.reader.specs.declared.cursor.Parsed.the-variants.{Ok, Refused}
+use Rattle.reader.specs.working.Pieces.{listed}
+use Rattle.reader.specs.working.Cursors.{modeOf, bookOf, Expected, Ready, Done, Says}
+use Rattle.reader.specs.working.Expressions.{exprWords, SaysExpr, orAt}
+use Rattle.reader.specs.working.Clauses.{fixedIn, segmentAt, SegmentSays, clauseWords, clauseEnds, clauseAt, ClauseSays}
+use Rattle.reader.proofs.Symbols.{listed-sign, missing, lit-missing}
+use Rattle.reader.proofs.Done.{said-ok, said-bad, done-ready, then-bad}
+use Rattle.reader.proofs.Answers.{expected-said}
+use Rattle.reader.proofs.Factors.{expected-ok, expected-bad}
+use Rattle.reader.specs.working.Sequences.{Pair, pairOf, paired, pairing, signedBy}
+use Rattle.reader.proofs.Sequences.{says-pair, pair-bad, says-map, says-from, past-ready}
+
+-- ---- signs before and after what is read
+
+module _ (text names : List ℕ) (l : Ledger) where
+  -- A reader may be called past a sign.
+  pub sign-ready : (spare k : ℕ) (c d : Cursor) (sign : Parsed) → Ready text l spare c → Expected text c k sign → sign ≡ Ok d → Ready text l spare d
+  unfolding Expected
+  sign-ready spare k c d sign r h f = past-ready text names l spare spare c d (c .items) (c .nodes) (c .stars) r (expected-said text c k sign (Ok d) h f .1) (r .items) (r .nodes) (r .stars) (r .room)
+
+  -- A sign after what was read.
+  says-sign : {A : Type 0} (code : ℕ → A → Numbered (List ℕ)) (x : ℕ) (s : Cursor) (p : List ℕ) (g : Got A) (a : List ℕ) (c : Cursor) (k : ℕ) (y : Parsed) → k < 24 →
+      Done text names l code x s p g a c → Expected text c k y → Says text names l code x s p (signedBy (length text) k g) a y
+  unfolding Says Expected
+  says-sign code x s p g a c k (Refused n i) h d e =
+      ap (λ (o : Got _). signedBy (length text) k o) (d .says) ∙ ap (λ (o : Got (Unit {0})). thenReads o (λ u ts b. got (d .tree) ts b)) (expected-bad text names l c k n i (d .fresh) e)
+  says-sign code x s p g a c k (Ok v) h d e =
+      let same : v .emitted ≡ c .emitted = ap (λ (z : Cursor). z .emitted) (e .1 .is) in
+      let stars : v .stars ≡ c .stars = ap (λ (z : Cursor). z .stars) (e .1 .is) in
+      let nodes : v .nodes ≡ c .nodes = ap (λ (z : Cursor). z .nodes) (e .1 .is) in
+      let items : v .items ≡ c .items = ap (λ (z : Cursor). z .items) (e .1 .is) in
+      record {
+        tree = d .tree;
+        says = ap (λ (o : Got _). signedBy (length text) k o) (d .says) ∙ ap (λ (o : Got (Unit {0})). thenReads o (λ u ts b. got (d .tree) ts b)) (expected-ok text names l c k v h e);
+        stored = d .stored;
+        long = same ∙ d .long;
+        numbered = stars ∙ d .numbered;
+        level = omega (arith, d .level);
+        moreNodes = omega (arith, d .moreNodes);
+        moreItems = omega (arith, d .moreItems);
+        nodes = omega (arith, d .nodes);
+        items = omega (arith, d .items);
+        stars = omega (arith, d .stars);
+        fresh = e .1 .next .fresh;
+      }
+
+-- ---- a segment
+
+module _ (text names : List ℕ) (l : Ledger) (rows : Bool) (kind i : ℕ) (c : Cursor) (p e : List ℕ) where
+  abbrev At : Got Expr
+  At = segmentAt text names l rows kind c
+
+  abbrev SaysAt : List ℕ → List ℕ → Parsed → Type 0
+  SaysAt = SegmentSays text names l rows kind i c p e
+
+  -- An answer taken apart by what it is, and a refusal as an answer.
+  segment-ok : (a e′ : List ℕ) (y : Parsed) (d : Cursor) → SaysAt a e′ y → y ≡ Ok d → Done text names l (exprWords text names l) 0 c p At a d × (e′ ≡ set e i (d .emitted))
+  unfolding SegmentSays
+  segment-ok a e′ y d h f = subst (λ (z : Parsed). SaysAt a e′ z) f h
+
+  segment-bad : (a e′ : List ℕ) (y : Parsed) (n j : ℕ) → SaysAt a e′ y → y ≡ Refused n j → At ≡ stop n j
+  unfolding SegmentSays
+  segment-bad a e′ y n j h f = subst (λ (z : Parsed). SaysAt a e′ z) f h
+
+  segment-stops : (a e′ : List ℕ) (y : Parsed) (n j : ℕ) → y ≡ Refused n j → At ≡ stop n j → SaysAt a e′ y
+  unfolding SegmentSays
+  segment-stops a e′ y n j f h = subst (λ (z : Parsed). SaysAt a e′ z) (sym f) h
+
+  module _ (r : Ready text l 0 c) (small : kind < 24) (sign : Parsed) (h : Expected text c kind sign) where
+    pub sign-bad : (a e′ : List ℕ) (n j : ℕ) → sign ≡ Refused n j → SaysAt a e′ sign
+    sign-bad a e′ n j f =
+        segment-stops a e′ sign n j f
+        (then-bad (λ u ts b. orReader (length text) (fixedIn rows) 0 ts b) _ At n j refl (expected-bad text names l c kind n j (r .fresh) (expected-said text c kind sign (Refused n j) h f)))
+
+    module _ (v : Cursor) (f : sign ≡ Ok v) where
+      abbrev sc : Scope
+      sc = record { rows = rows; stars = false }
+
+      there : Expected text c kind (Ok v)
+      there = expected-said text c kind sign (Ok v) h f
+
+      mode-is : fixedIn rows ≡ modeOf sc
+      mode-is = go rows
+        where
+          go : (x : Bool) → fixedIn x ≡ record { rows = x; stars = false }
+          go true = refl
+          go false = refl
+
+      -- Past its sign, a segment is its expression.
+      goes : At ≡ orAt text names sc l 16 v
+      goes =
+          ap (λ (o : Got (Unit {0})). thenReads o (λ u ts b. orReader (length text) (fixedIn rows) 0 ts b)) (expected-ok text names l c kind v small there)
+          ∙ ap (λ (m : Mode). orReader (length text) m 0 (listed text (v .next)) (bookOf text names l v)) mode-is
+
+      module _ (a : List ℕ) (read : Parsed) (q : SaysExpr text names l v p (orAt text names sc l 16 v) a read) where
+        signed-says : SaysExpr text names l c p At a read
+        unfolding Expected
+        signed-says =
+            subst (λ (o : Got Expr). SaysExpr text names l c p o a read) (sym goes)
+            (says-from text names l (exprWords text names l) 0 0 c v (c .items) (c .nodes) p (orAt text names sc l 16 v) a read (there .1) (omega arith) (omega arith) (omega arith) q)
+
+        pub read-bad : (e′ : List ℕ) (n j : ℕ) → read ≡ Refused n j → SaysAt a e′ read
+        read-bad e′ n j g = segment-stops a e′ read n j g (said-bad text names l (exprWords text names l) 0 c p At a read n j signed-says g)
+
+        module _ (d : Cursor) (g : read ≡ Ok d) where
+          done : Done text names l (exprWords text names l) 0 c p At a d
+          done = said-ok text names l (exprWords text names l) 0 c p At a read d signed-says g
+
+          pub read-small : d .emitted < 65536
+          read-small = omega (arith, r .room, r .commands, done .level, done .nodes, done .items)
+
+          pub read-ok : SaysAt a (set e i (d .emitted)) (Ok d)
+          unfolding SegmentSays
+          read-ok = (done, refl)
+
+-- ---- a clause
+
+-- Two numbers stored one after the other.
+two-sets : (e e₁ e₂ : List ℕ) (i x y x′ y′ : ℕ) → e₁ ≡ set e i x → e₂ ≡ set e₁ (i + 1) y → x ≡ x′ → y ≡ y′ → e₂ ≡ sets e i (x′ ∷ y′ ∷ [])
+two-sets e e₁ e₂ i x y x′ y′ f g h k = cc (add-one i)
+
+module _ (text names : List ℕ) (l : Ledger) (kind i : ℕ) (c : Cursor) (r : Ready text l 0 c) (small : kind < 24) where
+  abbrev words : ℕ → Expr → Numbered (List ℕ)
+  words = exprWords text names l
+
+  -- The reader of the second segment, of both, and of the full stop after them.
+  abbrev each : List Lexeme → Book → Got Expr
+  each ts b = thenReads (reader (length text) (T.lit 4) ts b) (λ u ts b. orReader (length text) fixedRow 0 ts b)
+
+  abbrev both : Got (Pair Expr Expr)
+  both = pairing (segmentAt text names l false kind c) each
+
+  abbrev made : Pair Expr Expr → Clause
+  made v = clause′ (v .one) (v .two)
+
+  abbrev ended : Got (Pair Expr Expr) → Got Clause
+  ended g = thenReads (signedBy (length text) 18 g) (λ v ts b. got (made v) ts b)
+
+  -- A clause is its two segments and a full stop; where its first sign is missing, both are refused alike.
+  clause-is : clauseAt text names l kind c ≡ ended both
+  unfolding sequence find lines skips
+  clause-is = go (eqb (c .next .kind) kind) refl
+    where
+      go : (x : Bool) → eqb (c .next .kind) kind ≡ x → clauseAt text names l kind c ≡ ended both
+      go true u = rw (listed-sign text (c .next) kind (eqb-true (c .next .kind) kind u) small, reader-token (length text) (T.clause kind), reader-token (length text) (T.lit kind), eq-eqb kind kind refl) (simp (then-ruling, then-then))
+      go false u =
+          let k : (c .next .kind ≡ kind → ⊥) = eqb-false (c .next .kind) kind u in
+          missing text (c .next) (T.clause kind) (bookOf text names l c) (r .fresh) refl (rw (ne-eqb kind (c .next .kind) (λ z. k (sym z))) refl) (λ z. refl)
+          ∙ ap (λ (o : Got (Unit {0})). ended (pairing (thenReads o (λ u ts b. orReader (length text) fixedShared 0 ts b)) each)) (sym (lit-missing text (c .next) kind (bookOf text names l c) (r .fresh) k))
+
+  clause-stops : (p e a e′ : List ℕ) (y : Parsed) (n j : ℕ) → y ≡ Refused n j → both ≡ stop n j → ClauseSays text names l kind i c p e a e′ y
+  unfolding ClauseSays
+  clause-stops p e a e′ y n j f h = subst (λ (z : Parsed). ClauseSays text names l kind i c p e a e′ z) (sym f) (clause-is ∙ ap ended h)
+
+  module _ (p e a₁ e₁ : List ℕ) (whole : Parsed) (s₁ : SegmentSays text names l false kind i c p e a₁ e₁ whole) where
+    pub whole-bad : (n j : ℕ) → whole ≡ Refused n j → ClauseSays text names l kind i c p e a₁ e₁ whole
+    whole-bad n j f = clause-stops p e a₁ e₁ whole n j f (pair-bad text names l (segmentAt text names l false kind c) each n j (segment-bad text names l false kind i c p e a₁ e₁ whole n j s₁ f))
+
+    module _ (m : Cursor) (f₁ : whole ≡ Ok m) where
+      -- What the first segment gave; the second follows below.
+      first : Done text names l words 0 c p (segmentAt text names l false kind c) a₁ m × (e₁ ≡ set e i (m .emitted))
+      first = segment-ok text names l false kind i c p e a₁ e₁ whole m s₁ f₁
+
+      pub middle-ready : Ready text l 0 m
+      middle-ready = done-ready text names l words 0 c p (segmentAt text names l false kind c) a₁ 0 m r (first .0)
+
+      module _ (a₂ e₂ : List ℕ) (last : Parsed) (s₂ : SegmentSays text names l true 4 (i + 1) m a₁ e₁ a₂ e₂ last) where
+        pub each-bad : (n j : ℕ) → last ≡ Refused n j → ClauseSays text names l kind i c p e a₂ e₂ last
+        each-bad n j f =
+            clause-stops p e a₂ e₂ last n j f
+            (ap (λ (o : Got Expr). pairing o each) (first .0 .says) ∙ ap (λ (o : Got Expr). thenReads o (λ v ts b. got (pairOf (first .0 .tree) v) ts b)) (segment-bad text names l true 4 (i + 1) m a₁ e₁ a₂ e₂ last n j s₂ f))
+
+        module _ (d : Cursor) (f₂ : last ≡ Ok d) where
+          second : Done text names l words 0 m a₁ (segmentAt text names l true 4 m) a₂ d × (e₂ ≡ set e₁ (i + 1) (d .emitted))
+          second = segment-ok text names l true 4 (i + 1) m a₁ e₁ a₂ e₂ last d s₂ f₂
+
+          done-both : Done text names l (paired words words) 0 c p both a₂ d
+          unfolding Says
+          done-both = says-pair text names l words words 0 0 c m p a₁ (segmentAt text names l false kind c) each (first .0) a₂ (Ok d) (second .0)
+
+          says-all : (y : Parsed) → Expected text d 18 y → Says text names l (clauseWords text names l) 0 c p (clauseAt text names l kind c) a₂ y
+          says-all y h =
+              says-map text names l (paired words words) (clauseWords text names l) 0 c p (signedBy (length text) 18 both) (clauseAt text names l kind c) made a₂ y clause-is (λ v. refl)
+              (says-sign text names l (paired words words) 0 c p both a₂ d 18 y (omega arith) done-both h)
+
+          abbrev tree : Clause
+          tree = clause′ (first .0 .tree) (second .0 .tree)
+
+          tree-is : (v : Cursor) → Expected text d 18 (Ok v) → clauseAt text names l kind c ≡ got tree (listed text (v .next)) (bookOf text names l v)
+          tree-is v h =
+              clause-is ∙ ap (λ (o : Got Expr). ended (pairing o each)) (first .0 .says) ∙ ap (λ (o : Got Expr). ended (thenReads o (λ x ts b. got (pairOf (first .0 .tree) x) ts b))) (second .0 .says)
+              ∙ ap (λ (o : Got (Unit {0})). thenReads (thenReads o (λ u ts b. got (pairOf (first .0 .tree) (second .0 .tree)) ts b)) (λ v ts b. got (made v) ts b)) (expected-ok text names l d 18 v (omega arith) h)
+
+          -- The stored ends.
+          ends-are : e₂ ≡ sets e i (clauseEnds text names l (c .stars) (c .emitted) tree)
+          ends-are =
+              two-sets e e₁ e₂ i (m .emitted) (d .emitted) _ _ (first .1) (second .1) (first .0 .long)
+              (second .0 .long ∙ ap (λ (k : ℕ). k + length (words (m .stars) (second .0 .tree) .is)) (first .0 .long)
+              ∙ ap (λ (k : ℕ). c .emitted + length (words (c .stars) (first .0 .tree) .is) + length (words k (second .0 .tree) .is)) (first .0 .numbered))
+
+          pub clause-says : (y : Parsed) → Expected text d 18 y → ClauseSays text names l kind i c p e a₂ e₂ y
+          unfolding Says ClauseSays
+          clause-says (Refused n j) h = says-all (Refused n j) h
+          clause-says (Ok v) h =
+              let q : Done text names l (clauseWords text names l) 0 c p (clauseAt text names l kind c) a₂ v = says-all (Ok v) h in
+              let same : q .tree ≡ tree = cc (q .says, tree-is v h) in
+              record { done = q; ends = ends-are ∙ ap (λ (x : Clause). sets e i (clauseEnds text names l (c .stars) (c .emitted) x)) (sym same) }

@@ -1,0 +1,67 @@
+-- `declare_name` meets its contract: the look-up says whether the name is declared already, the counts whether it is one too many, and else it is stored as the next name.
+-- Assumes nothing.
+use Rattle.reader.proofs.Declaring.{name-again, name-many, row-full, shared-full, row-declared, shared-declared}
+use borrow.Author.Needs.{needs}
+use Rattle.reader.proofs.clauses.declare_name.Statement.{statement}
+use Rattle.reader.proofs.clauses.declare_name.Tie as tie
+
+add-n : tie.Need-add-n
+add-n c = search needs
+
+find-name-requires : tie.Need-find-name-requires
+find-name-requires c κs = search needs
+
+returns : tie.Need-returns
+returns c = name-again _ _ _ _ _ (c .before .before .before .before .before .pre .0) _ (c .before .find-name .ensures) _ (c .if1 .taken)
+
+returns-2 : tie.Need-returns-2
+returns-2 c = name-many _ _ _ _ _ (c .before .before .before .before .before .before .pre .0) _ (c .before .before .find-name .ensures) (c .before .if1 .left) _ (c .if2 .taken)
+
+returns-3 : tie.Need-returns-3
+returns-3 c = row-full _ _ _ _ _ (c .before .before .before .before .before .before .before .before .pre .0) _ (c .before .before .before .before .find-name .ensures) (c .before .before .before .if1 .left) _ (c .before .if3 .taken) (c .if4 .taken)
+
+declare-requires : tie.Need-declare-requires
+declare-requires c κs = search needs
+
+past-requires : tie.Need-past-requires
+past-requires c κs = search needs
+
+add-t18 : tie.Need-add-t18
+add-t18 c = search needs
+
+returns-4 : tie.Need-returns-4
+returns-4 c = row-declared _ _ _ _ _ (c .before .before .before .before .before .before .before .before .before .before .before .pre .0) _ (c .before .before .before .before .before .before .before .find-name .ensures) (c .before .before .before .before .before .before .if1 .left) (c .before .before .before .before .before .if2 .left) _ (c .past .ensures) _ (c .before .declare .ensures) (c .before .before .before .before .if3 .taken) (c .before .before .before .if4 .left)
+
+returns-5 : tie.Need-returns-5
+returns-5 c = shared-full _ _ _ _ _ (c .before .before .before .before .before .before .before .before .pre .0) _ (c .before .before .before .before .find-name .ensures) (c .before .before .before .if1 .left) _ (c .before .if3 .left) (c .if5 .taken)
+
+declare-requires-2 : tie.Need-declare-requires-2
+declare-requires-2 c κs = search needs
+
+past-requires-2 : tie.Need-past-requires-2
+past-requires-2 c κs = search needs
+
+add-t22 : tie.Need-add-t22
+add-t22 c = search needs
+
+returns-6 : tie.Need-returns-6
+returns-6 c = shared-declared _ _ _ _ _ (c .before .before .before .before .before .before .before .before .before .before .before .pre .0) _ (c .before .before .before .before .before .before .before .find-name .ensures) (c .before .before .before .before .before .before .if1 .left) (c .before .before .before .before .before .if2 .left) _ (c .past2 .ensures) _ (c .before .declare2 .ensures) (c .before .before .before .before .if3 .left) (c .before .before .before .if5 .left)
+
+pub declare-name-spec : {M : Type 1} → statement M
+declare-name-spec =
+    tie.close
+    (tie.spec
+    add-n
+    find-name-requires
+    returns
+    returns-2
+    returns-3
+    declare-requires
+    past-requires
+    add-t18
+    returns-4
+    returns-5
+    declare-requires-2
+    past-requires-2
+    add-t22
+    returns-6)

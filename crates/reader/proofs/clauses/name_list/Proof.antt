@@ -1,0 +1,52 @@
+-- `name_list` meets its contract: what the loop has still to read gives what all of it gave.
+-- Assumes nothing.
+use Prim.Native.Nat.{_+_, _-_}
+use borrow.Author.Needs.{needs}
+use Rattle.reader.proofs.NameLists.{Rest, rest-none, rest-stop, rest-bad, rest-more, rest-less}
+use Rattle.reader.proofs.clauses.name_list.Statement.{statement}
+use Rattle.reader.proofs.clauses.name_list.Tie as tie
+
+abbrev Inv-listed : tie.InvT-listed
+Inv-listed text names₀ rows cur₀ led₀ names cur led = Rest text rows names₀ led₀ cur₀ names led cur
+
+abbrev μ-listed : tie.MeasureT-listed
+μ-listed text names₀ rows cur₀ led₀ names cur led = 12 - (led .shared + led .row)
+
+listed-holds : tie.Need-listed-holds Inv-listed μ-listed
+listed-holds c = rest-none _ _ _ _ _ (c .before .pre)
+
+returns : tie.Need-returns Inv-listed μ-listed
+returns c = rest-stop _ _ _ _ _ _ _ _ (c .before .before .before .listed .inv) (c .if1 .taken)
+
+declare-name-requires : tie.Need-declare-name-requires Inv-listed μ-listed
+declare-name-requires c κs = (c .before .before .before .before .listed .inv .noted .listing, c .before .if1 .left)
+
+enum-known-one : tie.Need-enum-known-one Inv-listed μ-listed
+enum-known-one c = search needs
+
+enum-told : tie.Need-enum-told Inv-listed μ-listed
+enum-told c = search needs
+
+returns-2 : tie.Need-returns-2 Inv-listed μ-listed
+returns-2 c = rest-bad _ _ _ _ _ _ _ _ (c .before .before .before .before .before .before .before .listed .inv) (c .before .before .before .before .if1 .left) _ _ (c .before .before .declare-name .ensures) _ _ (c .enum-told .given .1)
+
+listed-less : tie.Need-listed-less Inv-listed μ-listed
+listed-less c = rest-less _ _ _ _ _ _ _ _ (c .before .before .before .before .before .before .before .before .listed .inv) (c .before .before .before .before .before .if1 .left) _ _ (c .before .before .before .declare-name .ensures) _ _ (c .before .one .given .1)
+
+listed-again : tie.Need-listed-again Inv-listed μ-listed
+listed-again c = rest-more _ _ _ _ _ _ _ _ (c .before .before .before .before .before .before .before .before .listed .inv) (c .before .before .before .before .before .if1 .left) _ _ (c .before .before .before .declare-name .ensures) _ _ (c .before .one .given .1)
+
+pub name-list-spec : {M : Type 1} → statement M
+name-list-spec =
+    tie.close
+    (tie.spec
+    Inv-listed
+    μ-listed
+    listed-holds
+    returns
+    declare-name-requires
+    enum-known-one
+    enum-told
+    returns-2
+    listed-less
+    listed-again)

@@ -1,0 +1,54 @@
+-- `commands` meets its contract: what the loop has still to read gives what all of it gave.
+-- Assumes nothing.
+use Prim.Native.Nat.{_-_}
+use native.Mathlib.Omega.{arith}
+use borrow.Author.Needs.{needs}
+use Rattle.reader.specs.working.Commands.{arrays}
+use Rattle.reader.proofs.CommandLists.{Going, going-none, going-bad, going-stop, going-less, going-more}
+use Rattle.reader.proofs.commands.commands.Statement.{statement}
+use Rattle.reader.proofs.commands.commands.Tie as tie
+
+abbrev Inv-each : tie.InvT-each
+Inv-each text names₀ ops₀ ends₀ stars₀ cur₀ led₀ names ops ends stars cur led = Going text led₀ cur₀ (arrays names₀ ops₀ ends₀ stars₀) led cur (arrays names ops ends stars)
+
+abbrev μ-each : tie.MeasureT-each
+μ-each text names₀ ops₀ ends₀ stars₀ cur₀ led₀ names ops ends stars cur led = 16 - led .commands
+
+each-holds : tie.Need-each-holds Inv-each μ-each
+each-holds c = going-none _ _ _ _ (c .before .pre .0) (c .before .pre .1)
+
+command-requires : tie.Need-command-requires Inv-each μ-each
+command-requires c κs = (c .before .before .before .before .each .inv .naming, c .before .before .before .before .each .inv .kind)
+
+enum-known-one : tie.Need-enum-known-one Inv-each μ-each
+enum-known-one c = search needs
+
+enum-told : tie.Need-enum-told Inv-each μ-each
+enum-told c = search needs
+
+returns : tie.Need-returns Inv-each μ-each
+returns c = going-bad _ _ _ _ _ _ _ (c .before .before .before .before .before .before .before .each .inv) _ _ _ _ (c .before .before .command .ensures) (c .enum-told .given .1)
+
+returns-2 : tie.Need-returns-2 Inv-each μ-each
+returns-2 c = going-stop _ _ _ _ _ _ _ (c .before .before .before .before .before .before .before .before .before .before .before .each .inv) _ _ _ _ (c .before .before .before .before .before .before .command .ensures) (c .before .before .before .before .one .given .1) (c .if1 .taken)
+
+each-less : tie.Need-each-less Inv-each μ-each
+each-less c = let z = going-less _ _ _ _ _ _ _ (c .before .before .before .before .before .before .before .before .before .before .before .each .inv) _ _ _ _ (c .before .before .before .before .before .before .command .ensures) (c .before .before .before .before .one .given .1) in omega (arith, z .0, z .1)
+
+each-again : tie.Need-each-again Inv-each μ-each
+each-again c = going-more _ _ _ _ _ _ _ (c .before .before .before .before .before .before .before .before .before .before .before .each .inv) _ _ _ _ (c .before .before .before .before .before .before .command .ensures) (c .before .before .before .before .one .given .1) (c .if1 .left)
+
+pub commands-spec : {M : Type 1} → statement M
+commands-spec =
+    tie.close
+    (tie.spec
+    Inv-each
+    μ-each
+    each-holds
+    command-requires
+    enum-known-one
+    enum-told
+    returns
+    returns-2
+    each-less
+    each-again)
