@@ -14,7 +14,7 @@ use Rattle.notation.proofs.Scopes.{start-scoped, keep-scoped, commands-
 use Rattle.notation.proofs.Limits.{shared-few, row-few, names-few, some-command, commands-few, stars-few, code-short}
 use Rattle.notation.proofs.Heights.{start-low, keep-low, commands-low}
 
-tree-regular : {us : List Lexeme} {x : Tree} → Says us x → Regular (modelOf x)
+pub tree-regular : {us : List Lexeme} {x : Tree} → Says us x → Regular (modelOf x)
 tree-regular {us} {x} s = record {
   start = start-scoped (s .form) (s .kept);
   keep = keep-scoped (s .form) (s .kept);

@@ -5,9 +5,9 @@ use mathlib.Core.Bool.{Bool, true, false, cond}
 use mathlib.Core.List.{List, [], _∷_, _++_, map}
 use Prim.Native.Nat.{ℕ, suc, _+_}
 use native.Mathlib.Omega.{arith}
-use native.Mathlib.Nat.{add-zero}
+use native.Mathlib.Nat.{add-zero, zero-add}
 use lib.ListN.{length, length-append}
-use Rattle.notation.specs.Tokens.{Word}
+use Rattle.notation.specs.Tokens.{Word, Name}
 use Rattle.notation.specs.Notation as T
 use Rattle.notation.specs.Notation.{Part, part, Tree, tree′, TextIs, isText, Mode, Level, ExpressionIs, isZero, isOne, isStar, isName, isNot, isParens, isFactor, isAnd, isTerm, isOr, ClauseIs, isClause}
 use Rattle.notation.specs.Rules.{view, Kept}
@@ -68,6 +68,15 @@ module _ (ws vs : List Word) where
   unfolding commandOf stars
   commands-numbered [] = tt
   commands-numbered (T.command′ n e xs ys ∷ cs) = (both (both (expr-spans outside e 0) (items-span xs _)) (items-span ys _) .each, commands-numbered cs)
+
+-- The number after an expression without stars, and after a command.
+pub starless-next : (ws vs : List Word) (e : T.Expr) (k : ℕ) → Starless (exprOf ws vs e k .is) → exprOf ws vs e k .next ≡ k
+starless-next ws vs e k h = expr-spans ws vs outside e k .next ∙ rw h (add-zero k)
+
+pub command-next : (ws vs : List Word) (n : Name) (e : T.Expr) (xs ys : List T.Item) →
+    itemsOf ws vs ys (itemsOf ws vs xs (exprOf ws vs e 0 .next) .next) .next ≡ length (stars (commandOf ws vs (T.command′ n e xs ys)))
+unfolding commandOf stars
+command-next ws vs n e xs ys = both (both (expr-spans ws vs outside e 0) (items-span ws vs xs _)) (items-span ws vs ys _) .next ∙ zero-add _
 
 pub stars-numbered : (x : Tree) → Every (λ k. NumberedFrom 0 (stars k)) (modelOf x .commands)
 unfolding modelOf

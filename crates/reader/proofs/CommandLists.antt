@@ -24,7 +24,7 @@ use Rattle.reader.specs.declared.clauses.Declared.the-variants as D
 use Rattle.reader.specs.working.Pieces.{listed}
 use Rattle.reader.specs.working.Names.{sharedWords, rowWords}
 use Rattle.reader.specs.working.Cursors.{bookOf}
-use Rattle.reader.specs.working.Clauses.{placed}
+use Rattle.reader.specs.Read.{placed}
 use Rattle.reader.specs.working.Commands.{withCommands, Naming, titleAt, bodyReader, commandWords, starsIn, commandAt, commandsAt, oneAt, Arrays, arrays, storedIn, Commanded, CommandsSay}
 use Rattle.reader.proofs.Done.{sets-append}
 use Rattle.reader.proofs.Symbols.{listed-sign, passed}
@@ -33,19 +33,19 @@ use Rattle.reader.proofs.Commanding.{kept-shared, kept-row, made}
 
 -- ---- what is stored of two lists
 
-joined-append : (ss ts : List (List ℕ)) → joined (ss ++ ts) ≡ joined ss ++ joined ts
+pub joined-append : (ss ts : List (List ℕ)) → joined (ss ++ ts) ≡ joined ss ++ joined ts
 unfolding joined
 joined-append [] ts = refl
 joined-append (s ∷ ss) ts = ap (λ (z : List ℕ). s ++ z) (joined-append ss ts) ∙ sym (append-assoc s (joined ss) (joined ts))
 
-ends-append : (i : ℕ) (ss ts : List (List ℕ)) → endsFrom i (ss ++ ts) ≡ endsFrom i ss ++ endsFrom (i + length (joined ss)) ts
+pub ends-append : (i : ℕ) (ss ts : List (List ℕ)) → endsFrom i (ss ++ ts) ≡ endsFrom i ss ++ endsFrom (i + length (joined ss)) ts
 unfolding joined endsFrom
 ends-append i [] ts = let z : i ≡ i + 0 = omega arith in ap (λ (k : ℕ). endsFrom k ts) z
 ends-append i (s ∷ ss) ts =
     let z : i + length s + length (joined ss) ≡ i + length (s ++ joined ss) = omega (arith, length-append s (joined ss)) in
     ap (λ (v : List ℕ). (i + length s) ∷ v) (ends-append (i + length s) ss ts ∙ ap (λ (k : ℕ). endsFrom (i + length s) ss ++ endsFrom k ts) z)
 
-ends-length : (i : ℕ) (ss : List (List ℕ)) → length (endsFrom i ss) ≡ length ss
+pub ends-length : (i : ℕ) (ss : List (List ℕ)) → length (endsFrom i ss) ≡ length ss
 unfolding endsFrom
 ends-length i [] = refl
 ends-length i (s ∷ ss) = ap suc (ends-length (i + length s) ss)

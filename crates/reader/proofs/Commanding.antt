@@ -22,7 +22,7 @@ use Rattle.reader.specs.working.Names.{sharedWords, rowWords}
 use Rattle.reader.specs.working.Cursors.{bookOf, Ready, Done, Says}
 use Rattle.reader.specs.working.Expressions.{exprWords}
 use Rattle.reader.specs.working.Items.{itemsWords}
-use Rattle.reader.specs.working.Clauses.{placed}
+use Rattle.reader.specs.Read.{placed}
 use Rattle.reader.specs.working.Sequences.{Tested, testedWords}
 use Rattle.reader.specs.working.Commands.{withCommands, Naming, titleAt, Titled, TitleSays, bodyReader, BodySays, commandWords, starsIn, commandAt, oneAt, Arrays, arrays, storedIn, Commanded, CommandsSay}
 use Rattle.reader.proofs.Done.{done-ready}

@@ -25,7 +25,8 @@ use Rattle.reader.specs.working.Pieces.{nameIn, listed}
 use Rattle.reader.specs.working.Names.{wordsIn, sharedWords, rowWords, kinded, namesKept}
 use Rattle.reader.specs.working.Cursors.{bookOf, Past}
 use Rattle.reader.specs.working.Items.{kindOf}
-use Rattle.reader.specs.working.Clauses.{placed, grown, Listing, nameAt, NameSays}
+use Rattle.reader.specs.Read.{placed}
+use Rattle.reader.specs.working.Clauses.{grown, Listing, nameAt, NameSays}
 use Rattle.reader.proofs.Books.{declares-again, declares-many, declares-full, declares-fits, note-declares}
 use Rattle.reader.proofs.Lookup.{window-slice, any-name, found-among, withName, with-length, words-kept, words-declared}
 

@@ -20,3 +20,8 @@ pub mod Bodies
 pub mod Titles
 pub mod Commanding
 pub mod CommandLists
+pub mod Wholes
+pub mod Stores
+pub mod Headings
+pub mod Modelling
+pub mod Answering

@@ -21,7 +21,8 @@ use Rattle.reader.specs.working.Pieces.{nameIn, listed}
 use Rattle.reader.specs.working.Names.{sharedWords, rowWords}
 use Rattle.reader.specs.working.Cursors.{bookOf, moved}
 use Rattle.reader.specs.working.Items.{kindOf}
-use Rattle.reader.specs.working.Clauses.{placed, grown, Listing, nameAt, listAt, Noted, NameSays, NamesSay}
+use Rattle.reader.specs.Read.{placed}
+use Rattle.reader.specs.working.Clauses.{grown, Listing, nameAt, listAt, Noted, NameSays, NamesSay}
 use Rattle.reader.proofs.Symbols.{listed-name, passed-by}
 use Rattle.reader.proofs.Declaring.{shared-more, row-more}
 

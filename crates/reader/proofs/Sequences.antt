@@ -25,7 +25,7 @@ use Rattle.reader.proofs.Factors.{expected-ok, expected-bad}
 
 module _ (text names : List ℕ) (l : Ledger) where
   module _ {A B : Type 0} (code : ℕ → A → Numbered (List ℕ)) (more : ℕ → B → Numbered (List ℕ)) (x y : ℕ) (s c : Cursor) (p b : List ℕ) (g : Got A) (h : List Lexeme → Book → Got B) (d : Done text names l code x s p g b c) where
-    pair-done : (a : List ℕ) (e : Cursor) → Done text names l more y c b (h (listed text (c .next)) (bookOf text names l c)) a e → Done text names l (paired code more) (x + y) s p (pairing g h) a e
+    unfoldable pub pair-done : (a : List ℕ) (e : Cursor) → Done text names l more y c b (h (listed text (c .next)) (bookOf text names l c)) a e → Done text names l (paired code more) (x + y) s p (pairing g h) a e
     pair-done a e q =
         let same : more (c .stars) (q .tree) ≡ more (code (s .stars) (d .tree) .next) (q .tree) = ap (λ (k : ℕ). more k (q .tree)) (d .numbered) in
         let stored : a ≡ sets p (s .emitted) (code (s .stars) (d .tree) .is ++ more (c .stars) (q .tree) .is) =

@@ -29,7 +29,7 @@ use Rattle.reader.specs.declared.clauses.Declared.the-variants as D
 use Rattle.reader.specs.working.Pieces.{nameIn, listed, Fresh}
 use Rattle.reader.specs.working.Names.{window, wordsIn, sharedWords, rowWords, commandWords, namesKept, kinded}
 use Rattle.reader.specs.working.Cursors.{bookOf, Past, Ready}
-use Rattle.reader.specs.working.Clauses.{placed}
+use Rattle.reader.specs.Read.{placed}
 use Rattle.reader.specs.working.Commands.{withCommands, Naming, titleAt, Titled, TitleSays}
 use Rattle.reader.proofs.Symbols.{listed-name, missing}
 use Rattle.reader.proofs.Lookup.{window-slice, window-length, any-name, found-among, withName, words-kept, words-declared}

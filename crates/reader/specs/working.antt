@@ -7,3 +7,4 @@ pub mod Items
 pub mod Sequences
 pub mod Clauses
 pub mod Commands
+pub mod Whole

@@ -20,6 +20,7 @@ use Rattle.reader.specs.declared.cursor.Parsed.{Parsed}
 use Rattle.reader.specs.declared.cursor.Parsed.the-variants.{Ok, Refused}
 use Rattle.reader.specs.declared.clauses.Declared.{Declared}
 use Rattle.reader.specs.declared.clauses.Declared.the-variants as D
+use Rattle.reader.specs.Read.{placed}
 use Rattle.reader.specs.working.Pieces.{nameIn, listed, Fresh}
 use Rattle.reader.specs.working.Names.{sharedWords, rowWords}
 use Rattle.reader.specs.working.Cursors.{bookOf, Past, Done, Says}
@@ -27,11 +28,6 @@ use Rattle.reader.specs.working.Expressions.{exprWords}
 use Rattle.reader.specs.working.Items.{kindOf}
 
 -- ---- names
-
--- Names stored from number i on: each one's place at its number, and its length 28 further on.
-unfoldable pub placed : List ℕ → ℕ → List Name → List ℕ
-placed names i [] = names
-placed names i (n ∷ ns) = placed (set (set names i (n .place)) (28 + i) (length (n .word))) (suc i) ns
 
 -- The ledger with k names more, row names if `rows`, or else shared names.
 abbrev pub grown : Bool → ℕ → Ledger → Ledger

@@ -22,7 +22,7 @@ use Rattle.reader.specs.working.Pieces.{listed, Fresh}
 use Rattle.reader.specs.working.Names.{sharedWords, rowWords}
 use Rattle.reader.specs.working.Cursors.{bookOf, Ready, Says}
 use Rattle.reader.specs.working.Items.{itemsWords}
-use Rattle.reader.specs.working.Clauses.{placed}
+use Rattle.reader.specs.Read.{placed}
 use Rattle.reader.specs.working.Sequences.{Tested, tested, testedWords, allItems}
 
 -- The ledger with k commands more.

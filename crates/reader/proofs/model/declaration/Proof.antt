@@ -1,0 +1,63 @@
+-- `declaration` meets its contract: its answer is that of its sign, of the names after it, and of the full stop after them.
+-- Assumes nothing.
+use Rattle.reader.proofs.Headings.{head-bad, sign-listing, list-bad, end-bad, end-ok}
+use borrow.Author.Needs.{needs}
+use Rattle.reader.proofs.model.declaration.Statement.{statement}
+use Rattle.reader.proofs.model.declaration.Tie as tie
+
+expect-requires : tie.Need-expect-requires
+expect-requires c κs = search needs
+
+enum-known-sign : tie.Need-enum-known-sign
+enum-known-sign c = search needs
+
+name-list-requires : tie.Need-name-list-requires
+name-list-requires c κs = sign-listing _ _ _ _ _ _ (c .before .before .before .before .before .before .pre .0) (c .before .before .before .before .before .before .pre .1) _ (c .before .before .before .before .expect .ensures) _ (c .before .before .sign .given .1)
+
+enum-known-list : tie.Need-enum-known-list
+enum-known-list c = search needs
+
+enum-told : tie.Need-enum-told
+enum-told c = search needs
+
+returns : tie.Need-returns
+returns c = list-bad _ _ _ _ _ _ (c .before .before .before .before .before .before .before .before .before .pre .0) (c .before .before .before .before .before .before .before .before .before .pre .1) _ (c .before .before .before .before .before .before .before .expect .ensures) _ (c .before .before .before .before .before .sign .given .1) _ _ (c .before .before .name-list .ensures) _ _ (c .enum-told .given .1)
+
+expect-requires-2 : tie.Need-expect-requires-2
+expect-requires-2 c κs = search needs
+
+enum-known-end : tie.Need-enum-known-end
+enum-known-end c = search needs
+
+enum-known-end-2 : tie.Need-enum-known-end-2
+enum-known-end-2 c = search needs
+
+enum-known-sign-2 : tie.Need-enum-known-sign-2
+enum-known-sign-2 c = search needs
+
+returns-2 : tie.Need-returns-2
+returns-2 c = end-ok _ _ _ _ _ _ (c .before .before .before .before .before .before .before .before .before .before .before .before .before .before .pre .0) (c .before .before .before .before .before .before .before .before .before .before .before .before .before .before .pre .1) _ (c .before .before .before .before .before .before .before .before .before .before .before .before .expect .ensures) _ (c .before .before .before .before .before .before .before .before .before .before .sign .given .1) _ _ (c .before .before .before .before .before .before .before .name-list .ensures) _ _ (c .before .before .before .before .before .list .given .1) _ (c .before .before .before .expect2 .ensures) _ (c .before .end .given .1)
+
+returns-3 : tie.Need-returns-3
+returns-3 c = end-bad _ _ _ _ _ _ (c .before .before .before .before .before .before .before .before .before .before .before .before .before .before .pre .0) (c .before .before .before .before .before .before .before .before .before .before .before .before .before .before .pre .1) _ (c .before .before .before .before .before .before .before .before .before .before .before .before .expect .ensures) _ (c .before .before .before .before .before .before .before .before .before .before .sign .given .1) _ _ (c .before .before .before .before .before .before .before .name-list .ensures) _ _ (c .before .before .before .before .before .list .given .1) _ (c .before .before .before .expect2 .ensures) _ _ (c .before .end2 .given .1)
+
+returns-4 : tie.Need-returns-4
+returns-4 c = head-bad _ _ _ _ _ _ (c .before .before .before .before .before .pre .0) (c .before .before .before .before .before .pre .1) _ (c .before .before .before .expect .ensures) _ _ _ (c .before .sign2 .given .1)
+
+pub declaration-spec : {M : Type 1} → statement M
+declaration-spec =
+    tie.close
+    (tie.spec
+    expect-requires
+    enum-known-sign
+    name-list-requires
+    enum-known-list
+    enum-told
+    returns
+    expect-requires-2
+    enum-known-end
+    enum-known-end-2
+    enum-known-sign-2
+    returns-2
+    returns-3
+    returns-4)

@@ -1,0 +1,40 @@
+-- `declarations` meets its contract: from the front of the text, with nothing declared, its answer is that of the shared names and then of the row names, stored behind them.
+-- Assumes nothing.
+use native.Mathlib.Omega.{arith}
+use Rattle.reader.proofs.Headings.{shared-bad, row-listing, heads-say}
+use borrow.Author.Needs.{needs}
+use Rattle.reader.proofs.model.declarations.Statement.{statement}
+use Rattle.reader.proofs.model.declarations.Tie as tie
+
+piece-at-requires : tie.Need-piece-at-requires
+piece-at-requires c κs = search needs
+
+declaration-requires : tie.Need-declaration-requires
+declaration-requires c κs = search needs
+
+enum-known-shared : tie.Need-enum-known-shared
+enum-known-shared c = search needs
+
+enum-told : tie.Need-enum-told
+enum-told c = search needs
+
+returns : tie.Need-returns
+returns c = shared-bad _ _ _ (c .before .before .before .before .piece-at .ensures) _ _ (c .before .before .declaration .ensures) _ _ (c .enum-told .given .1)
+
+declaration-requires-2 : tie.Need-declaration-requires-2
+declaration-requires-2 c κs = (row-listing _ _ _ (c .before .before .before .before .before .before .piece-at .ensures) _ _ (c .before .before .before .before .declaration .ensures) _ _ (c .before .before .shared .given .1), omega arith)
+
+returns-2 : tie.Need-returns-2
+returns-2 c = heads-say _ _ _ (c .before .before .before .before .before .before .before .piece-at .ensures) _ _ (c .before .before .before .before .before .declaration .ensures) _ _ (c .before .before .before .shared .given .1) _ _ (c .declaration2 .ensures)
+
+pub declarations-spec : {M : Type 1} → statement M
+declarations-spec =
+    tie.close
+    (tie.spec
+    piece-at-requires
+    declaration-requires
+    enum-known-shared
+    enum-told
+    returns
+    declaration-requires-2
+    returns-2)
