@@ -1,12 +1,8 @@
 -- The table is LL(1), and each of its symbols can be completed.
 -- Assumes nothing.
 use mathlib.Core.Path.{_≡_, refl}
-use mathlib.Core.Bool.{Bool, true, false}
-use mathlib.Core.List.{List, [], _∷_, _++_}
-use mathlib.Core.Option.{Option, none, some}
-use Prim.Native.Nat.{ℕ, zero, suc}
-use Rattle.notation.specs.Notation.{Mode, Kind}
-use Rattle.notation.specs.working.Table.{Sym, lit, whole, rows, clause, names, title, oneCommand, commands, factor, ands, ors, item, items, rowItem, rowItems, lines, skips, more, find, both, either, step, ends, optional, kinds, firsts, closed, closedLines, ll1}
+use mathlib.Core.Bool.{true}
+use Rattle.notation.specs.working.Table.{Sym, lit, whole, rows, clause, names, title, oneCommand, commands, factor, ands, ors, item, items, rowItem, rowItems, lines, skips, more, both, either, ends, kinds, firsts, closed, closedLines, ll1}
 
 pub ll1-table : (n : Sym) → ll1 n ≡ true
 unfolding ll1 closedLines closed firsts kinds lines skips more ends both either

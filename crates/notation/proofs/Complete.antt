@@ -1,15 +1,11 @@
 -- Each symbol can be completed, so each state of the reading can.
 -- Assumes nothing.
-use mathlib.Core.Path.{_≡_, refl, sym, _∙_, ap, subst}
-use mathlib.Core.Bool.{Bool, true, false, cond}
-use mathlib.Core.List.{List, [], _∷_, _++_, map, append-assoc, append-nil}
-use mathlib.Core.Option.{Option, none, some}
-use Prim.Native.Nat.{ℕ, suc}
-use lib.Dec.{eqb}
-use borrow.Author.Tests.{eq-eqb}
-use Rattle.notation.specs.Tokens.{Token, sign, name, Word, SHARED, ROW, START, KEEP, EACH, COMMAND, IF, DO, ELSE, FOR, END, SKIP, AND, OR, NOT, ZERO, ONE, STAR, DOT, SEMI, ASSIGN, OPEN, CLOSE, Name}
-use Rattle.notation.specs.Notation.{Role, quiet, declares, uses, constant, chance, joins, negates, opens, target, beginsItem, beginsCommand, Part, part, plain, Mode, Kind, sharedName, rowName, commandName, tree′, clause′, command′, and′, or′, not′, for′, Expr, RowItem, Item, Clause, Command, Tree, Level, factorLevel, andLevel, orLevel, ExpressionIs, isZero, isOne, isStar, isName, isNot, isParens, isFactor, isAnd, isTerm, isOr, Whole, Joined, last, RowItemIs, ItemIs, isSkip, isSet, isFor, CommandIs, isCommand, ClauseIs, isClause, Several, final, andThen, declared, TextIs, isText, false′}
-use Rattle.notation.specs.working.Table.{Sym, lit, whole, rows, clause, names, title, oneCommand, commands, factor, ands, ors, item, items, rowItem, rowItems, Val, Cont, feed, Line, on, named, sum, commandRest, lines, skips, Found, find, Reads, done, over, takes}
+use mathlib.Core.Path.{refl}
+use mathlib.Core.List.{List, [], _∷_, _++_}
+use Prim.Native.Nat.{ℕ}
+use Rattle.notation.specs.Tokens.{sign, name, SHARED, ROW, START, KEEP, EACH, COMMAND, IF, DO, ELSE, SKIP, ZERO, DOT, Name}
+use Rattle.notation.specs.Notation.{declares, constant, beginsItem, beginsCommand, Part, part, plain, commandName, tree′, clause′, command′, RowItem, Item, Clause, Command, Tree, false′}
+use Rattle.notation.specs.working.Table.{Sym, lit, whole, rows, clause, names, title, oneCommand, commands, factor, ands, ors, item, items, rowItem, rowItems, Val, Cont, lines, skips, find, Reads, done, over, takes}
 use Rattle.notation.proofs.Spelt.{at-sign}
 
 -- Some parts for a symbol.

@@ -5,16 +5,16 @@ use mathlib.Core.Bool.{Bool, true, false, cond}
 use mathlib.Core.List.{List, [], _∷_, _++_}
 use mathlib.Core.Option.{Option, none, some}
 use mathlib.Core.Logic.{_↔_}
-use Prim.Native.Nat.{ℕ, zero, suc, _+_, _≤_, _<_}
+use Prim.Native.Nat.{ℕ, zero, suc, _+_, _≤_}
 use native.Mathlib.Omega.{arith}
 use native.Mathlib.Nat.{not-suc-le-zero, add-zero, add-suc, le-of-suc-le-suc, le-refl}
 use lib.Dec.{eqb}
-use lib.ListN.{length, take, drop, length-append}
+use lib.ListN.{length, drop, length-append}
 use lib.Seq.{take-append-seam, drop-append-seam}
 use borrow.Author.Tests.{eqb-true}
 use Rattle.notation.specs.Bytes.{blankByte, wordByte, all, begins}
 use Rattle.notation.specs.Tokens.{Token, sign, DOT, SEMI, OPEN, CLOSE, STAR, OTHER, ASSIGN, Lexeme, at, wordToken, Cut, ended, run, assign, colon, markOf, isNone, barred, barredByte, blank}
-use Rattle.notation.specs.working.Lexing.{choose, span, mark, front, Front, oneByte, lexemes, tokensFrom, tokens}
+use Rattle.notation.specs.working.Lexing.{span, mark, front, Front, oneByte, lexemes, tokensFrom, tokens}
 use Rattle.notation.specs.Tokens as T
 
 -- A wordOf's byte is no blank.

@@ -1,13 +1,13 @@
 -- Recursive descent answers what the reading answers.
 -- Assumes nothing.
-use mathlib.Core.Path.{_≡_, refl, sym, _∙_, ap, subst}
-use mathlib.Core.List.{List, [], _∷_, _++_, append-assoc}
+use mathlib.Core.Path.{_≡_, refl, _∙_}
+use mathlib.Core.List.{List, [], _∷_, _++_}
 use mathlib.Core.Option.{Option, none, some}
 use Prim.Native.Nat.{ℕ, zero, suc, _≤_, _<_}
 use native.Mathlib.Omega.{arith}
 use native.Mathlib.Nat.{not-suc-le-zero}
 use lib.ListN.{length}
-use Rattle.notation.specs.Tokens.{Token, Lexeme, at}
+use Rattle.notation.specs.Tokens.{Lexeme, at}
 use Rattle.notation.specs.Notation.{part, Tree}
 use Rattle.notation.specs.working.Ledger.{Book, blankBook, note, fault}
 use Rattle.notation.specs.working.Table.{Sym, whole, Val, Cont, feed, Found, find, lines, skips, State, pick, past, step, ending}

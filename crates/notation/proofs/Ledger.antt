@@ -4,14 +4,14 @@ use mathlib.Core.Path.{_≡_, refl, sym, _∙_, ap, subst}
 use mathlib.Core.Bool.{Bool, true, false, cond}
 use mathlib.Core.List.{List, [], _∷_, _++_, append-assoc, append-nil}
 use mathlib.Core.Option.{Option, none, some}
-use Prim.Native.Nat.{ℕ, zero, suc, _+_}
+use Prim.Native.Nat.{ℕ, suc, _+_}
 use native.Mathlib.Omega.{arith}
 use lib.Dec.{ltb}
 use lib.ListN.{set}
 use mathlib.Core.Logic.{_↔_}
 use Rattle.notation.specs.Tokens.{Token, Word}
 use Rattle.notation.specs.Notation.{Kind, Role, Part, part, declares, uses, chance, negates, opens, target, quiet, constant, joins, beginsItem, beginsCommand, sharedName, rowName, commandName}
-use Rattle.notation.specs.Rules.{elem, view, wordOf, View, limits, depthLimit, SHARED-NAMES, ROW-NAMES, NAMES, COMMANDS, ITEMS, NODES, STARS, named, names, count, thisCommand, again, unknown, over, breach, Kept, total, nameCounts}
+use Rattle.notation.specs.Rules.{elem, view, wordOf, depthLimit, SHARED-NAMES, ROW-NAMES, NAMES, COMMANDS, ITEMS, NODES, STARS, named, names, count, thisCommand, again, unknown, over, breach, Kept, total, nameCounts}
 use Rattle.notation.specs.working.Ledger.{Book, blankBook, note, notes, namedOn, countedOn, tally, fault, Clean, exceeds}
 use Rattle.notation.specs.working.Ledger as L
 

@@ -1,16 +1,16 @@
 -- The laws of the tokens from a place on: what a function that reads the next token is shown by.
 -- Assumes nothing.
-use mathlib.Core.Path.{_≡_, refl, sym, _∙_, ap}
+use mathlib.Core.Path.{_≡_, refl, ap}
 use mathlib.Core.Bool.{Bool, true, false}
-use mathlib.Core.List.{List, [], _∷_, _++_}
-use Prim.Native.Nat.{ℕ, zero, suc, _+_, _-_, _≤_, _<_}
+use mathlib.Core.List.{List, [], _∷_}
+use Prim.Native.Nat.{ℕ, zero, suc, _+_, _≤_, _<_}
 use native.Mathlib.Omega.{arith}
 use native.Mathlib.Nat.{not-suc-le-zero, suc-add}
 use lib.ListN.{length, drop, getD, length-drop, drop-of-length-le}
 use lib.Seq.{drop-cons, drop-drop}
 use Rattle.notation.specs.Bytes.{blankByte}
 use Rattle.notation.specs.Tokens.{Lexeme, at}
-use Rattle.notation.specs.working.Lexing.{choose, front, Front, lexemes, tokensFrom}
+use Rattle.notation.specs.working.Lexing.{choose, front, lexemes, tokensFrom}
 
 any-bound : (k l : ℕ) (bs : List ℕ) (i : ℕ) → length bs ≤ k → length bs ≤ l → lexemes k bs i ≡ lexemes l bs i
 unfolding lexemes

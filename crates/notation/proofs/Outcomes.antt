@@ -1,17 +1,17 @@
 -- The reading and the definitions agree: on which tokens say which tree, and on the first refusal.
 -- Assumes nothing.
 use mathlib.Core.Path.{_≡_, refl, sym, _∙_, ap, ap₂, subst}
-use mathlib.Core.Bool.{Bool, true, false, cond, false≢true}
-use mathlib.Core.List.{List, [], _∷_, _++_, map, append-assoc, append-nil}
+use mathlib.Core.Bool.{true, false, false≢true}
+use mathlib.Core.List.{List, [], _∷_, _++_, append-assoc, append-nil}
 use mathlib.Core.Option.{Option, none, some, Option·none-ne-some, Option·some-injective}
-use Prim.Native.Nat.{ℕ, zero, suc}
+use Prim.Native.Nat.{ℕ}
 use mathlib.Core.Logic.{_↔_}
-use Rattle.notation.specs.Tokens.{Token, sign, name, Lexeme, at}
+use Rattle.notation.specs.Tokens.{Token, Lexeme, at}
 use Rattle.notation.specs.Notation.{Role, Part, part, Tree, TextIs}
 use Rattle.notation.specs.Rules.{Kept}
-use Rattle.notation.specs.Texts.{Spells, spellsNone, spells, Says, Begins, Viable, Refused, atByte, atToken, atEnd, atRule, Faultless}
+use Rattle.notation.specs.Texts.{Spells, spellsNone, spells, Says, Begins, Refused, atByte, atToken, atEnd, atRule, Faultless}
 use Rattle.notation.specs.working.Ledger.{Book, blankBook, note, notes, fault, Clean}
-use Rattle.notation.specs.working.Table.{Sym, whole, Val, Cont, feed, Reads, done, over, takes, State, step, ending, firsts, more, elem}
+use Rattle.notation.specs.working.Table.{whole, Reads, State, step, ending, firsts}
 use Rattle.notation.specs.working.Machine.{Outcome, read, refused, atLast, ruled, stepped, reads, start, reading}
 use Rattle.notation.proofs.Complete.{complete}
 use Rattle.notation.proofs.Check.{ll1-table}

@@ -1,9 +1,9 @@
 -- The laws of a symbol's reader: what the functions of a recursive-descent reader are shown by.
 -- Assumes nothing.
-use mathlib.Core.Path.{_≡_, refl, sym, _∙_, ap}
-use mathlib.Core.List.{List, [], _∷_, _++_}
+use mathlib.Core.Path.{_≡_, refl, ap}
+use mathlib.Core.List.{List, [], _∷_}
 use mathlib.Core.Option.{Option, none, some}
-use Prim.Native.Nat.{ℕ, zero, suc, _≤_, _<_}
+use Prim.Native.Nat.{ℕ, zero, suc, _<_}
 use native.Mathlib.Omega.{arith}
 use native.Mathlib.Nat.{not-suc-le-zero}
 use lib.ListN.{length}
@@ -12,7 +12,7 @@ use Rattle.notation.specs.Notation.{part, Mode, joins, Expr, and′, or�
 use Rattle.notation.specs.working.Ledger.{Book, note, fault}
 use Rattle.notation.specs.working.Table.{Sym, factor, ands, ors, Val, Cont, Found, find, lines, skips}
 use Rattle.notation.specs.working.Descent.{Got, got, stop, Reader, thenReads, sequence, pass, ruling, taken, descend, reader, orReader, andReader, orLoop, andLoop}
-use Rattle.notation.proofs.Descents.{Shorter, Serves, serves}
+use Rattle.notation.proofs.Descents.{Shorter, serves}
 
 -- Readers that agree on fewer than l tokens agree on sequences.
 sequence-agree : (X : Type 0) (l : ℕ) (d e : Reader) → ((m : Sym) (ts : List Lexeme) (b : Book) → length ts < l → Shorter (length ts) (d m ts b)) →

@@ -2,9 +2,7 @@
 -- Assumes nothing.
 use mathlib.Core.Path.{subst}
 use mathlib.Core.List.{List}
-use Prim.Native.Nat.{ℕ}
 use Rattle.notation.specs.Notation.{Tree}
-use Rattle.notation.specs.Model.{Model}
 use Rattle.notation.specs.Regular.{Regular}
 use Rattle.notation.specs.Texts.{Says, modelOf}
 use Rattle.notation.specs.Tokens.{Lexeme}

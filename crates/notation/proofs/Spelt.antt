@@ -1,15 +1,13 @@
 -- What says a tree by the notation, the table's symbols stand for.
 -- Assumes nothing.
-use mathlib.Core.Path.{_≡_, refl, sym, _∙_, ap, subst}
-use mathlib.Core.Bool.{Bool, true, false, cond}
-use mathlib.Core.List.{List, [], _∷_, _++_, map, append-assoc, append-nil}
-use mathlib.Core.Option.{Option, none, some}
-use Prim.Native.Nat.{ℕ, suc}
-use lib.Dec.{eqb}
+use mathlib.Core.Path.{_≡_, refl}
+use mathlib.Core.List.{List, [], _∷_, _++_, append-assoc, append-nil}
+use mathlib.Core.Option.{some}
+use Prim.Native.Nat.{ℕ}
 use borrow.Author.Tests.{eq-eqb}
-use Rattle.notation.specs.Tokens.{Token, sign, name, Word, SHARED, ROW, START, KEEP, EACH, COMMAND, IF, DO, ELSE, FOR, END, SKIP, AND, OR, NOT, ZERO, ONE, STAR, DOT, SEMI, ASSIGN, OPEN, CLOSE, Name}
-use Rattle.notation.specs.Notation.{Role, quiet, declares, uses, constant, chance, joins, negates, opens, target, beginsItem, beginsCommand, Part, part, plain, Mode, Kind, sharedName, rowName, commandName, tree′, clause′, command′, and′, or′, not′, for′, Expr, RowItem, Item, Clause, Command, Tree, Level, factorLevel, andLevel, orLevel, ExpressionIs, isZero, isOne, isStar, isName, isNot, isParens, isFactor, isAnd, isTerm, isOr, Whole, Joined, last, RowItemIs, ItemIs, isSkip, isSet, isFor, CommandIs, isCommand, ClauseIs, isClause, Several, final, andThen, declared, TextIs, isText, fixedRow, followed}
-use Rattle.notation.specs.working.Table.{Sym, lit, whole, rows, clause, names, title, oneCommand, commands, factor, ands, ors, item, items, rowItem, rowItems, Val, Cont, feed, Line, on, named, sum, commandRest, lines, skips, Found, find, Reads, done, over, takes}
+use Rattle.notation.specs.Tokens.{sign, START, KEEP, EACH, DO, ELSE, END, DOT, CLOSE, Name}
+use Rattle.notation.specs.Notation.{Role, Part, plain, Mode, Kind, sharedName, rowName, tree′, clause′, command′, and′, or′, not′, for′, Expr, RowItem, Item, Clause, Command, Tree, Level, factorLevel, andLevel, orLevel, ExpressionIs, isZero, isOne, isStar, isName, isNot, isParens, isFactor, isAnd, isTerm, isOr, Joined, last, RowItemIs, ItemIs, isSkip, isSet, isFor, CommandIs, isCommand, ClauseIs, isClause, Several, final, andThen, declared, TextIs, isText, fixedRow, followed}
+use Rattle.notation.specs.working.Table.{Sym, lit, whole, rows, clause, names, oneCommand, commands, factor, ands, ors, item, items, rowItem, rowItems, Val, Cont, Line, on, sum, lines, skips, find, Reads, done, over, takes}
 
 abbrev before : Level → Mode → ℕ → List Sym → List Sym
 before factorLevel m d σ = factor m d ∷ σ

@@ -3,8 +3,8 @@
 use mathlib.Core.Path.{_≡_, refl, sym, _∙_, ap, subst}
 use mathlib.Core.Bool.{Bool, true, false}
 use mathlib.Core.List.{List}
-use mathlib.Core.Logic.{_↔_, _⊎_, inl, inr}
-use Prim.Native.Nat.{ℕ, _≤_, _<_}
+use mathlib.Core.Logic.{_⊎_, inl, inr}
+use Prim.Native.Nat.{ℕ, _≤_}
 use native.Mathlib.Omega.{arith}
 use lib.Dec.{leb}
 use lib.ListN.{length}
@@ -12,7 +12,7 @@ use borrow.Author.Tests.{leb-true, leb-false, le-leb, lt-leb}
 use Rattle.notation.specs.Tokens.{Lexeme, Cut}
 use Rattle.notation.specs.Notation.{Tree}
 use Rattle.notation.specs.Model.{Model}
-use Rattle.notation.specs.Texts.{Says, Refused, longestText, modelOf, TextSaysTree, TextSays, TextRefused, tooLong, inside}
+use Rattle.notation.specs.Texts.{longestText, modelOf, TextSaysTree, TextSays, TextRefused, tooLong, inside}
 use Rattle.notation.specs.Promises.{OneModel, OneAnswer, SaysIffAnswer, RefusedIffAnswer}
 use Rattle.notation.specs.working.Lexing.{choose, tokens}
 use Rattle.notation.specs.working.Machine.{Outcome, read, refused, reading}

@@ -1,15 +1,14 @@
 -- What the table's symbols stand for says a tree by the notation.
 -- Assumes nothing.
-use mathlib.Core.Path.{_≡_, refl, sym, _∙_, ap, subst}
+use mathlib.Core.Path.{_≡_, refl, subst}
 use mathlib.Core.Bool.{Bool, true, false, cond}
-use mathlib.Core.List.{List, [], _∷_, _++_, map, append-assoc, append-nil}
-use mathlib.Core.Option.{Option, none, some}
+use mathlib.Core.List.{List, [], _∷_, _++_, append-assoc, append-nil}
+use mathlib.Core.Option.{some}
 use Prim.Native.Nat.{ℕ, suc}
 use lib.Dec.{eqb}
-use borrow.Author.Tests.{eq-eqb}
-use Rattle.notation.specs.Tokens.{Token, sign, name, Word, SHARED, ROW, START, KEEP, EACH, COMMAND, IF, DO, ELSE, FOR, END, SKIP, AND, OR, NOT, ZERO, ONE, STAR, DOT, SEMI, ASSIGN, OPEN, CLOSE, Name}
-use Rattle.notation.specs.Notation.{Role, quiet, declares, uses, constant, chance, joins, negates, opens, target, beginsItem, beginsCommand, Part, part, plain, Mode, Kind, sharedName, rowName, commandName, Expr, RowItem, Item, Clause, Command, Tree, Level, factorLevel, andLevel, orLevel, ExpressionIs, isZero, isOne, isStar, isName, isNot, isParens, isFactor, isAnd, isTerm, isOr, Whole, Joined, last, RowItemIs, ItemIs, isSkip, isSet, isFor, CommandIs, isCommand, ClauseIs, isClause, Several, final, andThen, declared, TextIs, isText, freeRow, fixedShared, followed, fixedRow, freeShared}
-use Rattle.notation.specs.working.Table.{Sym, lit, whole, rows, clause, names, title, oneCommand, commands, factor, ands, ors, item, items, rowItem, rowItems, Val, Cont, feed, Line, on, named, sum, commandRest, lines, skips, Found, find, Reads, done, over, takes}
+use Rattle.notation.specs.Tokens.{Token, sign, name, SHARED, ROW, START, KEEP, EACH, COMMAND, DO, ELSE, FOR, END, AND, OR, NOT, DOT, SEMI, ASSIGN, OPEN, CLOSE, Name}
+use Rattle.notation.specs.Notation.{Role, quiet, declares, joins, negates, opens, target, beginsItem, beginsCommand, Part, part, plain, Mode, Kind, sharedName, rowName, commandName, Expr, RowItem, Item, Clause, Command, Tree, factorLevel, andLevel, orLevel, ExpressionIs, isZero, isOne, isStar, isName, isNot, isParens, isFactor, isAnd, isTerm, isOr, Joined, last, RowItemIs, ItemIs, isSkip, isSet, isFor, CommandIs, isCommand, ClauseIs, isClause, Several, final, andThen, declared, TextIs, isText, freeRow, fixedShared, followed, fixedRow, freeShared}
+use Rattle.notation.specs.working.Table.{Sym, lit, whole, rows, clause, names, title, oneCommand, commands, factor, ands, ors, item, items, rowItem, rowItems, Val, Cont, Line, on, named, sum, commandRest, lines, skips, Found, find, Reads, done, over, takes}
 use mathlib.Core.Option.{Option·none-ne-some, Option·some-injective}
 use borrow.Author.Tests.{eqb-true}
 

@@ -1,11 +1,10 @@
 -- Bytes: a written text as its bytes, and the bytes that a text may have.
 -- Assumes nothing.
 use mathlib.Core.Bool.{Bool, true, false, cond}
-use mathlib.Core.Option.{Option, none, some}
 use mathlib.Core.List as L
 use mathlib.Core.List.{List}
 use Prim.Native.Nat.{ℕ}
-use Prim.Native.Char.{Char, code}
+use Prim.Native.Char.{code}
 use Prim.Native.String.{String, [], _∷_}
 use lib.Dec.{eqb, leb}
 

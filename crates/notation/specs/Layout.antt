@@ -1,9 +1,9 @@
 -- The flat form of a model: a list of code words that is run from its front to its end.
 -- A code word is a kind times 32, and an argument below 32. The names' bits are numbered shared names first, then row names.
 -- Assumes nothing.
-use mathlib.Core.Bool.{Bool, true, false}
+use mathlib.Core.Bool.{true, false}
 use mathlib.Core.List.{List, [], _∷_, _++_, map}
-use Prim.Native.Nat.{ℕ, _+_, _*_}
+use Prim.Native.Nat.{ℕ, _+_}
 use lib.ListN.{length}
 use Rattle.notation.specs.Model.{Expr, lit, star, shared, row, neg, conj, disj, RowItem, skipRow, putRow, Item, skip, put, for, Command, Model, stars}
 

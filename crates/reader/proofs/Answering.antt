@@ -5,10 +5,9 @@ use mathlib.Core.List.{List}
 use Prim.Native.Nat.{ℕ, _≤_, _<_}
 use lib.ListN.{length, replicate}
 use borrow.Author.Tests.{le-leb, lt-leb}
-use Rattle.notation.specs.Texts.{longestText, modelOf, namesOf}
-use Rattle.notation.specs.Layout.{layoutOf}
+use Rattle.notation.specs.Texts.{longestText}
 use Rattle.notation.specs.working.Lexing.{tokens}
-use Rattle.notation.specs.working.Machine.{Outcome, refused, reading}
+use Rattle.notation.specs.working.Machine.{reading}
 use Rattle.notation.specs.working.Answer.{answer}
 use Rattle.reader.specs.declared.Answer.the-variants.{Read, Refused}
 use Rattle.reader.specs.declared.Code.{Code}

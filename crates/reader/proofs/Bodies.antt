@@ -1,14 +1,13 @@
 -- A command's body: `if`, and then a test with its two branches.
 -- Assumes nothing.
-use mathlib.Core.Path.{_≡_, refl, sym, ap, _∙_, subst}
+use mathlib.Core.Path.{_≡_, sym, ap, subst}
 use mathlib.Core.Bool.{true, false}
 use mathlib.Core.List.{List}
-use Prim.Native.Nat.{ℕ, _+_, _≤_}
+use Prim.Native.Nat.{ℕ}
 use native.Mathlib.Omega.{arith}
 use lib.ListN.{length}
 use Rattle.notation.specs.Notation.{freeShared, Item}
-use Rattle.notation.specs.working.Table.{lit}
-use Rattle.notation.specs.working.Descent.{Got, stop, thenReads, reader, orReader}
+use Rattle.notation.specs.working.Descent.{Got, stop, thenReads, orReader}
 use Rattle.reader.specs.declared.cursor.Cursor.{Cursor}
 use Rattle.reader.specs.declared.cursor.Ledger.{Ledger}
 use Rattle.reader.specs.declared.cursor.Scope.{Scope}

@@ -2,16 +2,16 @@
 -- Assumes nothing.
 use mathlib.Core.Path.{_≡_, refl, sym, ap, _∙_, subst}
 use mathlib.Core.Bool.{Bool, true, false, cond}
-use mathlib.Core.List.{List, [], _∷_, _++_, append-assoc}
-use mathlib.Core.Option.{Option, none, some}
-use Prim.Native.Nat.{ℕ, suc, _+_, _-_, _*_, _≤_, _<_}
+use mathlib.Core.List.{List, [], _∷_, append-assoc}
+use mathlib.Core.Option.{Option}
+use Prim.Native.Nat.{ℕ, _+_, _-_, _*_, _≤_, _<_}
 use native.Mathlib.Nat.{zero-add}
 use native.Mathlib.Omega.{arith}
-use lib.ListN.{length, set, length-append}
+use lib.ListN.{length, length-append}
 use lib.Seq.{sets}
 use borrow.Author.Tests.{ne-eqb}
-use Rattle.notation.specs.Tokens.{Token, sign, name, Word, Lexeme}
-use Rattle.notation.specs.Notation.{Kind, sharedName, rowName, commandName, Mode, freeShared, freeRow, Part, part, target, beginsItem, Expr, RowItem, Item, for′}
+use Rattle.notation.specs.Tokens.{sign, name, Word, Lexeme}
+use Rattle.notation.specs.Notation.{sharedName, rowName, Mode, freeRow, Part, part, target, beginsItem, Expr, RowItem, Item, for′}
 use Rattle.notation.specs.Rules.{has, sameKind}
 use Rattle.notation.specs.Texts.{Numbered, numbered, placeOf, among, rowItemOf, itemOf}
 use Rattle.notation.specs.Layout.{rowItemCode, itemCode}
@@ -27,16 +27,16 @@ use Rattle.reader.specs.declared.cursor.Ledger.{Ledger}
 use Rattle.reader.specs.declared.cursor.Scope.{Scope}
 use Rattle.reader.specs.declared.cursor.Parsed.{Parsed}
 use Rattle.reader.specs.declared.cursor.Parsed.the-variants.{Ok, Refused}
-use Rattle.reader.specs.working.Pieces.{nameIn, listed, Fresh}
+use Rattle.reader.specs.working.Pieces.{nameIn, listed}
 use Rattle.reader.specs.working.Names.{wordsIn, sharedWords, rowWords, namesKept}
 use Rattle.reader.specs.working.Cursors.{modeOf, bookOf, moved, emitted, Past, Expected, Ready, Done, Says}
 use Rattle.reader.specs.working.Expressions.{exprWords, SaysExpr, orAt, AfterNode}
-use Rattle.reader.specs.working.Items.{rowItemWords, rowItemsWords, itemWords, withWord, Skipped, kindOf, modeIn, assignAt, bitIn, SaysAssign, SaysRowItem, rowItemAt, rowItemsAt, SaysItem, itemAt}
+use Rattle.reader.specs.working.Items.{rowItemWords, rowItemsWords, itemWords, withWord, Skipped, kindOf, modeIn, assignAt, bitIn, SaysAssign, SaysRowItem, rowItemAt, SaysItem, itemAt}
 use Rattle.reader.proofs.Books.{target-unknown, target-full, target-fits, item-full, item-fits, note-target, note-item}
 use Rattle.reader.proofs.Symbols.{listed-sign, listed-name, missing}
 use Rattle.reader.proofs.Done.{stores}
 use Rattle.reader.proofs.Lookup.{words-length, shared-name, row-name}
-use Rattle.reader.proofs.Operands.{found-out, found-in, from-first}
+use Rattle.reader.proofs.Operands.{found-out, found-in}
 use Rattle.reader.proofs.Factors.{expected-ok, expected-bad}
 use Rattle.reader.proofs.Sequences.{says-map, says-from, past-ready}
 use Rattle.reader.specs.working.Sequences.{allRows, Tested, tested, testedWords}

@@ -3,7 +3,7 @@
 use mathlib.Core.Path.{_≡_, refl, sym, ap, _∙_, subst}
 use mathlib.Core.List.{List, [], _∷_, _++_}
 use mathlib.Core.Option.{Option, some}
-use Prim.Native.Nat.{ℕ, suc, _+_, _*_, _≤_, _<_}
+use Prim.Native.Nat.{ℕ, _+_, _*_, _≤_, _<_}
 use native.Mathlib.Omega.{arith}
 use lib.ListN.{length, set, length-append}
 use lib.Seq.{sets}
@@ -19,8 +19,8 @@ use Rattle.notation.proofs.Readers.{and-loop-turn, or-loop-turn}
 use Rattle.reader.specs.declared.pieces.Piece.{Piece}
 use Rattle.reader.specs.declared.cursor.Cursor.{Cursor}
 use Rattle.reader.specs.declared.cursor.Ledger.{Ledger}
-use Rattle.reader.specs.working.Pieces.{listed, Fresh, Tokened}
-use Rattle.reader.specs.working.Cursors.{bookOf, moved, emitted, Past, Ready, Done}
+use Rattle.reader.specs.working.Pieces.{listed}
+use Rattle.reader.specs.working.Cursors.{bookOf, emitted, Past, Ready, Done}
 use Rattle.reader.specs.working.Expressions.{exprWords}
 use Rattle.reader.proofs.Books.{joins-full, joins-fits, note-joins}
 use Rattle.reader.proofs.Symbols.{listed-sign, and-stops, or-stops}

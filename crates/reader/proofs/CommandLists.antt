@@ -3,7 +3,7 @@
 use mathlib.Core.Path.{_≡_, refl, sym, ap, _∙_, subst}
 use mathlib.Core.List.{List, [], _∷_, _++_, append-assoc, append-nil, map, map-append}
 use mathlib.Core.Option.{some}
-use Prim.Native.Nat.{ℕ, suc, _+_, _-_, _≤_, _<_}
+use Prim.Native.Nat.{ℕ, suc, _+_, _≤_, _<_}
 use native.Mathlib.Omega.{arith}
 use lib.ListN.{length, length-append, length-map}
 use lib.Seq.{sets}
@@ -15,7 +15,7 @@ use Rattle.notation.specs.Layout.{endsFrom, joined}
 use Rattle.notation.specs.working.Ledger.{Book}
 use Rattle.notation.specs.working.Table as T
 use Rattle.notation.specs.working.Table.{find, lines, skips}
-use Rattle.notation.specs.working.Descent.{Got, got, stop, thenReads, ruling, reader, sequence}
+use Rattle.notation.specs.working.Descent.{Got, got, stop, thenReads, reader, sequence}
 use Rattle.notation.proofs.Readers.{reader-token, then-then, then-ruling}
 use Rattle.reader.specs.declared.cursor.Cursor.{Cursor}
 use Rattle.reader.specs.declared.cursor.Ledger.{Ledger}
@@ -25,11 +25,11 @@ use Rattle.reader.specs.working.Pieces.{listed}
 use Rattle.reader.specs.working.Names.{sharedWords, rowWords}
 use Rattle.reader.specs.working.Cursors.{bookOf}
 use Rattle.reader.specs.Read.{placed}
-use Rattle.reader.specs.working.Commands.{withCommands, Naming, titleAt, bodyReader, commandWords, starsIn, commandAt, commandsAt, oneAt, Arrays, arrays, storedIn, Commanded, CommandsSay}
+use Rattle.reader.specs.working.Commands.{withCommands, Naming, titleAt, commandWords, starsIn, commandsAt, oneAt, Arrays, storedIn, Commanded, CommandsSay}
 use Rattle.reader.proofs.Done.{sets-append}
 use Rattle.reader.proofs.Symbols.{listed-sign, passed}
 use Rattle.reader.proofs.NameLists.{placed-append}
-use Rattle.reader.proofs.Commanding.{kept-shared, kept-row, made}
+use Rattle.reader.proofs.Commanding.{kept-shared, kept-row}
 
 -- ---- what is stored of two lists
 

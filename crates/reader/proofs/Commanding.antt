@@ -1,16 +1,16 @@
 -- A command: its title and its body, and what is stored of it.
 -- Assumes nothing.
 use mathlib.Core.Path.{_≡_, refl, sym, ap, _∙_, subst}
-use mathlib.Core.List.{List, [], _∷_, _++_, append-assoc, append-nil, map}
-use Prim.Native.Nat.{ℕ, suc, _+_, _*_, _≤_, _<_}
+use mathlib.Core.List.{List, [], _∷_, append-assoc, append-nil}
+use Prim.Native.Nat.{ℕ, _+_, _*_, _≤_, _<_}
 use native.Mathlib.Omega.{arith}
 use lib.ListN.{length, set, length-set}
 use lib.Seq.{sets}
 use Rattle.notation.specs.Tokens.{Word, Name}
-use Rattle.notation.specs.Notation.{Expr, Item, Command, command′}
-use Rattle.notation.specs.Texts.{Numbered, exprOf, itemsOf, commandOf}
+use Rattle.notation.specs.Notation.{Item, Command, command′}
+use Rattle.notation.specs.Texts.{Numbered, commandOf}
 use Rattle.notation.specs.Layout.{commandCode, endsFrom, joined}
-use Rattle.notation.specs.working.Descent.{Got, got, stop, thenReads}
+use Rattle.notation.specs.working.Descent.{Got, got, thenReads}
 use Rattle.reader.specs.declared.cursor.Cursor.{Cursor}
 use Rattle.reader.specs.declared.cursor.Ledger.{Ledger}
 use Rattle.reader.specs.declared.cursor.Parsed.{Parsed}
@@ -24,7 +24,7 @@ use Rattle.reader.specs.working.Expressions.{exprWords}
 use Rattle.reader.specs.working.Items.{itemsWords}
 use Rattle.reader.specs.Read.{placed}
 use Rattle.reader.specs.working.Sequences.{Tested, testedWords}
-use Rattle.reader.specs.working.Commands.{withCommands, Naming, titleAt, Titled, TitleSays, bodyReader, BodySays, commandWords, starsIn, commandAt, oneAt, Arrays, arrays, storedIn, Commanded, CommandsSay}
+use Rattle.reader.specs.working.Commands.{withCommands, Naming, Titled, TitleSays, bodyReader, BodySays, commandWords, starsIn, oneAt, Arrays, arrays, CommandsSay}
 use Rattle.reader.proofs.Done.{done-ready}
 use Rattle.reader.proofs.Lookup.{words-kept}
 

@@ -1,11 +1,11 @@
 -- What was read and stored: taken apart by the answer, and joined with what is read after it.
 -- Assumes nothing.
-use mathlib.Core.Path.{_≡_, refl, sym, ap, _∙_, subst}
+use mathlib.Core.Path.{_≡_, sym, ap, _∙_, subst}
 use mathlib.Core.List.{List, [], _∷_, _++_}
-use Prim.Native.Nat.{ℕ, suc, _+_, _*_, _≤_, _<_}
+use Prim.Native.Nat.{ℕ, suc, _+_}
 use native.Mathlib.Nat.{add-zero}
 use native.Mathlib.Omega.{arith}
-use lib.ListN.{length, set, length-append}
+use lib.ListN.{length, set}
 use lib.Seq.{sets}
 use Rattle.notation.specs.Tokens.{Lexeme}
 use Rattle.notation.specs.Texts.{Numbered}

@@ -1,15 +1,14 @@
 -- A factor by its first token: an operand, `not` and a factor, or an expression in parentheses.
 -- Assumes nothing.
-use mathlib.Core.Path.{_≡_, refl, sym, ap, _∙_, subst}
-use mathlib.Core.Bool.{Bool, true, false, cond}
-use mathlib.Core.List.{List, [], _∷_, _++_}
+use mathlib.Core.Path.{_≡_, sym, ap, _∙_, subst}
+use mathlib.Core.List.{List, [], _∷_}
 use mathlib.Core.Option.{Option, none, some}
 use Prim.Native.Nat.{ℕ, suc, _+_, _-_, _*_, _≤_, _<_}
 use native.Mathlib.Omega.{arith}
-use lib.ListN.{length, set, length-append}
+use lib.ListN.{length, length-append}
 use lib.Seq.{sets}
-use Rattle.notation.specs.Tokens.{Token, sign, name, Lexeme}
-use Rattle.notation.specs.Notation.{Mode, Role, part, quiet, uses, constant, chance, negates, opens, Expr, false′, true′, star′, name′, not′}
+use Rattle.notation.specs.Tokens.{Token, sign, Lexeme}
+use Rattle.notation.specs.Notation.{Mode, Role, part, quiet, negates, opens, Expr, not′}
 use Rattle.notation.specs.Texts.{exprOf}
 use Rattle.notation.specs.Layout.{exprCode}
 use Rattle.notation.specs.working.Lexing.{tokensFrom}
@@ -22,13 +21,12 @@ use Rattle.reader.specs.declared.cursor.Ledger.{Ledger}
 use Rattle.reader.specs.declared.cursor.Scope.{Scope}
 use Rattle.reader.specs.declared.cursor.Parsed.{Parsed}
 use Rattle.reader.specs.declared.cursor.Parsed.the-variants.{Ok, Refused}
-use Rattle.reader.specs.working.Pieces.{listed, Fresh, Tokened}
+use Rattle.reader.specs.working.Pieces.{listed, Fresh}
 use Rattle.reader.specs.working.Cursors.{modeOf, bookOf, moved, emitted, Past, Expected, Ready, Done, Says}
 use Rattle.reader.specs.working.Expressions.{exprWords, SaysExpr, factorAt, orAt, Leaf, AfterNode, AfterClose, roomed}
 use Rattle.reader.proofs.Books.{quiet-fits, opens-deep, opens-fits, negates-deep, negates-full, negates-fits, note-quiet, note-opens, note-negates}
 use Rattle.reader.proofs.Symbols.{lit-is, lit-missing, open-is, not-is}
 use Rattle.reader.proofs.Done.{stores}
-use Rattle.reader.proofs.Chains.{done-as}
 
 -- ---- a sign that has to stand
 

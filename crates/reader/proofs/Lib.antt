@@ -25,3 +25,4 @@ pub mod Stores
 pub mod Headings
 pub mod Modelling
 pub mod Answering
+pub mod Promised

@@ -1,24 +1,23 @@
 -- Row items and items as series.
 -- Assumes nothing.
-use mathlib.Core.Path.{_≡_, refl, sym, ap, _∙_}
+use mathlib.Core.Path.{_≡_, refl, sym}
 use mathlib.Core.List.{List, [], _∷_, _++_}
 use mathlib.Core.Option.{some}
-use Prim.Native.Nat.{ℕ, _+_, _≤_}
+use Prim.Native.Nat.{ℕ, _≤_}
 use native.Mathlib.Omega.{arith}
 use lib.ListN.{length, length-append}
 use borrow.Author.Tests.{ne-eqb}
 use Rattle.notation.specs.Tokens.{sign, Lexeme, at}
-use Rattle.notation.specs.Notation.{part, quiet, Expr, RowItem, Item, for′}
-use Rattle.notation.specs.Texts.{Numbered, numbered, exprOf, placeOf, rowItemOf, rowItemsOf, itemOf, itemsOf}
-use Rattle.notation.specs.Layout.{exprCode, rowItemCode, rowItemsCode, itemCode, itemsCode}
+use Rattle.notation.specs.Notation.{part, quiet, RowItem, Item, for′}
+use Rattle.notation.specs.Texts.{numbered, rowItemOf, rowItemsOf, itemOf, itemsOf}
+use Rattle.notation.specs.Layout.{rowItemCode, rowItemsCode, itemCode, itemsCode}
 use Rattle.notation.specs.working.Ledger.{Book, note, fault}
 use Rattle.notation.specs.working.Table.{rowItem, rowItems, item, items, find, lines, skips}
-use Rattle.notation.specs.working.Descent.{Got, got, thenReads, ruling, reader, sequence}
+use Rattle.notation.specs.working.Descent.{got, thenReads, ruling, reader, sequence}
 use Rattle.notation.proofs.Readers.{reader-token}
 use Rattle.reader.specs.declared.pieces.Piece.{Piece}
 use Rattle.reader.specs.declared.cursor.Ledger.{Ledger}
 use Rattle.reader.specs.working.Pieces.{listed}
-use Rattle.reader.specs.working.Names.{sharedWords, rowWords}
 use Rattle.reader.specs.working.Items.{rowItemWords, rowItemsWords, itemWords, itemsWords}
 use Rattle.reader.proofs.Symbols.{passed}
 use Rattle.reader.proofs.Series.{Series}

@@ -1,8 +1,8 @@
 -- A whole text that was read: its two clauses, and the flat form of its model in the arrays.
 -- Assumes nothing.
 use mathlib.Core.Path.{_≡_, refl, sym, ap, _∙_, subst}
-use mathlib.Core.List.{List, [], _∷_, _++_, append-assoc, map}
-use Prim.Native.Nat.{ℕ, suc, _+_, _≤_, _<_}
+use mathlib.Core.List.{List, _++_, map}
+use Prim.Native.Nat.{ℕ, _+_}
 use native.Mathlib.Nat.{zero-add}
 use native.Mathlib.Omega.{arith}
 use lib.ListN.{length, length-append, length-map}
@@ -14,8 +14,8 @@ use Rattle.notation.specs.Texts.{Numbered, wordsOf, modelOf, titleOf, namesOf, 
 use Rattle.notation.specs.Layout.{joined, endsFrom, layoutOf}
 use Rattle.notation.specs.working.Lexing.{tokens}
 use Rattle.notation.specs.working.Table as T
-use Rattle.notation.specs.working.Machine.{read, refused, reading}
-use Rattle.notation.specs.working.Descent.{Got, got, stop, thenReads, reader}
+use Rattle.notation.specs.working.Machine.{read, reading}
+use Rattle.notation.specs.working.Descent.{Got, got, thenReads, reader}
 use Rattle.notation.proofs.Outcomes.{says-iff}
 use Rattle.notation.proofs.Regular.{tree-regular}
 use Rattle.reader.specs.declared.cursor.Cursor.{Cursor}
@@ -24,14 +24,13 @@ use Rattle.reader.specs.declared.cursor.Parsed.{Parsed}
 use Rattle.reader.specs.declared.cursor.Parsed.the-variants.{Ok, Refused}
 use Rattle.reader.specs.declared.clauses.Declared.{Declared}
 use Rattle.reader.specs.declared.clauses.Declared.the-variants as D
-use Rattle.reader.specs.working.Pieces.{listed}
-use Rattle.reader.specs.working.Names.{sharedWords, rowWords}
-use Rattle.reader.specs.working.Cursors.{bookOf, Ready, Done, Says}
+use Rattle.reader.specs.working.Names.{rowWords}
+use Rattle.reader.specs.working.Cursors.{bookOf, Ready}
 use Rattle.reader.specs.Read.{placed}
 use Rattle.reader.specs.working.Clauses.{clauseWords, clauseEnds, clauseAt, ClauseDone, ClauseSays}
 use Rattle.reader.specs.working.Sequences.{Pair, pairOf, paired, pairing}
 use Rattle.reader.specs.working.Commands.{withCommands, Naming, Arrays, arrays, storedIn, commandWords, starsIn, commandsAt, Commanded, CommandsSay}
-use Rattle.reader.specs.working.Whole.{headsAt, Heads, HeadsSay, clausesAt, ClausesDone, ClausesSay, Modelled, ModelSays}
+use Rattle.reader.specs.working.Whole.{Heads, HeadsSay, clausesAt, ClausesDone, ClausesSay, ModelSays}
 use Rattle.reader.proofs.Done.{sets-append, stores, done-ready}
 use Rattle.reader.proofs.NameLists.{placed-append}
 use Rattle.reader.proofs.Sequences.{pair-done, pair-bad}

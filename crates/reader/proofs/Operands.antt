@@ -3,23 +3,22 @@
 use mathlib.Core.Path.{_≡_, refl, sym, ap, _∙_, subst}
 use mathlib.Core.Bool.{Bool, true, false, cond}
 use mathlib.Core.List.{List, [], _∷_, _++_}
-use mathlib.Core.Option.{Option, none, some}
-use Prim.Native.Nat.{ℕ, suc, _+_, _-_, _≤_, _<_}
+use mathlib.Core.Option.{Option}
+use Prim.Native.Nat.{ℕ, _+_, _-_, _≤_, _<_}
 use native.Mathlib.Numerals.{add-one}
 use native.Mathlib.Nat.{zero-add}
 use native.Mathlib.Omega.{arith}
-use lib.Dec.{ltb}
 use lib.ListN.{length}
-use borrow.Author.Tests.{lt-ltb, le-ltb, ltb-true, ltb-false}
+use borrow.Author.Tests.{lt-ltb, le-ltb}
 use Rattle.notation.specs.Tokens.{sign, name, Word}
-use Rattle.notation.specs.Notation.{Mode, part, uses, constant, chance, sharedName, rowName, commandName, Kind, Expr, false′, true′, star′, name′}
+use Rattle.notation.specs.Notation.{Mode, part, uses, constant, chance, Expr, false′, true′, star′, name′}
 use Rattle.notation.specs.Rules.{has, allowed}
 use Rattle.notation.specs.Texts.{placeOf, among, nameOf, exprOf}
 use Rattle.notation.specs.Layout.{exprCode}
 use Rattle.notation.specs.Model as M
 use Rattle.notation.specs.working.Lexing.{tokensFrom}
 use Rattle.notation.specs.working.Ledger.{note}
-use Rattle.notation.specs.working.Descent.{Got, got, stop, ruling, reader}
+use Rattle.notation.specs.working.Descent.{Got, got, stop, ruling}
 use Rattle.reader.specs.declared.pieces.Piece.{Piece}
 use Rattle.reader.specs.declared.cursor.Cursor.{Cursor}
 use Rattle.reader.specs.declared.cursor.Ledger.{Ledger}
@@ -30,7 +29,7 @@ use Rattle.reader.specs.working.Names.{wordsIn, sharedWords, rowWords, n
 use Rattle.reader.specs.working.Cursors.{modeOf, bookOf, Ready}
 use Rattle.reader.specs.working.Expressions.{exprWords, SaysExpr, factorAt, Leaf}
 use Rattle.reader.proofs.Books.{constant-full, constant-fits, chance-barred, chance-many, chance-full, chance-fits, uses-unknown, uses-full, uses-fits, note-constant, note-chance, note-uses}
-use Rattle.reader.proofs.Symbols.{zero-is, one-is, star-is, name-is, factor-missing}
+use Rattle.reader.proofs.Symbols.{zero-is, one-is, star-is, name-is}
 use Rattle.reader.proofs.Lookup.{words-length, words-append, place-among, place-le, place-front, place-append, among-append, shared-name, table-name}
 use Rattle.reader.proofs.Factors.{leaf-says}
 

@@ -9,8 +9,7 @@ use lib.Seq.{sets}
 use Rattle.notation.specs.Tokens.{Lexeme}
 use Rattle.notation.specs.Texts.{Numbered, numbered}
 use Rattle.notation.specs.working.Ledger.{Book}
-use Rattle.notation.specs.working.Table.{lit}
-use Rattle.notation.specs.working.Descent.{Got, got, stop, thenReads, reader}
+use Rattle.notation.specs.working.Descent.{Got, got, stop, thenReads}
 use Rattle.reader.specs.declared.cursor.Cursor.{Cursor}
 use Rattle.reader.specs.declared.cursor.Ledger.{Ledger}
 use Rattle.reader.specs.declared.cursor.Parsed.{Parsed}
@@ -19,7 +18,7 @@ use Rattle.reader.specs.working.Pieces.{listed}
 use Rattle.reader.specs.working.Cursors.{bookOf, emitted, Past, Expected, Ready, Done, Says}
 use Rattle.reader.specs.working.Expressions.{roomed}
 use Rattle.reader.specs.working.Items.{withWord, Marked}
-use Rattle.reader.specs.working.Sequences.{Pair, pairOf, paired, pairing, signedBy}
+use Rattle.reader.specs.working.Sequences.{pairOf, paired, pairing, signedBy}
 use Rattle.reader.proofs.Done.{stores}
 use Rattle.reader.proofs.Factors.{expected-ok, expected-bad}
 

@@ -1,29 +1,26 @@
 -- Items joined by semicolons: what the loop that reads them has still to do gives what all of it gave where it began.
 -- Assumes nothing.
-use mathlib.Core.Path.{_≡_, refl, sym, ap, _∙_, subst}
+use mathlib.Core.Path.{_≡_, refl, sym, ap, _∙_}
 use mathlib.Core.List.{List, [], _∷_, _++_, append-assoc, append-nil}
 use mathlib.Core.Option.{Option, some}
-use Prim.Native.Nat.{ℕ, suc, _+_, _*_, _≤_, _<_}
+use Prim.Native.Nat.{ℕ, _+_, _*_, _≤_, _<_}
 use native.Mathlib.Omega.{arith}
 use lib.ListN.{length, length-append}
 use lib.Seq.{sets}
 use Rattle.notation.specs.Tokens.{sign, Lexeme, at}
-use Rattle.notation.specs.Notation.{part, quiet, RowItem, Item}
-use Rattle.notation.specs.Texts.{Numbered, numbered, rowItemOf, rowItemsOf, itemOf, itemsOf}
-use Rattle.notation.specs.Layout.{rowItemCode, rowItemsCode, itemCode, itemsCode}
+use Rattle.notation.specs.Notation.{part, quiet}
+use Rattle.notation.specs.Texts.{Numbered, numbered}
 use Rattle.notation.specs.working.Lexing.{tokensFrom}
 use Rattle.notation.specs.working.Ledger.{Book, note, fault}
 use Rattle.notation.specs.working.Table as T
-use Rattle.notation.specs.working.Descent.{Got, got, stop, thenReads, ruling, reader, sequence}
-use Rattle.notation.proofs.Readers.{reader-token}
+use Rattle.notation.specs.working.Descent.{Got, got, stop, thenReads, ruling}
 use Rattle.reader.specs.declared.pieces.Piece.{Piece}
 use Rattle.reader.specs.declared.cursor.Cursor.{Cursor}
 use Rattle.reader.specs.declared.cursor.Ledger.{Ledger}
 use Rattle.reader.specs.working.Pieces.{listed}
-use Rattle.reader.specs.working.Cursors.{bookOf, moved, Past, Ready, Done}
-use Rattle.reader.specs.working.Items.{rowItemWords, rowItemsWords, itemWords, itemsWords}
+use Rattle.reader.specs.working.Cursors.{bookOf, Past, Ready, Done}
 use Rattle.reader.proofs.Books.{quiet-fits, note-quiet}
-use Rattle.reader.proofs.Symbols.{listed-sign, passed}
+use Rattle.reader.proofs.Symbols.{listed-sign}
 use Rattle.reader.proofs.Done.{stores, done-ready}
 use Rattle.reader.proofs.Sequences.{past-ready}
 

@@ -1,25 +1,21 @@
 -- What is stored of a whole text is the flat form of its model, and its names.
 -- Assumes nothing.
-use mathlib.Core.Path.{_≡_, refl, sym, ap, _∙_, subst}
+use mathlib.Core.Path.{_≡_, refl, sym, ap, _∙_}
 use mathlib.Core.List.{List, [], _∷_, _++_, append-assoc, map, append-nil}
-use Prim.Native.Nat.{ℕ, suc, _+_}
-use native.Mathlib.Nat.{zero-add}
-use native.Mathlib.Omega.{arith}
-use lib.ListN.{length, length-append, length-map}
-use lib.Seq.{sets}
+use Prim.Native.Nat.{ℕ, _+_}
+use lib.ListN.{length}
 use Rattle.notation.specs.Tokens.{Name, Word}
-use Rattle.notation.specs.Notation.{Expr, Clause, clause′, Command, command′, Tree, tree′}
+use Rattle.notation.specs.Notation.{Expr, Clause, clause′, Command, command′, tree′}
 use Rattle.notation.specs.Model as M
 use Rattle.notation.specs.Regular.{Starless, Regular}
-use Rattle.notation.specs.Texts.{Numbered, wordsOf, exprOf, commandOf, clauseOf, modelOf, titleOf, namesOf}
+use Rattle.notation.specs.Texts.{wordsOf, exprOf, commandOf, clauseOf, modelOf, titleOf, namesOf}
 use Rattle.notation.specs.Layout.{exprCode, commandCode, segments, joined, endsFrom, layoutOf}
 use Rattle.notation.proofs.Stars.{starless-next, command-next}
 use Rattle.reader.specs.declared.cursor.Ledger.{Ledger}
 use Rattle.reader.specs.working.Names.{sharedWords, rowWords}
 use Rattle.reader.specs.working.Expressions.{exprWords}
-use Rattle.reader.specs.Read.{placed}
 use Rattle.reader.specs.working.Clauses.{clauseWords, clauseEnds}
-use Rattle.reader.specs.working.Sequences.{Pair, pairOf, paired}
+use Rattle.reader.specs.working.Sequences.{pairOf, paired}
 use Rattle.reader.specs.working.Commands.{commandWords, starsIn}
 use Rattle.reader.proofs.CommandLists.{joined-append, ends-append}
 

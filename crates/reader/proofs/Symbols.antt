@@ -3,18 +3,18 @@
 use mathlib.Core.Path.{_≡_, refl, sym, ap, _∙_}
 use mathlib.Core.Bool.{Bool, true, false, cond}
 use mathlib.Core.List.{List, [], _∷_}
-use mathlib.Core.Option.{Option, none, some}
+use mathlib.Core.Option.{none, some}
 use Prim.Native.Nat.{ℕ, suc, _<_}
 use native.Mathlib.Omega.{arith}
 use lib.Dec.{eqb}
 use lib.ListN.{length}
 use borrow.Author.Tests.{eqb-true, eq-eqb, ne-eqb}
-use Rattle.notation.specs.Tokens.{Token, sign, name, Name, Lexeme, at}
-use Rattle.notation.specs.Notation.{Mode, part, quiet, uses, constant, chance, joins, negates, opens, Expr, false′, true′, star′, name′, not′, and′, or′}
+use Rattle.notation.specs.Tokens.{sign, name, Lexeme, at}
+use Rattle.notation.specs.Notation.{Mode, part, quiet, uses, constant, chance, negates, opens, Expr, false′, true′, star′, name′, not′}
 use Rattle.notation.specs.working.Lexing.{tokensFrom}
 use Rattle.notation.specs.working.Ledger.{Book, note, fault}
-use Rattle.notation.specs.working.Table.{Sym, lit, factor, ands, ors, Found, find, lines, skips}
-use Rattle.notation.specs.working.Descent.{Got, got, stop, thenReads, ruling, reader, sequence, orReader, andReader, andLoop, orLoop}
+use Rattle.notation.specs.working.Table.{Sym, lit, factor, ands, ors, find, lines, skips}
+use Rattle.notation.specs.working.Descent.{Got, got, stop, thenReads, ruling, reader, sequence, orReader, andLoop, orLoop}
 use Rattle.notation.proofs.Readers.{reader-token, reader-end, reader-byte, then-then}
 use Rattle.reader.specs.declared.pieces.Piece.{Piece}
 use Rattle.reader.specs.working.Pieces.{nameIn, tokenOf, listed, Fresh}

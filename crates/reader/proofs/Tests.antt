@@ -1,23 +1,22 @@
 -- A test and its two branches, as `for` and a command have them: the code words and signs between them.
 -- Assumes nothing.
-use mathlib.Core.Path.{_≡_, refl, sym, ap, _∙_}
-use mathlib.Core.List.{List, [], _∷_, _++_}
-use Prim.Native.Nat.{ℕ, _+_, _≤_, _<_}
+use mathlib.Core.Path.{_≡_}
+use mathlib.Core.List.{List}
+use Prim.Native.Nat.{ℕ, _<_}
 use native.Mathlib.Omega.{arith}
 use lib.ListN.{length}
 use Rattle.notation.specs.Tokens.{Lexeme}
 use Rattle.notation.specs.Notation.{Expr}
 use Rattle.notation.specs.Texts.{Numbered}
 use Rattle.notation.specs.working.Ledger.{Book}
-use Rattle.notation.specs.working.Descent.{Got, stop}
+use Rattle.notation.specs.working.Descent.{Got}
 use Rattle.reader.specs.declared.cursor.Cursor.{Cursor}
 use Rattle.reader.specs.declared.cursor.Ledger.{Ledger}
-use Rattle.reader.specs.declared.cursor.Scope.{Scope}
 use Rattle.reader.specs.declared.cursor.Parsed.{Parsed}
 use Rattle.reader.specs.declared.cursor.Parsed.the-variants.{Ok, Refused}
 use Rattle.reader.specs.working.Pieces.{listed}
 use Rattle.reader.specs.working.Cursors.{bookOf, Ready, Done, Says}
-use Rattle.reader.specs.working.Expressions.{exprWords, SaysExpr, orAt, roomed}
+use Rattle.reader.specs.working.Expressions.{exprWords, SaysExpr, roomed}
 use Rattle.reader.specs.working.Items.{withWord, Marked}
 use Rattle.reader.proofs.Done.{said-ok, said-bad, says-same, done-ready}
 use Rattle.reader.specs.working.Sequences.{Pair, paired, pairing, signedBy, tested, testedWords}

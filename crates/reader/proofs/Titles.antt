@@ -1,16 +1,14 @@
 -- `command` and its name: what the descent answers, and the name stored.
 -- Assumes nothing.
-use mathlib.Core.Path.{_≡_, refl, sym, ap, _∙_, subst}
-use mathlib.Core.Bool.{Bool, true, false, cond}
+use mathlib.Core.Path.{_≡_, refl, sym, ap, _∙_}
+use mathlib.Core.Bool.{true, false}
 use mathlib.Core.List.{List, [], _∷_, _++_, append-assoc, map-append}
 use mathlib.Core.Option.{Option, none, some}
-use Prim.Native.Nat.{ℕ, suc, _+_, _-_, _*_, _≤_, _<_}
+use Prim.Native.Nat.{ℕ, suc, _+_, _-_, _≤_, _<_}
 use native.Mathlib.Numerals.{add-one}
-use native.Mathlib.Nat.{zero-add}
 use native.Mathlib.Omega.{arith}
 use lib.Dec.{ltb}
 use lib.ListN.{length, set}
-use lib.Seq.{slice}
 use borrow.Author.Tests.{lt-ltb, le-ltb}
 use Rattle.notation.specs.Tokens.{Token, sign, name, Name, Word, Lexeme}
 use Rattle.notation.specs.Notation.{Kind, commandName, part, declares, beginsCommand}
@@ -24,13 +22,12 @@ use Rattle.notation.proofs.Readers.{reader-token}
 use Rattle.reader.specs.declared.pieces.Piece.{Piece}
 use Rattle.reader.specs.declared.cursor.Cursor.{Cursor}
 use Rattle.reader.specs.declared.cursor.Ledger.{Ledger}
-use Rattle.reader.specs.declared.clauses.Declared.{Declared}
 use Rattle.reader.specs.declared.clauses.Declared.the-variants as D
 use Rattle.reader.specs.working.Pieces.{nameIn, listed, Fresh}
-use Rattle.reader.specs.working.Names.{window, wordsIn, sharedWords, rowWords, commandWords, namesKept, kinded}
-use Rattle.reader.specs.working.Cursors.{bookOf, Past, Ready}
+use Rattle.reader.specs.working.Names.{window, wordsIn, sharedWords, rowWords, commandWords, namesKept}
+use Rattle.reader.specs.working.Cursors.{bookOf, Past}
 use Rattle.reader.specs.Read.{placed}
-use Rattle.reader.specs.working.Commands.{withCommands, Naming, titleAt, Titled, TitleSays}
+use Rattle.reader.specs.working.Commands.{withCommands, titleAt, TitleSays}
 use Rattle.reader.proofs.Symbols.{listed-name, missing}
 use Rattle.reader.proofs.Lookup.{window-slice, window-length, any-name, found-among, withName, words-kept, words-declared}
 

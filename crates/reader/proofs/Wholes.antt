@@ -1,23 +1,22 @@
 -- A whole text: its descent in the order in which it is read.
 -- Assumes nothing.
-use mathlib.Core.Path.{_≡_, refl, sym, ap, _∙_, subst}
+use mathlib.Core.Path.{_≡_, refl, sym, ap, _∙_}
 use mathlib.Core.Bool.{Bool, true, false, cond}
-use mathlib.Core.List.{List, [], _∷_, _++_, map}
-use mathlib.Core.Option.{Option, none, some}
-use Prim.Native.Nat.{ℕ, suc, _+_}
+use mathlib.Core.List.{List, [], _∷_}
+use mathlib.Core.Option.{none, some}
+use Prim.Native.Nat.{ℕ}
 use native.Mathlib.Omega.{arith}
 use lib.Dec.{eqb}
 use lib.ListN.{length}
-use lib.Seq.{sets}
-use borrow.Author.Tests.{eqb-true, ne-eqb}
-use Rattle.notation.specs.Tokens.{Token, sign, name, Name, Lexeme, at}
-use Rattle.notation.specs.Notation.{sharedName, rowName, part, quiet, Clause, clause′, Command, Tree, tree′}
+use borrow.Author.Tests.{ne-eqb}
+use Rattle.notation.specs.Tokens.{sign, name, Name, Lexeme, at}
+use Rattle.notation.specs.Notation.{sharedName, rowName, part, quiet, Clause, Command, Tree, tree′}
 use Rattle.notation.specs.working.Lexing.{tokens, tokensFrom}
 use Rattle.notation.specs.working.Ledger.{Book, blankBook, note, fault}
 use Rattle.notation.specs.working.Table as T
 use Rattle.notation.specs.working.Table.{find, lines, skips}
 use Rattle.notation.specs.working.Machine.{Outcome, read, refused, reading}
-use Rattle.notation.specs.working.Descent.{Got, got, stop, thenReads, ruling, taken, reader, sequence}
+use Rattle.notation.specs.working.Descent.{Got, got, stop, thenReads, taken, reader, sequence}
 use Rattle.notation.proofs.Descents.{follow, atClose, descent}
 use Rattle.notation.proofs.Readers.{reader-token, reader-end, reader-byte, then-then, then-ruling}
 use Rattle.reader.specs.declared.pieces.Piece.{Piece}
@@ -25,9 +24,9 @@ use Rattle.reader.specs.declared.cursor.Cursor.{Cursor}
 use Rattle.reader.specs.declared.cursor.Ledger.{Ledger}
 use Rattle.reader.specs.working.Pieces.{nameIn, tokenOf, listed, Fresh}
 use Rattle.reader.specs.working.Cursors.{bookOf}
-use Rattle.reader.specs.working.Sequences.{Pair, pairOf, pairing}
+use Rattle.reader.specs.working.Sequences.{Pair, pairing}
 use Rattle.reader.specs.working.Whole.{headReader, headsReader, headsAt, clausesAt}
-use Rattle.reader.specs.working.Commands.{commandsAt, titleAt, bodyReader}
+use Rattle.reader.specs.working.Commands.{commandsAt}
 use Rattle.reader.proofs.Symbols.{listed-sign, missing}
 
 -- ---- symbols that begin with a sign of their own

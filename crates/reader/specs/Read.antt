@@ -5,12 +5,10 @@ use Prim.Native.Nat.{ℕ, suc, _+_}
 use lib.ListN.{length, replicate, set}
 use lib.Seq.{sets}
 use Rattle.notation.specs.Tokens.{Name}
-use Rattle.notation.specs.Notation.{Tree}
 use Rattle.notation.specs.Texts.{modelOf, namesOf}
 use Rattle.notation.specs.Layout.{Layout, layoutOf}
 use Rattle.notation.specs.working.Machine.{Outcome, read, refused}
 use Rattle.notation.specs.working.Answer.{answer}
-use Rattle.reader.specs.declared.Answer.{Answer}
 use Rattle.reader.specs.declared.Answer.the-variants.{Read, Refused}
 use Rattle.reader.specs.declared.Code.{Code}
 use Rattle.reader.specs.declared.Reading.{Reading}

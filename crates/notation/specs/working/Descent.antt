@@ -1,6 +1,6 @@
 -- Recursive descent: what a reader of one symbol answers. A function of the reader cites `descend` at its own symbol.
 -- Assumes nothing.
-use mathlib.Core.List.{List, [], _∷_, _++_}
+use mathlib.Core.List.{List, [], _∷_}
 use mathlib.Core.Option.{Option, none, some}
 use Prim.Native.Nat.{ℕ, zero, suc}
 use lib.ListN.{length}

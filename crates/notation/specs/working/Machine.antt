@@ -1,6 +1,6 @@
 -- The reading of a list of tokens, one after the other, by the table and the rules.
 -- Assumes nothing.
-use mathlib.Core.List.{List, [], _∷_, _++_}
+use mathlib.Core.List.{List, [], _∷_}
 use mathlib.Core.Option.{Option, none, some}
 use Prim.Native.Nat.{ℕ}
 use Rattle.notation.specs.Tokens.{Token, Lexeme, at}

@@ -5,7 +5,7 @@ use mathlib.Core.Path.{_≡_}
 use mathlib.Core.Bool.{Bool, true, false, cond, not}
 use mathlib.Core.List.{List, [], _∷_, _++_}
 use mathlib.Core.Option.{Option, none, some}
-use Prim.Native.Nat.{ℕ, zero, suc}
+use Prim.Native.Nat.{ℕ, suc}
 use lib.Dec.{eqb}
 use Rattle.notation.specs.Tokens.{Token, sign, name, Name, SHARED, ROW, START, KEEP, EACH, COMMAND, IF, DO, ELSE, FOR, END, SKIP, AND, OR, NOT, ZERO, ONE, STAR, DOT, SEMI, ASSIGN, OPEN, CLOSE}
 use Rattle.notation.specs.Notation.{Kind, sharedName, rowName, commandName, Mode, fixedShared, fixedRow, freeShared, freeRow, Role, quiet, declares, uses, constant, chance, joins, negates, opens, target, beginsItem, beginsCommand, Part, part, Expr, false′, true′, star′, name′, not′, and′, or′, RowItem, Item, for′, Clause, clause′, Command, command′, Tree, tree′}

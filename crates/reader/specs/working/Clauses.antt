@@ -1,19 +1,18 @@
 -- What the readers of declarations and clauses answer.
 -- Assumes nothing.
 use mathlib.Core.Path.{_≡_}
-use mathlib.Core.Bool.{Bool, true, false, cond}
+use mathlib.Core.Bool.{Bool, false, cond}
 use mathlib.Core.List.{List, [], _∷_, _++_}
-use Prim.Native.Nat.{ℕ, suc, _+_, _-_, _≤_}
+use Prim.Native.Nat.{ℕ, _+_, _≤_}
 use lib.ListN.{length, set}
 use lib.Seq.{sets}
 use Rattle.notation.specs.Tokens.{name, Name}
-use Rattle.notation.specs.Notation.{Kind, Mode, fixedShared, fixedRow, part, declares, Expr, Clause, clause′}
+use Rattle.notation.specs.Notation.{Mode, fixedShared, fixedRow, part, declares, Expr, Clause, clause′}
 use Rattle.notation.specs.Texts.{Numbered, numbered, wordsOf, longestText}
 use Rattle.notation.specs.working.Lexing.{tokensFrom}
 use Rattle.notation.specs.working.Ledger.{note, fault}
 use Rattle.notation.specs.working.Table as T
 use Rattle.notation.specs.working.Descent.{Got, got, stop, thenReads, ruling, reader, orReader}
-use Rattle.reader.specs.declared.pieces.Piece.{Piece}
 use Rattle.reader.specs.declared.cursor.Cursor.{Cursor}
 use Rattle.reader.specs.declared.cursor.Ledger.{Ledger}
 use Rattle.reader.specs.declared.cursor.Parsed.{Parsed}
@@ -23,7 +22,7 @@ use Rattle.reader.specs.declared.clauses.Declared.the-variants as D
 use Rattle.reader.specs.Read.{placed}
 use Rattle.reader.specs.working.Pieces.{nameIn, listed, Fresh}
 use Rattle.reader.specs.working.Names.{sharedWords, rowWords}
-use Rattle.reader.specs.working.Cursors.{bookOf, Past, Done, Says}
+use Rattle.reader.specs.working.Cursors.{bookOf, Past, Done}
 use Rattle.reader.specs.working.Expressions.{exprWords}
 use Rattle.reader.specs.working.Items.{kindOf}
 

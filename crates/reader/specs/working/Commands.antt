@@ -3,7 +3,7 @@
 use mathlib.Core.Path.{_≡_}
 use mathlib.Core.List.{List, [], _∷_, map}
 use Prim.Native.Nat.{ℕ, _+_, _≤_, _<_}
-use lib.ListN.{length, set}
+use lib.ListN.{length}
 use lib.Seq.{sets}
 use Rattle.notation.specs.Tokens.{sign, Word, Name, Lexeme}
 use Rattle.notation.specs.Notation.{part, beginsCommand, freeShared, Item, Command, command′}

@@ -1,15 +1,12 @@
 -- What a cursor stands for in a reading, and what a reader of one symbol answers: the descent's own answer, with the code stored.
 -- Assumes nothing.
 use mathlib.Core.Path.{_≡_}
-use mathlib.Core.Bool.{Bool}
 use mathlib.Core.List.{List, [], _∷_}
-use Prim.Native.Nat.{ℕ, _+_, _*_, _≤_, _<_}
+use Prim.Native.Nat.{ℕ, _+_, _*_, _≤_}
 use lib.ListN.{length}
 use lib.Seq.{sets}
-use Rattle.notation.specs.Tokens.{Lexeme}
 use Rattle.notation.specs.Notation.{Mode}
 use Rattle.notation.specs.Texts.{Numbered, longestText}
-use Rattle.notation.specs.working.Lexing.{tokensFrom}
 use Rattle.notation.specs.working.Ledger.{Book}
 use Rattle.notation.specs.working.Descent.{Got, got, stop}
 use Rattle.reader.specs.declared.pieces.Piece.{Piece}

@@ -1,7 +1,7 @@
 -- What the readers of an expression's levels answer.
 -- Assumes nothing.
 use mathlib.Core.Path.{_≡_}
-use mathlib.Core.List.{List, [], _∷_}
+use mathlib.Core.List.{List}
 use Prim.Native.Nat.{ℕ, _+_, _-_, _≤_, _<_}
 use lib.ListN.{length, set}
 use Rattle.notation.specs.Notation.{Expr}

@@ -1,8 +1,7 @@
 -- Readers one after the other: a pair of values, a sign after a value, and a test with its two branches.
 -- Assumes nothing.
-use mathlib.Core.List.{List, [], _∷_, _++_}
+use mathlib.Core.List.{List, _∷_, _++_}
 use Prim.Native.Nat.{ℕ}
-use lib.ListN.{length}
 use Rattle.notation.specs.Tokens.{Lexeme}
 use Rattle.notation.specs.Notation.{Expr}
 use Rattle.notation.specs.Texts.{Numbered, numbered}
