@@ -1,0 +1,2 @@
+-- How read models are evaluated.
+pub mod working

@@ -1,0 +1,3 @@
+// The evaluation of read models: one choice word at a time, and 64 at a time.
+pub mod lanes;
+pub mod machine;

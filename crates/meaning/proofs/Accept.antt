@@ -1,0 +1,107 @@
+-- The computed conditions are the conditions A to F.
+-- Assumes nothing.
+use mathlib.Core.Path.{_≡_, refl, sym, ap, _∙_, subst}
+use mathlib.Core.Logic.{_↔_, _⊎_, inl, inr}
+use mathlib.Core.Bool.{Bool, true, false, not, true≢false}
+use mathlib.Core.List.{List, [], _∷_}
+use Prim.Native.Nat.{ℕ, zero, suc, _<_}
+use native.Mathlib.Nat.{not-suc-le-zero, le-of-suc-le-suc, eq-or-lt-of-le}
+use native.Mathlib.Omega.{arith}
+use lib.ListN.{length}
+use borrow.Author.Tests.{eqb-true, eq-eqb}
+use Rattle.notation.specs.Model.{Model}
+use Rattle.notation.specs.Regular.{Every}
+use Rattle.meaning.specs.Meaning.{Breaks, commandAt}
+use Rattle.meaning.specs.OneRow.{One, stateNumber, stateCount, wordCount, spread, starts, breaks, next, TraceStep, spreadStep, lastOf}
+use Rattle.meaning.specs.Evidence.{inMap, ConditionA, ConditionB, ConditionC, ConditionE, ConditionF, StepFits}
+use Rattle.meaning.specs.working.Conditions.{every, implies, testA, testB, testC, testD, testE, testF, AllTestsTell}
+use Rattle.meaning.proofs.Number.{stateNumber-spread}
+use Rattle.meaning.proofs.OneRow.{and-split, and-join, starts-tell, breaks-tell, next-tells, last-is}
+
+pub below : (n : ℕ) (f : ℕ → Bool) → every n f ≡ true → (i : ℕ) → i < n → f i ≡ true
+unfolding every
+below zero f e i h = absurd (not-suc-le-zero h)
+below (suc n) f e i h = go (below n f (and-split (every n f) (f n) e .0) i) (eq-or-lt-of-le (le-of-suc-le-suc h))
+  where
+    go : (i < n → f i ≡ true) → (i ≡ n) ⊎ (i < n) → f i ≡ true
+    go lower (inl q) = rw q (and-split (every n f) (f n) e .1)
+    go lower (inr lt) = lower lt
+
+pub all-below : (n : ℕ) (f : ℕ → Bool) → ((i : ℕ) → i < n → f i ≡ true) → every n f ≡ true
+unfolding every
+all-below zero f h = refl
+all-below (suc n) f h = and-join (every n f) (f n) (all-below n f (λ i lt. h i (omega arith))) (h n (omega arith))
+
+pub implied : (a b : Bool) → implies a b ≡ true → a ≡ true → b ≡ true
+unfolding implies
+implied true b e h = e
+implied false b e h = cc
+
+implying : (a b : Bool) → (a ≡ true → b ≡ true) → implies a b ≡ true
+unfolding implies
+implying true b h = h refl
+implying false b h = refl
+
+is-not : (a : Bool) → not a ≡ true → ¬ (a ≡ true)
+is-not a e h = true≢false (let q : true ≡ false = rw h at (sym e) in q)
+
+not-is : (a : Bool) → ¬ (a ≡ true) → not a ≡ true
+not-is true h = absurd (h refl)
+not-is false h = refl
+
+module _ (m : Model) where
+  tells-A : (bytes : List ℕ) → (testA m bytes ≡ true) ↔ ConditionA m bytes
+  unfolding testA
+  tells-A bytes = (
+    λ e s h g. implied (starts m s) (inMap bytes s) (below (stateCount m) _ e s h) (starts-tell m s .1 g),
+    λ p. all-below _ _ λ s h. implying _ _ λ g. p s h (starts-tell m s .0 g),
+  )
+
+  tells-B : (bytes : List ℕ) → (testB m bytes ≡ true) ↔ ConditionB m bytes
+  unfolding testB
+  tells-B bytes = (
+    λ e s h g b. is-not (breaks m s) (implied (inMap bytes s) (not (breaks m s)) (below (stateCount m) _ e s h) g) (breaks-tell m s .1 b),
+    λ p. all-below _ _ λ s h. implying _ _ λ g. not-is (breaks m s) λ b. p s h g (breaks-tell m s .0 b),
+  )
+
+  tells-C : (bytes : List ℕ) → (testC m bytes ≡ true) ↔ ConditionC m bytes
+  unfolding testC
+  tells-C bytes = (
+    λ e s k w hs hk hw g.
+        below (wordCount (commandAt m k)) _
+        (below (length (m .commands)) _ (implied (inMap bytes s) _ (below (stateCount m) _ e s hs) g) k hk)
+        w hw,
+    λ p. all-below _ _ λ s h. implying _ _ λ g. all-below _ _ λ k hk. all-below _ _ λ w hw. p s k w h hk hw g,
+  )
+
+  steps-to : (s : ℕ) (xs : List TraceStep) → Every (StepFits m) xs → testE m s xs ≡ true → ConditionE m s xs
+  unfolding testE spreadStep
+  steps-to s [] f e = tt
+  steps-to s (x ∷ xs) f e =
+      let t = and-split _ _ e in
+      (f .0 .command, ap (spread m One) (eqb-true _ _ (t .0)) ∙ next-tells m s (x .command) (x .word), steps-to (x .after) xs (f .1) (t .1))
+
+  steps-of : (s : ℕ) (xs : List TraceStep) → Every (StepFits m) xs → ConditionE m s xs → testE m s xs ≡ true
+  unfolding testE spreadStep next
+  steps-of s [] f h = refl
+  steps-of s (x ∷ xs) f h =
+      and-join _ _ (eq-eqb _ _ (sym (stateNumber-spread m (x .after) (f .0 .after)) ∙ ap stateNumber (h .1))) (steps-of (x .after) xs (f .1) (h .2))
+
+  tells-F : (s : ℕ) (xs : List TraceStep) → (testF m s xs ≡ true) ↔ ConditionF m s xs
+  unfolding testF
+  tells-F s xs = (
+    λ e. subst (Breaks m) (sym (last-is m s xs)) (breaks-tell m (lastOf s xs) .0 e),
+    λ b. breaks-tell m (lastOf s xs) .1 (subst (Breaks m) (last-is m s xs) b),
+  )
+
+pub all-tests-tell : AllTestsTell
+unfolding testD
+all-tests-tell m =
+    record {
+      tellsA = tells-A m;
+      tellsB = tells-B m;
+      tellsC = tells-C m;
+      tellsD = starts-tell m;
+      tellsE = λ s xs f. (steps-to m s xs f, steps-of m s xs f);
+      tellsF = tells-F m;
+    }

@@ -1,0 +1,132 @@
+-- One row stands for all: what a passing sheet says of one row it says of every table from one row up.
+-- Assumes nothing.
+use mathlib.Core.Path.{_≡_, refl, sym, ap, _∙_, subst}
+use mathlib.Core.Logic.{inl, inr}
+use mathlib.Core.Bool.{true}
+use mathlib.Core.List.{List, [], _∷_, map}
+use Prim.Native.Nat.{ℕ, _<_}
+use lib.ListN.{length}
+use Rattle.notation.specs.Model.{Model, stars}
+use Rattle.notation.specs.Regular.{NumberedFrom, Regular}
+use Rattle.notation.proofs.Regular.{all-regular}
+use Rattle.meaning.specs.Meaning.{Row, State, Choice, Move, step, idle, commandAt, Fits, Breaks, AreSteps, IsRun, last, Safe, Unsafe}
+use Rattle.meaning.specs.OneRow.{One, theRow, stateNumber, spread, spreadWord, next, TraceStep, spreadStep}
+use Rattle.meaning.specs.Evidence.{Sheet, safe, trace, isSafe, inMap, MapPasses, TracePasses, TraceHolds, Passes, Holds, Claim}
+use Rattle.meaning.specs.Rows.{Projection, MapsHold, TracesHold, OneKind, Together}
+use Rattle.meaning.proofs.View.{view, viewChoice, viewMove, view-step, view-run, view-last, seen-from}
+use Rattle.meaning.proofs.Number.{one-is, stateNumber-lt, spread-stateNumber}
+use Rattle.meaning.proofs.Words.{wordOf, wordOf-lt, step-word}
+use Rattle.meaning.proofs.Lists.{every-at}
+use Rattle.meaning.proofs.Fits.{step-fits}
+
+-- 1. A step seen in row i is the one-row step of the state seen there, under the choice word of the choices seen there.
+numbered-at : {m : Model} → Regular m → (k : ℕ) → k < length (m .commands) → NumberedFrom 0 (stars (commandAt m k))
+numbered-at {m} g k lt = every-at _ (m .commands) idle k (g .numbered) lt
+
+pub projection : Projection
+projection m g k lt n i c = (
+  wordOf (commandAt m k) (viewChoice (λ (o : One). i) c),
+  wordOf-lt (commandAt m k) (viewChoice (λ (o : One). i) c),
+  λ s. view-step (λ (o : One). i) (commandAt m k) c s
+      ∙ step-word (commandAt m k) (numbered-at g k lt) (viewChoice (λ (o : One). i) c) (view (λ (o : One). i) s),
+)
+
+-- 2. Where a map passes, one row is safe: every state that a run reaches has its number in the map.
+module _ (m : Model) (g : Regular m) (bytes : List ℕ) (p : MapPasses m bytes) where
+  member-step : (s : State One) (k : ℕ) (c : Choice One) → Fits m s → k < length (m .commands) → inMap bytes (stateNumber s) ≡ true
+      → inMap bytes (stateNumber (step (commandAt m k) c s)) ≡ true
+  unfolding next
+  member-step s k c h lt e =
+      let q = p .closed (stateNumber s) k (wordOf (commandAt m k) c) (stateNumber-lt m s h) lt (wordOf-lt (commandAt m k) c) e in
+      rw (step-word (commandAt m k) (numbered-at g k lt) c s)
+      (rw (spread-stateNumber m s h) at q)
+
+  reached-from : (s : State One) (xs : List (Move One)) → Fits m s → inMap bytes (stateNumber s) ≡ true → AreSteps m s xs
+      → Fits m (last s xs) × (inMap bytes (stateNumber (last s xs)) ≡ true)
+  reached-from s [] h e q = (h, e)
+  reached-from s (x ∷ xs) h e q =
+      reached-from (x .after) xs
+      (rw (q .1) (step-fits m (x .choice) (commandAt m (x .command)) s h))
+      (rw (q .1) (member-step s (x .command) (x .choice) h (q .0) e))
+      (q .2)
+
+  pub reached : (s : State One) (xs : List (Move One)) → IsRun m s xs → Fits m (last s xs) × (inMap bytes (stateNumber (last s xs)) ≡ true)
+  reached s xs r =
+      let f = r .start .fits in
+      reached-from s xs f
+      (p .starts (stateNumber s) (stateNumber-lt m s f) (rw (spread-stateNumber m s f) (r .start)))
+      (r .steps)
+
+  one-safe : Safe m One
+  one-safe s xs r b =
+      let (h, e) = reached s xs r in
+      p .keeps (stateNumber (last s xs)) (stateNumber-lt m (last s xs) h) e
+      (rw (spread-stateNumber m (last s xs) h) b)
+
+-- A break in one table is a break in every other, if neither is empty: every row of the other does what the breaking row does.
+unsafe-elsewhere : {I J : Type 0} (m : Model) → I → J → Unsafe m I → Unsafe m J
+unsafe-elsewhere {I} {J} m o j (s, xs, r, b) =
+    let e = seen-from m (last s xs) o b in
+    let f : J → I = λ x. e .0 in
+    (view f s, map (viewMove f) xs, view-run f m s xs r, rw (view-last f s xs) (e .1 J j))
+
+pub together : Together
+together m n₁ n₂ h₁ h₂ u = unsafe-elsewhere m (0, h₁) (0, h₂) u
+
+pub maps-hold : MapsHold
+maps-hold m g bytes p n h s xs r b =
+    let u = unsafe-elsewhere m (0, h) theRow (s, xs, r, b) in
+    one-safe m g bytes p (u .0) (u .1) (u .2) (u .3)
+
+-- 3. A passing trace: its run, with its row and its choices copied, is a run of every table from one row up, to a breaking state.
+trace-one : {m : Model} {s : ℕ} {xs : List TraceStep} → TracePasses m s xs → TraceHolds m One s xs
+trace-one p = record { run = record { start = p .starts; steps = p .steps }; breaks = p .breaks }
+
+copied-steps : (m : Model) (I : Type 0) (xs : List TraceStep) → map (viewMove (λ (i : I). theRow)) (map (spreadStep m One) xs) ≡ map (spreadStep m I) xs
+unfolding spreadStep spread spreadWord
+copied-steps m I [] = refl
+copied-steps m I (x ∷ xs) = ap {B = List (Move I)} (λ r. spreadStep m I x ∷ r) (copied-steps m I xs)
+
+copied-break : (m : Model) (I : Type 0) → I → (s : State One) → Breaks m s → Breaks m (view (λ (i : I). theRow) s)
+copied-break m I o s (inl h) = inl h
+copied-break m I o s (inr h) = inr (o, rw (← (one-is (h .0))) (h .1))
+
+trace-holds : (m : Model) (s : ℕ) (xs : List TraceStep) → TraceHolds m One s xs → (I : Type 0) → I → TraceHolds m I s xs
+unfolding spread
+trace-holds m s xs p I o =
+    let f : I → One = λ i. theRow in
+    let q = view-run f m (spread m One s) (map (spreadStep m One) xs) (p .run) in
+    let b = copied-break m I o (last (spread m One s) (map (spreadStep m One) xs)) (p .breaks) in
+    record {
+      run = rw (copied-steps m I xs) at q;
+      breaks = subst (λ (ys : List (Move I)). Breaks m (last (spread m I s) ys)) (copied-steps m I xs)
+          (subst (Breaks m) (sym (view-last f (spread m One s) (map (spreadStep m One) xs))) b);
+    }
+
+pub traces-hold : TracesHold
+traces-hold m s xs p n h = trace-holds m s xs (trace-one p) (Row n) (0, h)
+
+-- 4. No model has both a passing map and a passing trace.
+pub one-kind : OneKind
+one-kind m g bytes s xs p q = let t = trace-one q in one-safe m g bytes p (spread m One s) (map (spreadStep m One) xs) (t .run) (t .breaks)
+
+-- 5. The claim.
+holds : (m : Model) → Regular m → (x : Sheet) → Passes m x → (n : ℕ) → 0 < n → Holds m (Row n) x
+holds m g (safe bytes) p n h = maps-hold m g bytes p n h
+holds m g (trace s xs) p n h = traces-hold m s xs p n h
+
+same-kind : (m : Model) → Regular m → (x y : Sheet) → Passes m x → Passes m y → isSafe y ≡ isSafe x
+same-kind m g (safe a) (safe b) p q = refl
+same-kind m g (safe a) (trace s xs) p q = absurd (one-kind m g a s xs p q)
+same-kind m g (trace s xs) (safe a) p q = absurd (one-kind m g a s xs q p)
+same-kind m g (trace s xs) (trace t ys) p q = refl
+
+pub claim : Claim
+claim text m says x p n₁ n₂ h₁ h₂ =
+    let g = all-regular text m says in
+    record {
+      here = holds m g x p n₁ h₁;
+      there = holds m g x p n₂ h₂;
+      alike = (together m n₁ n₂ h₁ h₂, together m n₂ n₁ h₂ h₁);
+      agree = λ y q. same-kind m g x y p q;
+    }

@@ -1,0 +1,39 @@
+-- What one row tells of many: promises about single steps and single sheets, from which the claim is put together.
+-- Assumes nothing.
+use mathlib.Core.Path.{_≡_}
+use mathlib.Core.List.{List}
+use Prim.Native.Nat.{ℕ, _<_}
+use lib.ListN.{length}
+use Rattle.notation.specs.Model.{Model}
+use Rattle.notation.specs.Regular.{Regular}
+use Rattle.meaning.specs.Meaning.{Row, State, Choice, step, commandAt, Safe, Unsafe}
+use Rattle.meaning.specs.OneRow.{One, spreadWord, wordCount, TraceStep}
+use Rattle.meaning.specs.Evidence.{MapPasses, TracePasses, TraceHolds}
+
+-- The state of one row that is left where all rows but row i are taken away.
+abbrev pub only : {I : Type 0} → I → State I → State One
+only i s = record { shared = s .shared; rows = λ o. s .rows i }
+
+-- Whatever the stars of a step come out as, what it does to one of the n rows is what some choice word does to that row alone.
+abbrev pub Projection : Type 0
+Projection =
+    (m : Model) → Regular m → (k : ℕ) → k < length (m .commands) → (n : ℕ) (i : Row n) (c : Choice (Row n))
+    → (w : ℕ)
+    × (w < wordCount (commandAt m k))
+    × ((s : State (Row n)) → only i (step (commandAt m k) c s) ≡ step (commandAt m k) (spreadWord One w) (only i s))
+
+-- Where a map passes, tables of every size are safe.
+abbrev pub MapsHold : Type 0
+MapsHold = (m : Model) → Regular m → (bytes : List ℕ) → MapPasses m bytes → (n : ℕ) → 0 < n → Safe m (Row n)
+
+-- Where a trace passes, its copy is a run over tables of every size.
+abbrev pub TracesHold : Type 0
+TracesHold = (m : Model) (s : ℕ) (xs : List TraceStep) → TracePasses m s xs → (n : ℕ) → 0 < n → TraceHolds m (Row n) s xs
+
+-- No model has a map that passes and a trace that passes.
+abbrev pub OneKind : Type 0
+OneKind = (m : Model) → Regular m → (bytes : List ℕ) (s : ℕ) (xs : List TraceStep) → MapPasses m bytes → TracePasses m s xs → ⊥
+
+-- Tables of two sizes can go wrong only together.
+abbrev pub Together : Type 0
+Together = (m : Model) (n₁ n₂ : ℕ) → 0 < n₁ → 0 < n₂ → Unsafe m (Row n₁) → Unsafe m (Row n₂)
