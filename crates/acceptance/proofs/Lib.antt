@@ -1,4 +1,4 @@
--- Laws of the evaluation, by subject.
+-- Laws of the evaluation, of sheets and of the test, by subject.
 pub mod CodeRuns
 pub mod Values
 pub mod Effects
@@ -11,3 +11,17 @@ pub mod LaneEnds
 pub mod LaneRows
 pub mod Batches
 pub mod Bounds
+pub mod UnusedBits
+pub mod SheetLaws
+pub mod SheetOpened
+pub mod SheetRefusals
+pub mod SheetWritten
+pub mod SheetSplit
+pub mod SheetAnswers
+pub mod Loops
+pub mod Traces
+pub mod TestMeans
+pub mod TestWhole
+pub mod StarCounts
+pub mod SheetCases
+pub mod Claims

@@ -3,3 +3,6 @@ pub mod CodeMachine
 pub mod Cells
 pub mod Ends
 pub mod Batches
+pub mod SheetReading
+pub mod Test
+pub mod Shapes

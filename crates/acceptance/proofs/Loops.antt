@@ -1,0 +1,157 @@
+-- The conditions A, B and C, one turn of a loop at a time; and the bit of a map.
+-- Assumes nothing.
+use mathlib.Core.Path.{_≡_, refl, sym, ap, subst}
+use mathlib.Core.Bool.{Bool, true, false, not, _&&_}
+use mathlib.Core.List.{List}
+use mathlib.Core.Logic.{_⊎_, inl, inr}
+use Prim.Native.Nat.{ℕ, zero, suc, _+_, _/_, _%_, _^_, _<_, _≤_}
+use native.Mathlib.Omega.{arith}
+use native.Mathlib.Numerals.{add-one}
+use native.Mathlib.Nat.{not-suc-le-zero, le-of-suc-le-suc, eq-or-lt-of-le}
+use lib.ListN.{getD, drop}
+use lib.Seq.{getD-take, getD-drop}
+use lib.Dec.{eqb}
+use Rattle.meaning.specs.Bits.{bit}
+use Rattle.meaning.specs.Evidence.{inMap}
+use Rattle.meaning.specs.working.Conditions.{every, implies}
+use Rattle.acceptance.specs.working.SheetReading.{mapIn}
+use Rattle.acceptance.specs.working.Test.{wordsStay, condA, condB, condC, closedAt, wordsStay}
+
+-- The bit that the code reads is that of the map.
+pub bit-in : (b : List ℕ) (p n s byte : ℕ) → s / 8 < n → byte ≡ getD b (p + s / 8) 0 → eqb (byte / 2 ^ (s % 8) % 2) 1 ≡ inMap (mapIn b p n) s
+unfolding inMap mapIn bit
+bit-in b p n s byte h e = rw (getD-take n (drop p b) (s / 8) 0 h, getD-drop p b (s / 8) 0, e)
+
+-- A test that holds of every number below n, one number more at a time.
+pub every-none : (f : ℕ → Bool) → every 0 f ≡ true
+unfolding every
+every-none f = refl
+
+pub every-next : (f : ℕ → Bool) (i : ℕ) → every i f ≡ true → f i ≡ true → every (i + 1) f ≡ true
+unfolding every
+every-next f i e h = rw (add-one, e, h)
+
+and-no : (a : Bool) → a && false ≡ false
+and-no true = refl
+and-no false = refl
+
+pub every-fail : (n : ℕ) (f : ℕ → Bool) (i : ℕ) → i < n → f i ≡ false → false ≡ every n f
+unfolding every
+every-fail zero f i h e = absurd (not-suc-le-zero h)
+every-fail (suc n) f i h e = go (every-fail n f i) (eq-or-lt-of-le (le-of-suc-le-suc h))
+  where
+    go : (i < n → f i ≡ false → false ≡ every n f) → (i ≡ n) ⊎ (i < n) → false ≡ every n f && f n
+    go below (inl q) = let z : f n ≡ false = subst (λ (x : ℕ). f x ≡ false) q e in sym (rw z (and-no (every n f)))
+    go below (inr lt) = rw (← below lt e)
+
+pub every-done : (n : ℕ) (f : ℕ → Bool) (i : ℕ) → i ≤ n → n ≤ i → every i f ≡ true → true ≡ every n f
+every-done n f i h k e = let q : i ≡ n = omega arith in sym (subst (λ (x : ℕ). every x f ≡ true) q e)
+
+pub implies-no : (a b : Bool) → a ≡ false → implies a b ≡ true
+unfolding implies
+implies-no a b e = rw e
+
+pub implies-yes : (a b : Bool) → b ≡ true → implies a b ≡ true
+unfolding implies
+implies-yes true b e = e
+implies-yes false b e = refl
+
+pub implies-bad : (a b : Bool) → a ≡ true → b ≡ false → implies a b ≡ false
+unfolding implies
+implies-bad a b e f = rw (e, f)
+
+-- A, one state more at a time.
+module _ (starts : ℕ → Bool) (map : List ℕ) (s : ℕ) where
+  pub a-none : condA 0 starts map ≡ true
+  unfolding condA
+  a-none = every-none _
+
+  module _ (e : condA s starts map ≡ true) where
+    pub a-other : starts s ≡ false → condA (s + 1) starts map ≡ true
+    unfolding condA
+    a-other h = every-next _ _ e (implies-no _ _ h)
+
+    pub a-member : inMap map s ≡ true → condA (s + 1) starts map ≡ true
+    unfolding condA
+    a-member h = every-next _ _ e (implies-yes _ _ h)
+
+    pub a-done : (n : ℕ) → s ≤ n → n ≤ s → true ≡ condA n starts map
+    unfolding condA
+    a-done n h k = every-done _ _ _ h k e
+
+  pub a-fail : (n : ℕ) → s < n → starts s ≡ true → inMap map s ≡ false → false ≡ condA n starts map
+  unfolding condA
+  a-fail n h f g = every-fail _ _ _ h (implies-bad _ _ f g)
+
+-- B, one state more at a time.
+module _ (breaks : ℕ → Bool) (map : List ℕ) (s : ℕ) where
+  pub b-none : condB 0 breaks map ≡ true
+  unfolding condB
+  b-none = every-none _
+
+  module _ (e : condB s breaks map ≡ true) where
+    pub b-other : inMap map s ≡ false → condB (s + 1) breaks map ≡ true
+    unfolding condB
+    b-other h = every-next _ _ e (implies-no _ _ h)
+
+    pub b-keeps : breaks s ≡ false → condB (s + 1) breaks map ≡ true
+    unfolding condB
+    b-keeps h = every-next _ _ e (implies-yes _ _ (ap not h))
+
+    pub b-done : (n : ℕ) → s ≤ n → n ≤ s → true ≡ condB n breaks map
+    unfolding condB
+    b-done n h k = every-done _ _ _ h k e
+
+  pub b-fail : (n : ℕ) → s < n → inMap map s ≡ true → breaks s ≡ true → false ≡ condB n breaks map
+  unfolding condB
+  b-fail n h f g = every-fail _ _ _ h (implies-bad _ _ f (ap not g))
+
+-- C, one word, one command and one state more at a time.
+module _ (step : ℕ → ℕ → ℕ → ℕ) (map : List ℕ) (s : ℕ) where
+  pub words-none : (c : ℕ) → wordsStay step map s c 0 ≡ true
+  unfolding wordsStay
+  words-none c = every-none _
+
+  pub words-next : (c w : ℕ) → wordsStay step map s c w ≡ true → inMap map (step s c w) ≡ true → wordsStay step map s c (w + 1) ≡ true
+  unfolding wordsStay
+  words-next c w e h = every-next _ _ e h
+
+module _ (commands : ℕ) (stars : ℕ → ℕ) (step : ℕ → ℕ → ℕ → ℕ) (map : List ℕ) (s : ℕ) where
+  pub closed-none : closedAt 0 stars step map s ≡ true
+  unfolding closedAt
+  closed-none = every-none _
+
+  pub closed-next : (c w n : ℕ) → closedAt c stars step map s ≡ true → n ≡ 2 ^ stars c → w ≤ n → n ≤ w → wordsStay step map s c w ≡ true → closedAt (c + 1) stars step map s ≡ true
+  unfolding closedAt
+  closed-next c w n e q h k f =
+      let z : w ≡ 2 ^ stars c = omega arith in
+      every-next _ _ e (subst (λ (x : ℕ). wordsStay step map s c x ≡ true) z f)
+
+  pub closed-fail : (c w n : ℕ) → c < commands → n ≡ 2 ^ stars c → w < n → inMap map (step s c w) ≡ false → false ≡ closedAt commands stars step map s
+  unfolding closedAt wordsStay
+  closed-fail c w n h q k f = every-fail _ _ _ h (sym (every-fail (2 ^ stars c) (λ x. inMap map (step s c x)) w (rw q at k) f))
+
+  pub closed-done : (c : ℕ) → c ≤ commands → commands ≤ c → closedAt c stars step map s ≡ true → true ≡ closedAt commands stars step map s
+  unfolding closedAt
+  closed-done c h k e = every-done _ _ _ h k e
+
+  pub c-none : condC 0 commands stars step map ≡ true
+  unfolding condC
+  c-none = every-none _
+
+  module _ (e : condC s commands stars step map ≡ true) where
+    pub c-other : inMap map s ≡ false → condC (s + 1) commands stars step map ≡ true
+    unfolding condC
+    c-other h = every-next _ _ e (implies-no _ _ h)
+
+    pub c-closed : closedAt commands stars step map s ≡ true → condC (s + 1) commands stars step map ≡ true
+    unfolding condC
+    c-closed h = every-next _ _ e (implies-yes _ _ h)
+
+    pub c-done : (n : ℕ) → s ≤ n → n ≤ s → true ≡ condC n commands stars step map
+    unfolding condC
+    c-done n h k = every-done _ _ _ h k e
+
+  pub c-fail : (n : ℕ) → s < n → inMap map s ≡ true → closedAt commands stars step map s ≡ false → false ≡ condC n commands stars step map
+  unfolding condC
+  c-fail n h f g = every-fail _ _ _ h (implies-bad _ _ f g)

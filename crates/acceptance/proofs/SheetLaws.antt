@@ -1,0 +1,226 @@
+-- Laws of records, of demands and of the shapes they lead to, over plain variables, as the proofs of the functions cite them.
+-- Assumes nothing.
+use mathlib.Core.Path.{_≡_, refl, sym, ap, _∙_, subst}
+use mathlib.Core.Bool.{Bool, true, false}
+use mathlib.Core.List.{List}
+use Prim.Native.Nat.{ℕ, suc, _+_, _-_, _*_, _/_, _%_, _^_, _<_, _≤_}
+use native.Mathlib.Omega.{arith}
+use native.Mathlib.Nat.{one-mul}
+use lib.ListN.{length, getD}
+use lib.Dec.{eqb, ltb}
+use lib.Pow.{shl-exact, pow-mono}
+use borrow.Author.Tests.{leb-true, eqb-true, eq-eqb, ne-eqb, lt-ltb, le-ltb, le-leb, lt-leb}
+use Rattle.acceptance.specs.SheetTexts.{both, twoAt, fourAt, isRecord, sameCounts, unusedClear, stepIn, stepFits}
+use Rattle.acceptance.specs.Sheets.{mapLength}
+use Rattle.acceptance.specs.working.SheetReading.{Reading, refused, demand, either, stepsAt, stepCount, mapAt, traceAt, bodyAt, sheetIn}
+use Rattle.acceptance.specs.working.Shapes.{shapeOf, starsIn}
+use Rattle.acceptance.specs.declared.sheets.Shape.{Shape}
+use Rattle.acceptance.specs.declared.sheets.Shape.the-variants.{Bad, Map, Trace}
+
+pub both-no : (a b : Bool) → a ≡ false → false ≡ both a b
+unfolding both
+both-no a b e = rw e
+
+pub both-go : (a b r : Bool) → a ≡ true → r ≡ b → r ≡ both a b
+unfolding both
+both-go a b r e f = rw (e, f)
+
+pub both-split : (a b : Bool) → both a b ≡ true → (a ≡ true) × (b ≡ true)
+unfolding both
+both-split true b e = (refl, e)
+both-split false b e = (e, cc)
+
+pub both-join : (a b : Bool) → a ≡ true → b ≡ true → both a b ≡ true
+both-join a b p q = sym (both-go a b true p (sym q))
+
+-- What a record at p tells: it fits, and its length and kind are those asked for.
+pub record-fits : (b : List ℕ) (p kind n : ℕ) → isRecord b p kind n ≡ true → p + 6 + n ≤ length b
+unfolding isRecord
+record-fits b p kind n e = leb-true _ _ (both-split _ _ e .0)
+
+pub record-length : (b : List ℕ) (p kind n : ℕ) → isRecord b p kind n ≡ true → fourAt b p ≡ n
+unfolding isRecord
+record-length b p kind n e = eqb-true _ _ (both-split _ _ (both-split _ _ e .1) .0)
+
+pub record-kind : (b : List ℕ) (p kind n : ℕ) → isRecord b p kind n ≡ true → twoAt b (p + 4) ≡ kind
+unfolding isRecord
+record-kind b p kind n e = eqb-true _ _ (both-split _ _ (both-split _ _ e .1) .1)
+
+pub one-shifted : (n : ℕ) → n ≤ 12 → (1 * 2 ^ n) % 2 ^ 64 ≡ 2 ^ n
+one-shifted n h = shl-exact {a = 1} 1 n 64 (omega arith) (omega arith) ∙ one-mul (2 ^ n)
+
+pub length-one : (states : ℕ) → states / 8 ≡ 0 → 1 ≡ mapLength states
+unfolding mapLength
+length-one states e = omega arith
+
+pub length-many : (states : ℕ) → (states / 8 ≡ 0 → ⊥) → states / 8 ≡ mapLength states
+unfolding mapLength
+length-many states e = omega arith
+
+pub four-is : (b : List ℕ) (p low high : ℕ) → low ≡ twoAt b p → high ≡ twoAt b (p + 2) → low + 65536 * high ≡ fourAt b p
+unfolding fourAt
+four-is b p low high e f = rw (e, f)
+
+-- One demand.
+module _ (t : Bool) (n p : ℕ) (rest : Unit {0} → Reading) where
+  pub shape-no : t ≡ false → Bad n p ≡ shapeOf (demand t n p rest)
+  unfolding demand shapeOf
+  shape-no e = rw e
+
+  pub shape-go : (r : Shape) → t ≡ true → r ≡ shapeOf (rest tt) → r ≡ shapeOf (demand t n p rest)
+  unfolding demand
+  shape-go r e f = rw e f
+
+  pub demand-go : t ≡ true → demand t n p rest ≡ rest tt
+  unfolding demand
+  demand-go e = rw e
+
+  pub demand-no : t ≡ false → demand t n p rest ≡ refused n p
+  unfolding demand
+  demand-no e = rw e
+
+-- The unused bits.
+pub clear-few : (states byte : ℕ) (b n : ℕ) → states < 8 → b ≡ byte → n ≡ 2 ^ states → ltb b n ≡ unusedClear states byte
+unfolding unusedClear
+clear-few states byte b n h e f = rw (lt-ltb states 8 h, e, f)
+
+pub clear-many : (states byte : ℕ) → 8 ≤ states → true ≡ unusedClear states byte
+unfolding unusedClear
+clear-many states byte h = rw (le-ltb states 8 h)
+
+-- A step's numbers.
+module _ (states commands : ℕ) (stars : List ℕ) (b : List ℕ) (p : ℕ) where
+  pub fits-command : (c : ℕ) → c ≡ getD b p 0 → commands ≤ c → false ≡ stepFits states commands (starsIn stars) (stepIn b p)
+  unfolding stepFits stepIn
+  fits-command c e h = both-no _ _ (le-ltb _ _ (subst (λ (x : ℕ). commands ≤ x) e h))
+
+  module _ (c w n : ℕ) (e : c ≡ getD b p 0) (h : c < commands) (f : w ≡ getD b (p + 1) 0) (g : n ≡ 2 ^ getD stars c 0) where
+    pub fits-word : n ≤ w → false ≡ stepFits states commands (starsIn stars) (stepIn b p)
+    unfolding stepFits stepIn starsIn
+    fits-word k =
+        let q : 2 ^ getD stars (getD b p 0) 0 ≤ getD b (p + 1) 0 = rw (← e, ← g, ← f) k in
+        both-go _ _ _ (lt-ltb _ _ (subst (λ (x : ℕ). x < commands) e h)) (both-no _ _ (le-ltb _ _ q))
+
+    pub fits-state : (t : ℕ) → w < n → t ≡ twoAt b (p + 2) → ltb t states ≡ stepFits states commands (starsIn stars) (stepIn b p)
+    unfolding stepFits stepIn starsIn
+    fits-state t k i =
+        let q : getD b (p + 1) 0 < 2 ^ getD stars (getD b p 0) 0 = rw (← e, ← g, ← f) k in
+        both-go _ _ _ (lt-ltb _ _ (subst (λ (x : ℕ). x < commands) e h)) (both-go _ _ _ (lt-ltb _ _ q) (ap (λ (x : ℕ). ltb x states) i))
+
+pub same-test : (x y k : ℕ) → x ≡ y → eqb x k ≡ eqb y k
+same-test x y k e = rw e
+
+-- A map's record.
+module _ (states : ℕ) (b : List ℕ) (p n : ℕ) (e : n ≡ mapLength states) (clear : unusedClear states (getD b (p + 6) 0) ≡ true) where
+  pub map-longer : (length b ≡ p + 6 + n → ⊥) → Bad 9 (p + 6 + n) ≡ shapeOf (mapAt states b p)
+  unfolding mapAt
+  map-longer h = rw e (shape-go _ _ _ _ _ clear (shape-no _ _ _ _ (ne-eqb _ _ (λ q. h (q ∙ ap (λ (x : ℕ). p + 6 + x) (sym e))))))
+
+  pub map-whole : length b ≡ p + 6 + n → Map ≡ shapeOf (mapAt states b p)
+  unfolding mapAt shapeOf
+  map-whole h = shape-go _ _ _ _ _ clear (shape-go _ _ _ _ _ (eq-eqb _ _ (h ∙ ap (λ (x : ℕ). p + 6 + x) e)) refl)
+
+-- The steps: what is left from here gives what all of it gave.
+module _ (states commands : ℕ) (stars : ℕ → ℕ) (b : List ℕ) (p n : ℕ) (rest : Reading) (h : 0 < n) where
+  one-less : n ≡ suc (n - 1)
+  one-less = omega arith
+
+  pub steps-kind : isRecord b p 4 4 ≡ false → refused 9 p ≡ stepsAt states commands stars b p n rest
+  unfolding stepsAt
+  steps-kind e = rw one-less (sym (demand-no _ _ _ _ e))
+
+  pub steps-range : isRecord b p 4 4 ≡ true → stepFits states commands stars (stepIn b (p + 6)) ≡ false → refused 10 p ≡ stepsAt states commands stars b p n rest
+  unfolding stepsAt
+  steps-range e f = rw one-less (sym (demand-go _ _ _ _ e ∙ demand-no _ _ _ _ f))
+
+  pub steps-next : isRecord b p 4 4 ≡ true → stepFits states commands stars (stepIn b (p + 6)) ≡ true
+      → stepsAt states commands stars b (p + 10) (n - 1) rest ≡ stepsAt states commands stars b p n rest
+  unfolding stepsAt
+  steps-next e f = sym (ap (λ (x : ℕ). stepsAt states commands stars b p x rest) one-less ∙ demand-go _ _ _ _ e ∙ demand-go _ _ _ _ f)
+
+pub steps-none : (states commands : ℕ) (stars : ℕ → ℕ) (b : List ℕ) (p n : ℕ) (rest : Reading) → n ≡ 0 → stepsAt states commands stars b p n rest ≡ rest
+unfolding stepsAt
+steps-none states commands stars b p n rest e = rw e
+
+-- A trace's record, and its steps.
+module _ (states commands : ℕ) (stars : ℕ → ℕ) (b : List ℕ) (p x : ℕ) (e : x ≡ twoAt b (p + 6)) where
+  pub trace-bad : states ≤ x → Bad 10 p ≡ shapeOf (traceAt states commands stars b p)
+  unfolding traceAt
+  trace-bad h = shape-no _ _ _ _ (le-ltb _ _ (rw e at h))
+
+  module _ (h : x < states) where
+    pub trace-fault : (k q : ℕ) → ((rest : Reading) → refused k q ≡ stepsAt states commands stars b (p + 8) (stepCount b (p + 8)) rest)
+        → Bad k q ≡ shapeOf (traceAt states commands stars b p)
+    unfolding traceAt shapeOf
+    trace-fault k q f = shape-go _ _ _ _ _ (lt-ltb _ _ (rw e at h)) (ap shapeOf (f _))
+
+    pub trace-whole : ((rest : Reading) → rest ≡ stepsAt states commands stars b (p + 8) (stepCount b (p + 8)) rest) → Trace ≡ shapeOf (traceAt states commands stars b p)
+    unfolding traceAt shapeOf
+    trace-whole f = shape-go _ _ _ _ _ (lt-ltb _ _ (rw e at h)) (ap shapeOf (f _))
+
+-- One turn of a loop that counts them.
+pub steps-left : (states commands : ℕ) (stars : ℕ → ℕ) (b : List ℕ) (p n i : ℕ) (rest : Reading) → i < n → isRecord b p 4 4 ≡ true
+    → stepFits states commands stars (stepIn b (p + 6)) ≡ true
+    → stepsAt states commands stars b (p + 10) (n - (i + 1)) rest ≡ stepsAt states commands stars b p (n - i) rest
+steps-left states commands stars b p n i rest h e f =
+    let q : n - (i + 1) ≡ (n - i) - 1 = omega arith in
+    ap (λ (x : ℕ). stepsAt states commands stars b (p + 10) x rest) q ∙ steps-next states commands stars b p (n - i) rest (omega arith) e f
+
+pub steps-start : (states commands : ℕ) (stars : ℕ → ℕ) (b : List ℕ) (p n : ℕ) (rest : Reading)
+    → stepsAt states commands stars b p (n - 0) rest ≡ stepsAt states commands stars b p n rest
+steps-start states commands stars b p n rest = let q : n - 0 ≡ n = omega arith in ap (λ (x : ℕ). stepsAt states commands stars b p x rest) q
+
+-- Sizes.
+pub pow-small : (k n : ℕ) → k ≤ 12 → n ≡ 2 ^ k → n ≤ 4096
+pow-small k n h e = rw e (pow-mono {i = k} {j = 12} h)
+
+pub map-length-pos : (states n : ℕ) → n ≡ mapLength states → 1 ≤ n
+unfolding mapLength
+map-length-pos states n e = omega arith
+
+pub map-length-le : (states n : ℕ) → states ≤ 4096 → n ≡ mapLength states → n ≤ 512
+unfolding mapLength
+map-length-le states n h e = omega arith
+
+-- The second record, and the whole sheet.
+module _ (states commands : ℕ) (stars : ℕ → ℕ) (b : List ℕ) (p n : ℕ) (r : Shape) (e : n ≡ mapLength states) where
+  pub body-map : isRecord b p 2 n ≡ true → r ≡ shapeOf (mapAt states b p) → r ≡ shapeOf (bodyAt states commands stars b p)
+  unfolding bodyAt either
+  body-map h f = let z : isRecord b p 2 (mapLength states) ≡ true = rw e at h in rw z f
+
+  pub body-trace : isRecord b p 2 n ≡ false → isRecord b p 3 2 ≡ true → r ≡ shapeOf (traceAt states commands stars b p) → r ≡ shapeOf (bodyAt states commands stars b p)
+  unfolding bodyAt either
+  body-trace h k f = let z : isRecord b p 2 (mapLength states) ≡ false = rw e at h in rw (z, k) f
+
+pub body-none : (states commands : ℕ) (stars : ℕ → ℕ) (b : List ℕ) (p n : ℕ) → n ≡ mapLength states → isRecord b p 2 n ≡ false → isRecord b p 3 2 ≡ false
+    → Bad 9 p ≡ shapeOf (bodyAt states commands stars b p)
+unfolding bodyAt either shapeOf
+body-none states commands stars b p n e h k = let z : isRecord b p 2 (mapLength states) ≡ false = rw e at h in rw (z, k)
+
+module _ (shared row commands : ℕ) (stars : ℕ → ℕ) (b : List ℕ) where
+  pub sheet-long : 65536 < length b → Bad 9 65536 ≡ shapeOf (sheetIn shared row commands stars b)
+  unfolding sheetIn
+  sheet-long h = shape-no _ _ _ _ (lt-leb _ _ h)
+
+  module _ (h : length b ≤ 65536) where
+    pub sheet-header : isRecord b 0 1 3 ≡ false → Bad 9 0 ≡ shapeOf (sheetIn shared row commands stars b)
+    unfolding sheetIn
+    sheet-header e = shape-go _ _ _ _ _ (le-leb _ _ h) (shape-no _ _ _ _ e)
+
+    module _ (e : isRecord b 0 1 3 ≡ true) where
+      pub sheet-counts : sameCounts shared row commands b 6 ≡ false → Bad 10 0 ≡ shapeOf (sheetIn shared row commands stars b)
+      unfolding sheetIn
+      sheet-counts f = shape-go _ _ _ _ _ (le-leb _ _ h) (shape-go _ _ _ _ _ e (shape-no _ _ _ _ f))
+
+      pub sheet-body : sameCounts shared row commands b 6 ≡ true → (r : Shape) (states : ℕ) → states ≡ 2 ^ (shared + row)
+          → r ≡ shapeOf (bodyAt states commands stars b 9) → r ≡ shapeOf (sheetIn shared row commands stars b)
+      unfolding sheetIn
+      sheet-body f r states q g = shape-go _ _ _ _ _ (le-leb _ _ h) (shape-go _ _ _ _ _ e (shape-go _ _ _ _ _ f (g ∙ ap (λ (x : ℕ). shapeOf (bodyAt x commands stars b 9)) q)))
+
+-- The number of a command's choice words.
+pub stars-word : (stars : List ℕ) (k x n : ℕ) → x ≡ getD stars k 0 → n ≡ 2 ^ x → n ≡ 2 ^ starsIn stars k
+unfolding starsIn
+stars-word stars k x n e f = f ∙ ap (λ (y : ℕ). 2 ^ y) e
+
+pub words-few : (x n : ℕ) {y : ℕ} → y ≤ 8 → x ≡ y → n ≡ 2 ^ x → n ≤ 256
+words-few x n h e f = rw f (pow-mono {i = x} {j = 8} (omega arith))

@@ -1,0 +1,64 @@
+-- `body_shape` meets its contract: a map or a trace is taken where its record stands, and the refusal where neither does.
+-- Assumes nothing.
+use mathlib.Core.Path.{sym, _∙_}
+use native.Mathlib.Omega.{arith}
+use Rattle.acceptance.proofs.SheetLaws.{record-fits, map-length-pos, map-length-le, body-map, body-trace, body-none}
+use borrow.Author.Needs.{needs}
+use Rattle.acceptance.proofs.sheets.body_shape.Statement.{statement}
+use Rattle.acceptance.proofs.sheets.body_shape.Tie as tie
+
+map-length-requires : tie.Need-map-length-requires
+map-length-requires c κs = search needs
+
+is-record-requires : tie.Need-is-record-requires
+is-record-requires c κs = (
+  c .before .before .pre .1,
+  omega (arith, map-length-le (c .before .before .args .states) (c .map-length .result) (c .before .before .pre .2) (c .map-length .ensures)),
+)
+
+map-shape-requires : tie.Need-map-shape-requires
+map-shape-requires c κs = (
+  c .before .before .map-length .ensures,
+  record-fits _ _ 2 _ (sym (c .before .is-record .ensures) ∙ c .if1 .taken),
+  map-length-pos _ _ (c .before .before .map-length .ensures),
+)
+
+returns : tie.Need-returns
+returns c =
+    body-map _ _ _ _ _ _ _ (c .before .before .before .map-length .ensures) (sym (c .before .before .is-record .ensures) ∙ c .before .if1 .taken)
+    (c .map-shape .ensures)
+
+is-record-requires-2 : tie.Need-is-record-requires-2
+is-record-requires-2 c κs = search needs
+
+trace-shape-requires : tie.Need-trace-shape-requires
+trace-shape-requires c κs = (
+  omega
+      (arith, record-fits (c .before .before .before .before .before .before .args .b .now) (c .before .before .before .before .before .before .args .p) 3 2 (sym (c .before .is-record2 .ensures) ∙ c .if2 .taken)),
+  c .before .before .before .before .before .before .pre .0,
+  c .before .before .before .before .before .before .pre .3,
+)
+
+returns-2 : tie.Need-returns-2
+returns-2 c =
+    body-trace _ _ _ _ _ _ _ (c .before .before .before .before .before .map-length .ensures) (sym (c .before .before .before .before .is-record .ensures) ∙ c .before .before .before .if1 .left)
+    (sym (c .before .before .is-record2 .ensures) ∙ c .before .if2 .taken)
+    (c .trace-shape .ensures)
+
+returns-3 : tie.Need-returns-3
+returns-3 c =
+    body-none _ _ _ _ _ _ (c .before .before .before .before .map-length .ensures) (sym (c .before .before .before .is-record .ensures) ∙ c .before .before .if1 .left)
+    (sym (c .before .is-record2 .ensures) ∙ c .if2 .left)
+
+pub body-shape-spec : {M : Type 1} → statement M
+body-shape-spec =
+    tie.close
+    (tie.spec
+    map-length-requires
+    is-record-requires
+    map-shape-requires
+    returns
+    is-record-requires-2
+    trace-shape-requires
+    returns-2
+    returns-3)

@@ -1,0 +1,69 @@
+-- `is_record` meets its contract: its three tests are those of the definition, in the same order.
+-- Assumes nothing.
+use Rattle.acceptance.proofs.SheetLaws.{same-test, four-is, both-no, both-go}
+use Rattle.acceptance.specs.SheetTexts.{isRecord}
+use borrow.Author.Tests.{eq-eqb, ne-eqb, lt-leb, le-leb}
+use mathlib.Core.Path.{sym, _∙_}
+use borrow.Author.Needs.{needs}
+use Rattle.acceptance.proofs.sheets.is_record.Statement.{statement}
+use Rattle.acceptance.proofs.sheets.is_record.Tie as tie
+
+add-if1 : tie.Need-add-if1
+add-if1 c = search needs
+
+add-if1-2 : tie.Need-add-if1-2
+add-if1-2 c = search needs
+
+returns : tie.Need-returns
+unfolding isRecord
+returns c = both-no _ _ (lt-leb _ _ (c .if1 .taken))
+
+two-at-requires : tie.Need-two-at-requires
+two-at-requires c κs = search needs
+
+add-two-at : tie.Need-add-two-at
+add-two-at c = search needs
+
+two-at-requires-2 : tie.Need-two-at-requires-2
+two-at-requires-2 c κs = search needs
+
+mul-if2 : tie.Need-mul-if2
+mul-if2 c = search needs
+
+add-if2 : tie.Need-add-if2
+add-if2 c = search needs
+
+returns-2 : tie.Need-returns-2
+unfolding isRecord
+returns-2 c =
+    both-go _ _ _ (le-leb _ _ (c .before .before .before .if1 .left))
+    (both-no _ _ (ne-eqb _ _ (λ e. c .if2 .taken (four-is _ _ _ _ (c .before .before .two-at .ensures .0) (c .before .two-at2 .ensures .0) ∙ e))))
+
+add-two-at-2 : tie.Need-add-two-at-2
+add-two-at-2 c = search needs
+
+two-at-requires-3 : tie.Need-two-at-requires-3
+two-at-requires-3 c κs = search needs
+
+returns-3 : tie.Need-returns-3
+unfolding isRecord
+returns-3 c =
+    both-go _ _ _ (le-leb _ _ (c .before .before .before .before .if1 .left))
+    (both-go _ _ _ (eq-eqb _ _ (sym (four-is _ _ _ _ (c .before .before .before .two-at .ensures .0) (c .before .before .two-at2 .ensures .0)) ∙ c .before .if2 .left)) (same-test _ _ _ (c .two-at3 .ensures .0)))
+
+pub is-record-spec : {M : Type 1} → statement M
+is-record-spec =
+    tie.close
+    (tie.spec
+    add-if1
+    add-if1-2
+    returns
+    two-at-requires
+    add-two-at
+    two-at-requires-2
+    mul-if2
+    add-if2
+    returns-2
+    add-two-at-2
+    two-at-requires-3
+    returns-3)

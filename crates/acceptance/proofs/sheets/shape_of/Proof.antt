@@ -1,0 +1,61 @@
+-- `shape_of` meets its contract: its refusals are the demands in order, and the rest is the shape of the second record on.
+-- Assumes nothing.
+use Prim.Native.Nat.{_+_}
+use mathlib.Core.Path.{sym, _∙_}
+use native.Mathlib.Omega.{arith}
+use borrow.Author.Tests.{not-true, not-false}
+use Rattle.acceptance.proofs.SheetLaws.{record-fits, pow-small, sheet-long, sheet-header, sheet-counts, sheet-body}
+use borrow.Author.Needs.{needs}
+use Rattle.acceptance.proofs.sheets.shape_of.Statement.{statement}
+use Rattle.acceptance.proofs.sheets.shape_of.Tie as tie
+
+returns : tie.Need-returns
+returns c = sheet-long _ _ _ _ _ (c .if1 .taken)
+
+is-record-requires : tie.Need-is-record-requires
+is-record-requires c κs = search needs
+
+returns-2 : tie.Need-returns-2
+returns-2 c = sheet-header _ _ _ _ _ (c .before .before .if1 .left) (sym (c .before .is-record .ensures) ∙ not-true _ (c .if2 .taken))
+
+same-counts-requires : tie.Need-same-counts-requires
+same-counts-requires c κs = record-fits _ 0 1 3 (sym (c .before .is-record .ensures) ∙ not-false _ (c .if2 .left))
+
+returns-3 : tie.Need-returns-3
+returns-3 c =
+    sheet-counts _ _ _ _ _ (c .before .before .before .before .if1 .left) (sym (c .before .before .before .is-record .ensures) ∙ not-false _ (c .before .before .if2 .left))
+    (sym (c .before .same-counts .ensures) ∙ not-true _ (c .if3 .taken))
+
+add-power : tie.Need-add-power
+add-power c = search needs
+
+power-requires : tie.Need-power-requires
+power-requires c κs = search needs
+
+body-shape-requires : tie.Need-body-shape-requires
+body-shape-requires c κs = (
+  c .before .before .before .before .before .if1 .left,
+  omega arith,
+  pow-small (c .before .before .before .before .before .before .before .args .shared + c .before .before .before .before .before .before .before .args .row) (c .power .result) (c .before .before .before .before .before .before .before .pre .0) (c .power .ensures),
+  c .before .before .before .before .before .before .before .pre .1,
+)
+
+returns-4 : tie.Need-returns-4
+returns-4 c =
+    sheet-body _ _ _ _ _ (c .before .before .before .before .before .before .if1 .left) (sym (c .before .before .before .before .before .is-record .ensures) ∙ not-false _ (c .before .before .before .before .if2 .left))
+    (sym (c .before .before .before .same-counts .ensures) ∙ not-false _ (c .before .before .if3 .left))
+    _ _ (c .before .power .ensures) (c .body-shape .ensures)
+
+pub shape-of-spec : {M : Type 1} → statement M
+shape-of-spec =
+    tie.close
+    (tie.spec
+    returns
+    is-record-requires
+    returns-2
+    same-counts-requires
+    returns-3
+    add-power
+    power-requires
+    body-shape-requires
+    returns-4)

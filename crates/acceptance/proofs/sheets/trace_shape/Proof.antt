@@ -1,0 +1,115 @@
+-- `trace_shape` meets its contract: what is left to demand from a record on gives what all of it gave from the first.
+-- Assumes nothing.
+use Rattle.acceptance.proofs.SheetLaws.{steps-start, trace-bad, trace-fault, trace-whole, steps-kind, steps-range, steps-none, steps-left, record-fits}
+use Rattle.acceptance.specs.working.Shapes.{starsIn}
+use Rattle.acceptance.specs.working.SheetReading.{Reading, stepsAt, stepCount}
+use borrow.Author.Tests.{not-true, not-false}
+use native.Mathlib.Omega.{arith}
+use mathlib.Core.Path.{_≡_, sym, _∙_}
+use Prim.Native.Nat.{_+_, _-_, _*_, _≤_}
+use Rattle.acceptance.proofs.sheets.trace_shape.Statement.{statement}
+use Rattle.acceptance.proofs.sheets.trace_shape.Tie as tie
+
+abbrev Inv-loop : tie.InvT-loop
+Inv-loop b states commands stars p n at₀ i₀ at i = (i ≤ n) × (at ≡ p + 8 + 10 * i) × ((rest : Reading) → stepsAt states commands (starsIn stars) b at (n - i) rest ≡ stepsAt states commands (starsIn stars) b (p + 8) n rest)
+
+abbrev μ-loop : tie.MeasureT-loop
+μ-loop b states commands stars p n at₀ i₀ at i = n - i
+
+add-two-at : tie.Need-add-two-at Inv-loop μ-loop
+add-two-at c = omega arith
+
+two-at-requires : tie.Need-two-at-requires Inv-loop μ-loop
+two-at-requires c κs = omega arith
+
+returns : tie.Need-returns Inv-loop μ-loop
+returns c = trace-bad _ _ _ _ _ _ (c .before .two-at .ensures .0) (c .if1 .taken)
+
+add-n : tie.Need-add-n Inv-loop μ-loop
+add-n c = omega arith
+
+add-n-2 : tie.Need-add-n-2 Inv-loop μ-loop
+add-n-2 c = omega arith
+
+sub-n : tie.Need-sub-n Inv-loop μ-loop
+sub-n c = omega arith
+
+add-at : tie.Need-add-at Inv-loop μ-loop
+add-at c = omega arith
+
+loop-holds : tie.Need-loop-holds Inv-loop μ-loop
+loop-holds c = (omega arith, omega arith, λ rest. steps-start _ _ _ _ _ _ rest)
+
+is-record-requires : tie.Need-is-record-requires Inv-loop μ-loop
+is-record-requires c κs = (omega arith, omega arith)
+
+returns-2 : tie.Need-returns-2 Inv-loop μ-loop
+unfolding stepCount
+returns-2 c =
+    trace-fault _ _ _ _ _ _ (c .before .before .before .before .before .two-at .ensures .0) (c .before .before .before .before .if1 .left) _ _
+    (λ rest. steps-kind _ _ _ _ _ _ rest (omega arith) (sym (c .before .is-record .ensures) ∙ not-true _ (c .if2 .taken)) ∙ c .before .before .before .loop .inv .2 rest)
+
+add-step-fits : tie.Need-add-step-fits Inv-loop μ-loop
+add-step-fits c = omega arith
+
+step-fits-requires : tie.Need-step-fits-requires Inv-loop μ-loop
+step-fits-requires c κs = (
+  omega
+      (arith, record-fits (c .before .before .before .before .before .before .before .args .b .now) (c .before .before .before .loop .at) 4 4 (sym (c .before .is-record .ensures) ∙ not-false _ (c .if2 .left))),
+  c .before .before .before .before .before .before .before .pre .2,
+)
+
+returns-3 : tie.Need-returns-3 Inv-loop μ-loop
+unfolding stepCount
+returns-3 c =
+    trace-fault _ _ _ _ _ _ (c .before .before .before .before .before .before .before .two-at .ensures .0)
+    (c .before .before .before .before .before .before .if1 .left) _ _
+    (λ rest. steps-range _ _ _ _ _ _ rest (omega arith) (sym (c .before .before .before .is-record .ensures) ∙ not-false _ (c .before .before .if2 .left)) (sym (c .before .step-fits .ensures) ∙ not-true _ (c .if3 .taken)) ∙ c .before .before .before .before .before .loop .inv .2 rest)
+
+add-at-2 : tie.Need-add-at-2 Inv-loop μ-loop
+add-at-2 c = omega arith
+
+add-i : tie.Need-add-i Inv-loop μ-loop
+add-i c = omega arith
+
+loop-less : tie.Need-loop-less Inv-loop μ-loop
+loop-less c = omega arith
+
+loop-again : tie.Need-loop-again Inv-loop μ-loop
+loop-again c = (
+  omega arith,
+  omega arith,
+  λ rest. steps-left _ _ _ _ _ _ _ rest (omega arith) (sym (c .before .before .before .is-record .ensures) ∙ not-false _ (c .before .before .if2 .left))
+      (sym (c .before .step-fits .ensures) ∙ not-false _ (c .if3 .left)) ∙ c .before .before .before .before .before .loop .inv .2 rest,
+)
+
+returns-4 : tie.Need-returns-4 Inv-loop μ-loop
+unfolding stepCount
+returns-4 c =
+    trace-whole _ _ _ _ _ _ (c .before .before .before .two-at .ensures .0) (c .before .before .if1 .left)
+    (λ rest. sym (steps-none _ _ _ _ _ _ rest (omega arith)) ∙ c .before .loop .inv .2 rest)
+
+pub trace-shape-spec : {M : Type 1} → statement M
+trace-shape-spec =
+    tie.close
+    (tie.spec
+    Inv-loop
+    μ-loop
+    add-two-at
+    two-at-requires
+    returns
+    add-n
+    add-n-2
+    sub-n
+    add-at
+    loop-holds
+    is-record-requires
+    returns-2
+    add-step-fits
+    step-fits-requires
+    returns-3
+    add-at-2
+    add-i
+    loop-less
+    loop-again
+    returns-4)

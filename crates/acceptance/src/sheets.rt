@@ -1,0 +1,192 @@
+// A sheet's bytes: whether they are refused with 9 or 10, and if not, which kind of sheet they are.
+ghost use mathlib.Core.Path.{_≡_};
+ghost use Prim.Native.Nat.{_+_, _^_, _<_, _≤_};
+ghost use Rattle.acceptance.specs.Sheets.{mapLength};
+ghost use Rattle.acceptance.specs.SheetTexts.{twoAt, isRecord, sameCounts, unusedClear, stepIn, stepFits};
+ghost use Rattle.acceptance.specs.working.SheetReading.{mapAt, traceAt, bodyAt, sheetIn};
+ghost use Rattle.acceptance.specs.working.Shapes.{shapeOf, starsIn, Few};
+
+// The most bytes that a sheet may have.
+const MAX_SHEET: usize = 65536;
+
+// What the first pass over a sheet finds: the first refusal's number and place, or which kind of sheet it is.
+pub enum Shape {
+    Bad(u8, usize),
+    Map,
+    Trace,
+}
+
+// A byte as a number.
+pub fn wide(x: u8) -> usize
+    ensures { λ r. ⌜ (r ≡ x) × (r < 256) ⌝ }
+{
+    x as usize
+}
+
+// A star count as a number.
+pub fn count(x: u16) -> usize
+    ensures { λ r. ⌜ r ≡ x ⌝ }
+{
+    x as usize
+}
+
+// 2 to the n.
+pub fn power(n: usize) -> usize
+    requires { ⌜ n ≤ 12 ⌝ }
+    ensures { λ r. ⌜ r ≡ 2 ^ n ⌝ }
+{
+    1 << n
+}
+
+// The two-byte number at p.
+pub fn two_at(b: &[u8], p: usize) -> usize
+    requires { do ⌜ p + 2 ≤ (← ⟦b.len()⟧) ⌝ }
+    ensures { λ r. ⌜ (r ≡ twoAt (now (b .entry)) p) × (r < 65536) ⌝ }
+{
+    wide(b[p]) + 256 * wide(b[p + 1])
+}
+
+// Whether a record of this kind, with n bytes of payload, stands whole at p.
+fn is_record(b: &[u8], p: usize, kind: usize, n: usize) -> bool
+    requires { ⌜ (p ≤ 65536) × (n ≤ 65536) ⌝ }
+    ensures { λ r. ⌜ r ≡ isRecord (now (b .entry)) p kind n ⌝ }
+{
+    if b.len() < p + 6 + n {
+        return false;
+    }
+    let low = two_at(b, p);
+    let high = two_at(b, p + 2);
+    if low + 65536 * high != n {
+        return false;
+    }
+    two_at(b, p + 4) == kind
+}
+
+// Whether the header's counts are these.
+fn same_counts(b: &[u8], shared: usize, row: usize, commands: usize) -> bool
+    requires { do ⌜ 9 ≤ (← ⟦b.len()⟧) ⌝ }
+    ensures { λ r. ⌜ r ≡ sameCounts shared row commands (now (b .entry)) 6 ⌝ }
+{
+    if wide(b[6]) != shared {
+        return false;
+    }
+    if wide(b[7]) != row {
+        return false;
+    }
+    wide(b[8]) == commands
+}
+
+// How many bytes a map has.
+pub fn map_length(states: usize) -> usize
+    ensures { λ r. ⌜ r ≡ mapLength states ⌝ }
+{
+    let n = states / 8;
+    if n == 0 {
+        return 1;
+    }
+    n
+}
+
+// Whether the bits of a map's first byte that no state uses are 0.
+fn unused_clear(states: usize, byte: u8) -> bool
+    ensures { λ r. ⌜ r ≡ unusedClear states byte ⌝ }
+{
+    if states < 8 {
+        return wide(byte) < power(states);
+    }
+    true
+}
+
+// The sheet from its map on, whose record stands at p with n bytes of payload.
+fn map_shape(b: &[u8], states: usize, p: usize, n: usize) -> Shape
+    requires { do ⌜ (n ≡ mapLength states) × (p + 6 + n ≤ (← ⟦b.len()⟧)) × (1 ≤ n) ⌝ }
+    ensures { λ r. ⌜ r ≡ shapeOf (mapAt states (now (b .entry)) p) ⌝ }
+{
+    let clear = unused_clear(states, b[p + 6]);
+    if !clear {
+        return Shape::Bad(9, p);
+    }
+    let end = p + 6 + n;
+    if b.len() != end {
+        return Shape::Bad(9, end);
+    }
+    Shape::Map
+}
+
+// Whether the numbers of the step whose payload stands at p are in range.
+fn step_fits(b: &[u8], states: usize, commands: usize, stars: &[u16; 16], p: usize) -> bool
+    requires { do ⌜ (p + 4 ≤ (← ⟦b.len()⟧)) × Few commands (now stars) ⌝ }
+    ensures { λ r. ⌜ r ≡ stepFits states commands (starsIn (now (stars .entry))) (stepIn (now (b .entry)) p) ⌝ }
+{
+    let c = wide(b[p]);
+    if commands <= c {
+        return false;
+    }
+    let w = wide(b[p + 1]);
+    let n = power(count(stars[c]));
+    if n <= w {
+        return false;
+    }
+    two_at(b, p + 2) < states
+}
+
+// The sheet from its start state on, whose record stands at p.
+fn trace_shape(b: &[u8], states: usize, commands: usize, stars: &[u16; 16], p: usize) -> Shape
+    requires { do ⌜ (p + 8 ≤ (← ⟦b.len()⟧)) × ((← ⟦b.len()⟧) ≤ 65536) × Few commands (now stars) ⌝ }
+    ensures { λ r. ⌜ r ≡ shapeOf (traceAt states commands (starsIn (now (stars .entry))) (now (b .entry)) p) ⌝ }
+{
+    if states <= two_at(b, p + 6) {
+        return Shape::Bad(10, p);
+    }
+    let n = (b.len() + 9 - (p + 8)) / 10;
+    let mut at = p + 8;
+    for i in 0..n {
+        let here = is_record(b, at, 4, 4);
+        if !here {
+            return Shape::Bad(9, at);
+        }
+        let fits = step_fits(b, states, commands, stars, at + 6);
+        if !fits {
+            return Shape::Bad(10, at);
+        }
+        at += 10;
+    }
+    Shape::Trace
+}
+
+// The sheet from its second record on, which stands at p.
+fn body_shape(b: &[u8], states: usize, commands: usize, stars: &[u16; 16], p: usize) -> Shape
+    requires { do ⌜ ((← ⟦b.len()⟧) ≤ 65536) × (p ≤ 65536) × (states ≤ 4096) × Few commands (now stars) ⌝ }
+    ensures { λ r. ⌜ r ≡ shapeOf (bodyAt states commands (starsIn (now (stars .entry))) (now (b .entry)) p) ⌝ }
+{
+    let n = map_length(states);
+    let map = is_record(b, p, 2, n);
+    if map {
+        return map_shape(b, states, p, n);
+    }
+    let trace = is_record(b, p, 3, 2);
+    if trace {
+        return trace_shape(b, states, commands, stars, p);
+    }
+    Shape::Bad(9, p)
+}
+
+// The whole first pass over a sheet for a model of these counts.
+pub fn shape_of(b: &[u8], shared: usize, row: usize, commands: usize, stars: &[u16; 16]) -> Shape
+    requires { ⌜ (shared + row ≤ 12) × Few commands (now stars) ⌝ }
+    ensures { λ r. ⌜ r ≡ shapeOf (sheetIn shared row commands (starsIn (now (stars .entry))) (now (b .entry))) ⌝ }
+{
+    if MAX_SHEET < b.len() {
+        return Shape::Bad(9, MAX_SHEET);
+    }
+    let header = is_record(b, 0, 1, 3);
+    if !header {
+        return Shape::Bad(9, 0);
+    }
+    let same = same_counts(b, shared, row, commands);
+    if !same {
+        return Shape::Bad(10, 0);
+    }
+    let states = power(shared + row);
+    body_shape(b, states, commands, stars, 9)
+}
