@@ -26,7 +26,7 @@ STRANGERS = ("a", "x", "c", "q", "0", "*", "not", "and", "(", ")", ".", ";",
              TOO_LONG, "\t")
 
 
-def paper():
+def basics():
     yield "G -> model", G
     yield "G with a last newline -> model", G + "\n"
     yield "H -> model", H
@@ -192,4 +192,4 @@ def wholes():
                  loop("p", "skip", "u := *"))])
 
 
-GROUPS = (paper, blanks, cuts, strangers, edits, precedence, items, wholes)
+GROUPS = (basics, blanks, cuts, strangers, edits, precedence, items, wholes)

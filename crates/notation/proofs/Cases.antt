@@ -44,7 +44,7 @@ abbrev pub came : Expected → Outcome → Expected
 came e (read x) = cameRead e x
 came e (refused n i) = isRefused n i
 
--- The paper's models G and H, which differ in one expression.
+-- The models G, which lets a page be both writable and executable, and H, which does not: they differ in one expression.
 abbrev pub granting : Expr → Model
 granting e = record {
   sharedNames = 1;
@@ -93,7 +93,7 @@ startsWith e = record {
 
 unfoldable pub cases : List Case
 cases =
-    -- the paper's G, H and empty text
+    -- G, H and the empty text
     bytes "shared m. row w x.\nstart m each not x.\nkeep 1 each not (w and x).\ncommand grant if m do\nfor 1 do w := *; x := * else skip end else skip.\n" gives saysModel (granting (star 1)) ∷
     bytes "shared m. row w x.\nstart m each not x.\nkeep 1 each not (w and x).\ncommand grant if m do\nfor 1 do w := *; x := not w and * else skip end else skip.\n" gives saysModel (granting (conj (neg (row 0)) (star 1))) ∷
     bytes "" gives isRefused 3 0 ∷

@@ -23,7 +23,7 @@ pub data Token : Type 0 where
   sign : ℕ → Token
   name : Name → Token
 
--- The numbers of the signs: the fifteen reserved words in the paper's order, the constants, the marks, and one for every token that the notation uses nowhere.
+-- The numbers of the signs: the fifteen reserved words, the constants, the marks, and one for every token that the notation uses nowhere.
 abbrev pub SHARED : ℕ
 SHARED = 0
 
