@@ -4,7 +4,7 @@ ghost use Prim.Native.Nat.{_<_, _≤_};
 ghost use lib.ListN.{length};
 ghost use lib.Seq.{slice};
 ghost use Rattle.acceptance.specs.working.Cells.{starOf, cellsOf, topsOf, runCells, noTops};
-ghost use Rattle.acceptance.specs.working.Ends.{fills, startCells, laneOf, rowOf, pickOf};
+ghost use Rattle.acceptance.specs.working.Ends.{fills, startCells, rowOf, pickOf};
 ghost use Rattle.acceptance.specs.working.Batches.{cellsAt, filledOf};
 
 const ONES: u64 = 0xffff_ffff_ffff_ffff;
@@ -16,7 +16,7 @@ pub struct Tops {
 }
 
 // The lanes of star j in a batch: lane l is bit j of 64 * batch + l.
-pub fn star(j: u32, batch: u32) -> u64
+fn star(j: u32, batch: u32) -> u64
     requires { ⌜ j < 32 ⌝ }
     ensures { λ r. ⌜ r ≡ starOf j batch ⌝ }
 {
@@ -32,7 +32,7 @@ pub fn star(j: u32, batch: u32) -> u64
 }
 
 // One code word: kind op / 32, argument op % 32.
-pub fn step(cells: &mut [u64; 128], t: Tops, op: u16, batch: u32) -> Tops
+fn step(cells: &mut [u64; 128], t: Tops, op: u16, batch: u32) -> Tops
     requires { ⌜ (t .sp < 64) × (t .mp < 32) ⌝ }
     ensures { λ r. ⌜ (now (cells .exit) ≡ cellsOf op batch t (now (cells .entry))) × (r ≡ topsOf op t) ⌝ }
 {
@@ -114,7 +114,7 @@ pub fn step(cells: &mut [u64; 128], t: Tops, op: u16, batch: u32) -> Tops
 }
 
 // The code words from..to of ops, one after another.
-pub fn run(ops: &[u16], from: usize, to: usize, batch: u32, cells: &mut [u64; 128])
+fn run(ops: &[u16], from: usize, to: usize, batch: u32, cells: &mut [u64; 128])
     requires { ⌜ (from ≤ to) × (to ≤ length (now ops)) ⌝ }
     ensures { λ r. ⌜ now (cells .exit) ≡ runCells (slice from to (now (ops .entry))) batch noTops (now (cells .entry)) ⌝ }
 {
@@ -127,7 +127,7 @@ pub fn run(ops: &[u16], from: usize, to: usize, batch: u32, cells: &mut [u64; 12
 }
 
 // The cells where a run begins: the state's n bits in every lane, and the mask on.
-pub fn start(state: u32, n: usize) -> [u64; 128]
+fn start(state: u32, n: usize) -> [u64; 128]
     requires { ⌜ n ≤ 32 ⌝ }
     ensures { λ r. ⌜ r ≡ startCells n state ⌝ }
 {
@@ -142,7 +142,7 @@ pub fn start(state: u32, n: usize) -> [u64; 128]
 }
 
 // The cells after a command's code, for the words 64 * batch to 64 * batch + 63.
-pub fn batch(ops: &[u16], from: usize, to: usize, state: u32, n: usize, batch: u32) -> [u64; 128]
+fn batch(ops: &[u16], from: usize, to: usize, state: u32, n: usize, batch: u32) -> [u64; 128]
     requires { ⌜ (from ≤ to) × (to ≤ length (now ops)) × (n ≤ 32) ⌝ }
     ensures { λ r. ⌜ r ≡ cellsAt (slice from to (now (ops .entry))) state n batch ⌝ }
 {
@@ -151,22 +151,8 @@ pub fn batch(ops: &[u16], from: usize, to: usize, state: u32, n: usize, batch: u
     cells
 }
 
-// The state number in lane l: bit l of the first n cells.
-pub fn lane(cells: &[u64; 128], n: usize, l: u32) -> u32
-    requires { ⌜ (n ≤ 32) × (l < 64) ⌝ }
-    ensures { λ r. ⌜ r ≡ laneOf (now (cells .entry)) n l ⌝ }
-{
-    let mut r: u32 = 0;
-    let mut i = n;
-    while i > 0 {
-        i -= 1;
-        r = (r << 1) + ((cells[i] >> l) % 2) as u32;
-    }
-    r
-}
-
 // Four lanes at once: the state numbers in the lanes r, r + 16, r + 32 and r + 48, in fields of 16 bits.
-pub fn row(cells: &[u64; 128], n: usize, r: u32) -> u64
+fn row(cells: &[u64; 128], n: usize, r: u32) -> u64
     requires { ⌜ (n ≤ 16) × (r < 16) ⌝ }
     ensures { λ x. ⌜ x ≡ rowOf (now (cells .entry)) n r ⌝ }
 {
@@ -180,7 +166,7 @@ pub fn row(cells: &[u64; 128], n: usize, r: u32) -> u64
 }
 
 // All 64 state numbers: row r has the lanes r, r + 16, r + 32 and r + 48.
-pub fn rows_of(cells: &[u64; 128], n: usize, out: &mut [u64; 16])
+fn rows_of(cells: &[u64; 128], n: usize, out: &mut [u64; 16])
     requires { ⌜ n ≤ 16 ⌝ }
     ensures { λ x. ⌜ now (out .exit) ≡ fills (rowOf (now (cells .entry)) n) 16 (now (out .entry)) ⌝ }
 {

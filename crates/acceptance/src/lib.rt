@@ -1,5 +1,5 @@
 // The evaluation of read models, one choice word at a time and 64 at a time, and the first pass over a sheet's bytes.
-pub mod lanes;
-pub mod machine;
+mod lanes;
+mod machine;
 pub mod outcome;
-pub mod sheets;
+mod sheets;

@@ -13,7 +13,7 @@ pub struct Machine {
 }
 
 // s with bit j set to v.
-pub fn put_bit(s: u32, j: u32, v: u32) -> u32
+fn put_bit(s: u32, j: u32, v: u32) -> u32
     requires { ⌜ (j < 32) × (v < 2) ⌝ }
     ensures { λ r. ⌜ r ≡ put s j v ⌝ }
 {
@@ -21,7 +21,7 @@ pub fn put_bit(s: u32, j: u32, v: u32) -> u32
 }
 
 // One code word: kind op / 32, argument op % 32. The bits are joined by sums and halves.
-pub fn step(m: Machine, op: u16, word: u32) -> Machine
+fn step(m: Machine, op: u16, word: u32) -> Machine
     ensures { λ r. ⌜ r ≡ stepOf op word m ⌝ }
 {
     let st = m.stack;
@@ -94,7 +94,7 @@ pub fn step(m: Machine, op: u16, word: u32) -> Machine
 }
 
 // The code words from..to of ops, one after another.
-pub fn run_from(ops: &[u16], from: usize, to: usize, m0: Machine, word: u32) -> Machine
+fn run_from(ops: &[u16], from: usize, to: usize, m0: Machine, word: u32) -> Machine
     requires { ⌜ (from ≤ to) × (to ≤ length (now ops)) ⌝ }
     ensures { λ r. ⌜ r ≡ runOf (slice from to (now (ops .entry))) word m0 ⌝ }
 {

@@ -17,21 +17,21 @@ pub enum Shape {
 }
 
 // A byte as a number.
-pub fn wide(x: u8) -> usize
+fn wide(x: u8) -> usize
     ensures { λ r. ⌜ (r ≡ x) × (r < 256) ⌝ }
 {
     x as usize
 }
 
 // A star count as a number.
-pub fn count(x: u16) -> usize
+fn count(x: u16) -> usize
     ensures { λ r. ⌜ r ≡ x ⌝ }
 {
     x as usize
 }
 
 // 2 to the n.
-pub fn power(n: usize) -> usize
+fn power(n: usize) -> usize
     requires { ⌜ n ≤ 12 ⌝ }
     ensures { λ r. ⌜ r ≡ 2 ^ n ⌝ }
 {
@@ -39,7 +39,7 @@ pub fn power(n: usize) -> usize
 }
 
 // The two-byte number at p.
-pub fn two_at(b: &[u8], p: usize) -> usize
+fn two_at(b: &[u8], p: usize) -> usize
     requires { do ⌜ p + 2 ≤ (← ⟦b.len()⟧) ⌝ }
     ensures { λ r. ⌜ (r ≡ twoAt (now (b .entry)) p) × (r < 65536) ⌝ }
 {
@@ -77,7 +77,7 @@ fn same_counts(b: &[u8], shared: usize, row: usize, commands: usize) -> bool
 }
 
 // How many bytes a map has.
-pub fn map_length(states: usize) -> usize
+fn map_length(states: usize) -> usize
     ensures { λ r. ⌜ r ≡ mapLength states ⌝ }
 {
     let n = states / 8;
