@@ -13,9 +13,8 @@ use lib.Seq.{getD-take, getD-drop}
 use lib.Dec.{eqb}
 use Rattle.meaning.specs.Bits.{bit}
 use Rattle.meaning.specs.Evidence.{inMap}
-use Rattle.meaning.specs.working.Conditions.{every, implies}
+use Rattle.meaning.specs.working.Conditions.{every, implies, wordsStay, testA, testB, testC, closedAt}
 use Rattle.acceptance.specs.working.SheetReading.{mapIn}
-use Rattle.acceptance.specs.working.Test.{wordsStay, condA, condB, condC, closedAt, wordsStay}
 
 -- The bit that the code reads is that of the map.
 pub bit-in : (b : List ℕ) (p n s byte : ℕ) → s / 8 < n → byte ≡ getD b (p + s / 8) 0 → eqb (byte / 2 ^ (s % 8) % 2) 1 ≡ inMap (mapIn b p n) s
@@ -62,48 +61,48 @@ implies-bad a b e f = rw (e, f)
 
 -- A, one state more at a time.
 module _ (starts : ℕ → Bool) (map : List ℕ) (s : ℕ) where
-  pub a-none : condA 0 starts map ≡ true
-  unfolding condA
+  pub a-none : testA 0 starts map ≡ true
+  unfolding testA
   a-none = every-none _
 
-  module _ (e : condA s starts map ≡ true) where
-    pub a-other : starts s ≡ false → condA (s + 1) starts map ≡ true
-    unfolding condA
+  module _ (e : testA s starts map ≡ true) where
+    pub a-other : starts s ≡ false → testA (s + 1) starts map ≡ true
+    unfolding testA
     a-other h = every-next _ _ e (implies-no _ _ h)
 
-    pub a-member : inMap map s ≡ true → condA (s + 1) starts map ≡ true
-    unfolding condA
+    pub a-member : inMap map s ≡ true → testA (s + 1) starts map ≡ true
+    unfolding testA
     a-member h = every-next _ _ e (implies-yes _ _ h)
 
-    pub a-done : (n : ℕ) → s ≤ n → n ≤ s → true ≡ condA n starts map
-    unfolding condA
+    pub a-done : (n : ℕ) → s ≤ n → n ≤ s → true ≡ testA n starts map
+    unfolding testA
     a-done n h k = every-done _ _ _ h k e
 
-  pub a-fail : (n : ℕ) → s < n → starts s ≡ true → inMap map s ≡ false → false ≡ condA n starts map
-  unfolding condA
+  pub a-fail : (n : ℕ) → s < n → starts s ≡ true → inMap map s ≡ false → false ≡ testA n starts map
+  unfolding testA
   a-fail n h f g = every-fail _ _ _ h (implies-bad _ _ f g)
 
 -- B, one state more at a time.
 module _ (breaks : ℕ → Bool) (map : List ℕ) (s : ℕ) where
-  pub b-none : condB 0 breaks map ≡ true
-  unfolding condB
+  pub b-none : testB 0 breaks map ≡ true
+  unfolding testB
   b-none = every-none _
 
-  module _ (e : condB s breaks map ≡ true) where
-    pub b-other : inMap map s ≡ false → condB (s + 1) breaks map ≡ true
-    unfolding condB
+  module _ (e : testB s breaks map ≡ true) where
+    pub b-other : inMap map s ≡ false → testB (s + 1) breaks map ≡ true
+    unfolding testB
     b-other h = every-next _ _ e (implies-no _ _ h)
 
-    pub b-keeps : breaks s ≡ false → condB (s + 1) breaks map ≡ true
-    unfolding condB
+    pub b-keeps : breaks s ≡ false → testB (s + 1) breaks map ≡ true
+    unfolding testB
     b-keeps h = every-next _ _ e (implies-yes _ _ (ap not h))
 
-    pub b-done : (n : ℕ) → s ≤ n → n ≤ s → true ≡ condB n breaks map
-    unfolding condB
+    pub b-done : (n : ℕ) → s ≤ n → n ≤ s → true ≡ testB n breaks map
+    unfolding testB
     b-done n h k = every-done _ _ _ h k e
 
-  pub b-fail : (n : ℕ) → s < n → inMap map s ≡ true → breaks s ≡ true → false ≡ condB n breaks map
-  unfolding condB
+  pub b-fail : (n : ℕ) → s < n → inMap map s ≡ true → breaks s ≡ true → false ≡ testB n breaks map
+  unfolding testB
   b-fail n h f g = every-fail _ _ _ h (implies-bad _ _ f (ap not g))
 
 -- C, one word, one command and one state more at a time.
@@ -135,23 +134,23 @@ module _ (commands : ℕ) (stars : ℕ → ℕ) (step : ℕ → ℕ → ℕ → 
   unfolding closedAt
   closed-done c h k e = every-done _ _ _ h k e
 
-  pub c-none : condC 0 commands stars step map ≡ true
-  unfolding condC
+  pub c-none : testC 0 commands stars step map ≡ true
+  unfolding testC
   c-none = every-none _
 
-  module _ (e : condC s commands stars step map ≡ true) where
-    pub c-other : inMap map s ≡ false → condC (s + 1) commands stars step map ≡ true
-    unfolding condC
+  module _ (e : testC s commands stars step map ≡ true) where
+    pub c-other : inMap map s ≡ false → testC (s + 1) commands stars step map ≡ true
+    unfolding testC
     c-other h = every-next _ _ e (implies-no _ _ h)
 
-    pub c-closed : closedAt commands stars step map s ≡ true → condC (s + 1) commands stars step map ≡ true
-    unfolding condC
+    pub c-closed : closedAt commands stars step map s ≡ true → testC (s + 1) commands stars step map ≡ true
+    unfolding testC
     c-closed h = every-next _ _ e (implies-yes _ _ h)
 
-    pub c-done : (n : ℕ) → s ≤ n → n ≤ s → true ≡ condC n commands stars step map
-    unfolding condC
+    pub c-done : (n : ℕ) → s ≤ n → n ≤ s → true ≡ testC n commands stars step map
+    unfolding testC
     c-done n h k = every-done _ _ _ h k e
 
-  pub c-fail : (n : ℕ) → s < n → inMap map s ≡ true → closedAt commands stars step map s ≡ false → false ≡ condC n commands stars step map
-  unfolding condC
+  pub c-fail : (n : ℕ) → s < n → inMap map s ≡ true → closedAt commands stars step map s ≡ false → false ≡ testC n commands stars step map
+  unfolding testC
   c-fail n h f g = every-fail _ _ _ h (implies-bad _ _ f g)

@@ -15,9 +15,9 @@ use Rattle.meaning.specs.Evidence.{safe, trace, ConditionA, ConditionB, Conditi
 use Rattle.acceptance.specs.Sheets.{System, size, systemOf}
 use Rattle.acceptance.specs.SheetTexts.{InRange, AreBytes, SheetSays, SheetRefused}
 use Rattle.acceptance.specs.Promises.{MapThat, TraceThat, TestTells, PassTells}
-use Rattle.meaning.specs.working.Conditions.{testA, testB, testC, testD, testE, testF}
+use Rattle.meaning.specs.working.Conditions.{testA, testB, wordsStay, closedAt, testC, testE}
 use Rattle.acceptance.specs.working.SheetReading.{Reading, refused, holds, sheetOf}
-use Rattle.acceptance.specs.working.Test.{condA, condB, wordsStay, closedAt, condC, condE, mapAnswer, walk, traceAnswer, answerIn, judge, outcomeOf}
+use Rattle.acceptance.specs.working.Test.{mapAnswer, walk, traceAnswer, answerIn, judge, outcomeOf}
 use Rattle.acceptance.specs.declared.outcome.Outcome.{Outcome}
 use Rattle.acceptance.specs.declared.outcome.Outcome.the-variants.{SafeHolds, TraceHolds, FailsA, FailsB, FailsC, FailsD, FailsE, FailsF, Refused}
 use Rattle.meaning.proofs.Lists.{weaken}
@@ -102,52 +102,26 @@ trace-chain false b c = (refl, refl)
 module _ (M : System) where
   map-answered : (map : List ℕ)
       → (kind (answerIn M (safe map)) ≡ 0)
-      × (failed (answerIn M (safe map)) ≡ firstOf (condA (size M) (M .starts) map) (condB (size M) (M .breaks) map) (condC (size M) (M .commands) (M .stars) (M .step) map))
+      × (failed (answerIn M (safe map)) ≡ firstOf (testA (size M) (M .starts) map) (testB (size M) (M .breaks) map) (testC (size M) (M .commands) (M .stars) (M .step) map))
   unfolding answerIn mapAnswer
-  map-answered map = map-chain (condA (size M) (M .starts) map) (condB (size M) (M .breaks) map) (condC (size M) (M .commands) (M .stars) (M .step) map)
+  map-answered map = map-chain (testA (size M) (M .starts) map) (testB (size M) (M .breaks) map) (testC (size M) (M .commands) (M .stars) (M .step) map)
 
   trace-answered : (s : ℕ) (xs : List TraceStep)
       → (kind (answerIn M (trace s xs)) ≡ 1)
-      × (failed (answerIn M (trace s xs)) ≡ firstOf (M .starts s) (condE (M .step) s xs) (M .breaks (lastOf s xs)))
+      × (failed (answerIn M (trace s xs)) ≡ firstOf (M .starts s) (testE (M .step) s xs) (M .breaks (lastOf s xs)))
   unfolding answerIn traceAnswer walk
-  trace-answered s xs = trace-chain (M .starts s) (condE (M .step) s xs) (M .breaks (lastOf s xs))
+  trace-answered s xs = trace-chain (M .starts s) (testE (M .step) s xs) (M .breaks (lastOf s xs))
 
 no-iff : (t : Bool) (P : Type 0) → (t ≡ true) ↔ P → (t ≡ false) ↔ (¬ P)
 no-iff true P i = (λ e. absurd (true≢false e), λ n. absurd (n (i .0 refl)))
 no-iff false P i = (λ e p. true≢false (sym (i .1 p)), λ n. refl)
 
--- The computed tests over the model's system are those over the model.
 module _ (m : Model) where
-  a-iff : (map : List ℕ) → (condA (stateCount m) (starts m) map ≡ true) ↔ ConditionA m map
-  unfolding condA testA
-  a-iff map = all-tests-tell m .tellsA map
-
-  b-iff : (map : List ℕ) → (condB (stateCount m) (breaks m) map ≡ true) ↔ ConditionB m map
-  unfolding condB testB
-  b-iff map = all-tests-tell m .tellsB map
-
-  c-iff : (map : List ℕ) → (condC (stateCount m) (length (m .commands)) (systemOf m .stars) (next m) map ≡ true) ↔ ConditionC m map
-  unfolding condC closedAt wordsStay testC
-  c-iff map = all-tests-tell m .tellsC map
-
-  d-iff : (s : ℕ) → (starts m s ≡ true) ↔ ConditionD m s
-  unfolding testD
-  d-iff s = all-tests-tell m .tellsD s
-
-  same-e : (s : ℕ) (xs : List TraceStep) → testE m s xs ≡ condE (next m) s xs
-  unfolding condE testE
-  same-e s [] = refl
-  same-e s (x ∷ xs) = ap (λ (t : Bool). eqb (x .after) (next m s (x .command) (x .word)) && t) (same-e (x .after) xs)
-
   pub steps-fit : (xs : List TraceStep) → Every (InRange (systemOf m)) xs → Every (StepFits m) xs
   steps-fit xs f = weaken (InRange (systemOf m)) (StepFits m) (λ x h. record { command = h .command; word = h .word; after = h .after }) xs f
 
-  e-iff : (s : ℕ) (xs : List TraceStep) → Every (InRange (systemOf m)) xs → (condE (next m) s xs ≡ true) ↔ ConditionE m s xs
-  e-iff s xs f = subst (λ (t : Bool). (t ≡ true) ↔ ConditionE m s xs) (same-e s xs) (all-tests-tell m .tellsE s xs (steps-fit xs f))
-
-  f-iff : (s : ℕ) (xs : List TraceStep) → (breaks m (lastOf s xs) ≡ true) ↔ ConditionF m s xs
-  unfolding testF
-  f-iff s xs = all-tests-tell m .tellsF s xs
+  e-iff : (s : ℕ) (xs : List TraceStep) → Every (InRange (systemOf m)) xs → (testE (next m) s xs ≡ true) ↔ ConditionE m s xs
+  e-iff s xs f = all-tests-tell m .tellsE s xs (steps-fit xs f)
 
 -- What was read where an outcome was given.
 module _ (M : System) (b : List ℕ) where
@@ -227,69 +201,69 @@ module _ (m : Model) (few : stateCount m ≤ 65536) (b : List ℕ) (bytes : AreB
 -- Which of the three failed, from the answer.
 module _ (m : Model) (map : List ℕ) where
   map-failed : (o : Outcome) → answerIn (systemOf m) (safe map) ≡ o
-      → firstOf (condA (stateCount m) (starts m) map) (condB (stateCount m) (breaks m) map) (condC (stateCount m) (length (m .commands)) (systemOf m .stars) (next m) map)
+      → firstOf (testA (stateCount m) (starts m) map) (testB (stateCount m) (breaks m) map) (testC (stateCount m) (length (m .commands)) (systemOf m .stars) (next m) map)
       ≡ failed o
   map-failed o e = sym (map-answered (systemOf m) map .1) ∙ ap failed e
 
   safe-holds-iff : (answerIn (systemOf m) (safe map) ≡ SafeHolds) ↔ (ConditionA m map × ConditionB m map × ConditionC m map)
   unfolding answerIn mapAnswer failed
   safe-holds-iff = (
-    λ e. let q = none-failed _ _ _ (map-failed SafeHolds e) in (a-iff m map .0 (q .0), b-iff m map .0 (q .1), c-iff m map .0 (q .2)),
-    λ t. rw (a-iff m map .1 (t .0), b-iff m map .1 (t .1), c-iff m map .1 (t .2)),
+    λ e. let q = none-failed _ _ _ (map-failed SafeHolds e) in (all-tests-tell m .tellsA map .0 (q .0), all-tests-tell m .tellsB map .0 (q .1), all-tests-tell m .tellsC map .0 (q .2)),
+    λ t. rw (all-tests-tell m .tellsA map .1 (t .0), all-tests-tell m .tellsB map .1 (t .1), all-tests-tell m .tellsC map .1 (t .2)),
   )
 
   fails-a-iff : (answerIn (systemOf m) (safe map) ≡ FailsA) ↔ (¬ (ConditionA m map))
   unfolding answerIn mapAnswer failed
   fails-a-iff = (
-    λ e. no-iff _ _ (a-iff m map) .0 (first-failed _ _ _ (map-failed FailsA e)),
-    λ t. rw (no-iff _ _ (a-iff m map) .1 t),
+    λ e. no-iff _ _ (all-tests-tell m .tellsA map) .0 (first-failed _ _ _ (map-failed FailsA e)),
+    λ t. rw (no-iff _ _ (all-tests-tell m .tellsA map) .1 t),
   )
 
   fails-b-iff : (answerIn (systemOf m) (safe map) ≡ FailsB) ↔ (ConditionA m map × ¬ (ConditionB m map))
   unfolding answerIn mapAnswer failed
   fails-b-iff = (
-    λ e. let q = second-failed _ _ _ (map-failed FailsB e) in (a-iff m map .0 (q .0), no-iff _ _ (b-iff m map) .0 (q .1)),
-    λ t. rw (a-iff m map .1 (t .0), no-iff _ _ (b-iff m map) .1 (t .1)),
+    λ e. let q = second-failed _ _ _ (map-failed FailsB e) in (all-tests-tell m .tellsA map .0 (q .0), no-iff _ _ (all-tests-tell m .tellsB map) .0 (q .1)),
+    λ t. rw (all-tests-tell m .tellsA map .1 (t .0), no-iff _ _ (all-tests-tell m .tellsB map) .1 (t .1)),
   )
 
   fails-c-iff : (answerIn (systemOf m) (safe map) ≡ FailsC) ↔ (ConditionA m map × ConditionB m map × ¬ (ConditionC m map))
   unfolding answerIn mapAnswer failed
   fails-c-iff = (
-    λ e. let q = third-failed _ _ _ (map-failed FailsC e) in (a-iff m map .0 (q .0), b-iff m map .0 (q .1), no-iff _ _ (c-iff m map) .0 (q .2)),
-    λ t. rw (a-iff m map .1 (t .0), b-iff m map .1 (t .1), no-iff _ _ (c-iff m map) .1 (t .2)),
+    λ e. let q = third-failed _ _ _ (map-failed FailsC e) in (all-tests-tell m .tellsA map .0 (q .0), all-tests-tell m .tellsB map .0 (q .1), no-iff _ _ (all-tests-tell m .tellsC map) .0 (q .2)),
+    λ t. rw (all-tests-tell m .tellsA map .1 (t .0), all-tests-tell m .tellsB map .1 (t .1), no-iff _ _ (all-tests-tell m .tellsC map) .1 (t .2)),
   )
 
 module _ (m : Model) (s : ℕ) (xs : List TraceStep) where
-  trace-failed : (o : Outcome) → answerIn (systemOf m) (trace s xs) ≡ o → firstOf (starts m s) (condE (next m) s xs) (breaks m (lastOf s xs)) ≡ failed o
+  trace-failed : (o : Outcome) → answerIn (systemOf m) (trace s xs) ≡ o → firstOf (starts m s) (testE (next m) s xs) (breaks m (lastOf s xs)) ≡ failed o
   trace-failed o e = sym (trace-answered (systemOf m) s xs .1) ∙ ap failed e
 
   module _ (f : Every (InRange (systemOf m)) xs) where
     trace-holds-iff : (answerIn (systemOf m) (trace s xs) ≡ TraceHolds) ↔ (ConditionD m s × ConditionE m s xs × ConditionF m s xs)
     unfolding answerIn traceAnswer walk failed
     trace-holds-iff = (
-      λ e. let q = none-failed _ _ _ (trace-failed TraceHolds e) in (d-iff m s .0 (q .0), e-iff m s xs f .0 (q .1), f-iff m s xs .0 (q .2)),
-      λ t. rw (d-iff m s .1 (t .0), e-iff m s xs f .1 (t .1), f-iff m s xs .1 (t .2)),
+      λ e. let q = none-failed _ _ _ (trace-failed TraceHolds e) in (all-tests-tell m .tellsD s .0 (q .0), e-iff m s xs f .0 (q .1), all-tests-tell m .tellsF s xs .0 (q .2)),
+      λ t. rw (all-tests-tell m .tellsD s .1 (t .0), e-iff m s xs f .1 (t .1), all-tests-tell m .tellsF s xs .1 (t .2)),
     )
 
     fails-d-iff : (answerIn (systemOf m) (trace s xs) ≡ FailsD) ↔ (¬ (ConditionD m s))
     unfolding answerIn traceAnswer walk failed
     fails-d-iff = (
-      λ e. no-iff _ _ (d-iff m s) .0 (first-failed _ _ _ (trace-failed FailsD e)),
-      λ t. rw (no-iff _ _ (d-iff m s) .1 t),
+      λ e. no-iff _ _ (all-tests-tell m .tellsD s) .0 (first-failed _ _ _ (trace-failed FailsD e)),
+      λ t. rw (no-iff _ _ (all-tests-tell m .tellsD s) .1 t),
     )
 
     fails-e-iff : (answerIn (systemOf m) (trace s xs) ≡ FailsE) ↔ (ConditionD m s × ¬ (ConditionE m s xs))
     unfolding answerIn traceAnswer walk failed
     fails-e-iff = (
-      λ e. let q = second-failed _ _ _ (trace-failed FailsE e) in (d-iff m s .0 (q .0), no-iff _ _ (e-iff m s xs f) .0 (q .1)),
-      λ t. rw (d-iff m s .1 (t .0), no-iff _ _ (e-iff m s xs f) .1 (t .1)),
+      λ e. let q = second-failed _ _ _ (trace-failed FailsE e) in (all-tests-tell m .tellsD s .0 (q .0), no-iff _ _ (e-iff m s xs f) .0 (q .1)),
+      λ t. rw (all-tests-tell m .tellsD s .1 (t .0), no-iff _ _ (e-iff m s xs f) .1 (t .1)),
     )
 
     fails-f-iff : (answerIn (systemOf m) (trace s xs) ≡ FailsF) ↔ (ConditionD m s × ConditionE m s xs × ¬ (ConditionF m s xs))
     unfolding answerIn traceAnswer walk failed
     fails-f-iff = (
-      λ e. let q = third-failed _ _ _ (trace-failed FailsF e) in (d-iff m s .0 (q .0), e-iff m s xs f .0 (q .1), no-iff _ _ (f-iff m s xs) .0 (q .2)),
-      λ t. rw (d-iff m s .1 (t .0), e-iff m s xs f .1 (t .1), no-iff _ _ (f-iff m s xs) .1 (t .2)),
+      λ e. let q = third-failed _ _ _ (trace-failed FailsF e) in (all-tests-tell m .tellsD s .0 (q .0), e-iff m s xs f .0 (q .1), no-iff _ _ (all-tests-tell m .tellsF s xs) .0 (q .2)),
+      λ t. rw (all-tests-tell m .tellsD s .1 (t .0), e-iff m s xs f .1 (t .1), no-iff _ _ (all-tests-tell m .tellsF s xs) .1 (t .2)),
     )
 
 pub few-states : (m : Model) → Regular m → stateCount m ≤ 65536

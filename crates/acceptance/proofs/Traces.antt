@@ -11,28 +11,29 @@ use borrow.Author.Tests.{eq-eqb, ne-eqb, ltb-true}
 use Rattle.meaning.specs.OneRow.{TraceStep, lastOf}
 use Rattle.acceptance.specs.SheetTexts.{twoAt, stepIn, stepFits}
 use Rattle.acceptance.specs.working.SheetReading.{stepsIn, StepsStand}
-use Rattle.acceptance.specs.working.Test.{condA, condB, condC, condE, mapAnswer, walk, traceAnswer}
+use Rattle.meaning.specs.working.Conditions.{testA, testB, testC, testE}
+use Rattle.acceptance.specs.working.Test.{mapAnswer, walk, traceAnswer}
 use Rattle.acceptance.specs.declared.outcome.Outcome.{Outcome}
 use Rattle.acceptance.specs.declared.outcome.Outcome.the-variants.{SafeHolds, TraceHolds, FailsA, FailsB, FailsC, FailsD, FailsE, FailsF}
 use Rattle.acceptance.proofs.SheetLaws.{both-split, record-fits}
 
 -- The outcome for a map, from what was found of A, B and C.
 module _ (states commands : ℕ) (stars : ℕ → ℕ) (starts breaks : ℕ → Bool) (step : ℕ → ℕ → ℕ → ℕ) (map : List ℕ) where
-  pub fails-a : condA states starts map ≡ false → FailsA ≡ mapAnswer states commands stars starts breaks step map
+  pub fails-a : testA states starts map ≡ false → FailsA ≡ mapAnswer states commands stars starts breaks step map
   unfolding mapAnswer
   fails-a a = rw a
 
-  module _ (a : condA states starts map ≡ true) where
-    pub fails-b : condB states breaks map ≡ false → FailsB ≡ mapAnswer states commands stars starts breaks step map
+  module _ (a : testA states starts map ≡ true) where
+    pub fails-b : testB states breaks map ≡ false → FailsB ≡ mapAnswer states commands stars starts breaks step map
     unfolding mapAnswer
     fails-b b = rw (a, b)
 
-    module _ (b : condB states breaks map ≡ true) where
-      pub fails-c : condC states commands stars step map ≡ false → FailsC ≡ mapAnswer states commands stars starts breaks step map
+    module _ (b : testB states breaks map ≡ true) where
+      pub fails-c : testC states commands stars step map ≡ false → FailsC ≡ mapAnswer states commands stars starts breaks step map
       unfolding mapAnswer
       fails-c c = rw (a, b, c)
 
-      pub safe-holds : condC states commands stars step map ≡ true → SafeHolds ≡ mapAnswer states commands stars starts breaks step map
+      pub safe-holds : testC states commands stars step map ≡ true → SafeHolds ≡ mapAnswer states commands stars starts breaks step map
       unfolding mapAnswer
       safe-holds c = rw (a, b, c)
 
@@ -82,13 +83,13 @@ module _ (starts breaks : ℕ → Bool) (step : ℕ → ℕ → ℕ → ℕ) (b 
     taken = ap (λ (x : ℕ). step s x w) ec ∙ ap (λ (x : ℕ). step s (getD b (at + 6) 0) x) ew
 
     pub walk-next : t ≡ u → walk breaks step t (stepsIn b (at + 10) (n - (i + 1))) ≡ walk breaks step s (stepsIn b at (n - i))
-    unfolding walk condE stepsIn stepIn lastOf
+    unfolding walk testE stepsIn stepIn lastOf
     walk-next q =
         let z : eqb (twoAt b (at + 6 + 2)) (step s (getD b (at + 6) 0) (getD b (at + 6 + 1) 0)) ≡ true = eq-eqb _ _ (sym et ∙ q ∙ eu ∙ taken) in
         rw (still-more, z, et)
 
     pub walk-fails : (t ≡ u → ⊥) → FailsE ≡ walk breaks step s (stepsIn b at (n - i))
-    unfolding walk condE stepsIn stepIn
+    unfolding walk testE stepsIn stepIn
     walk-fails q =
         let z : eqb (twoAt b (at + 6 + 2)) (step s (getD b (at + 6) 0) (getD b (at + 6 + 1) 0)) ≡ false = ne-eqb _ _ (λ k. q (et ∙ k ∙ sym (eu ∙ taken))) in
         rw (still-more, z)
@@ -98,11 +99,11 @@ module _ (starts breaks : ℕ → Bool) (step : ℕ → ℕ → ℕ → ℕ) (b 
     none-left = omega arith
 
     pub walk-breaks : breaks s ≡ true → TraceHolds ≡ walk breaks step s (stepsIn b at (n - i))
-    unfolding walk condE stepsIn lastOf
+    unfolding walk testE stepsIn lastOf
     walk-breaks k = rw (none-left, k)
 
     pub walk-keeps : breaks s ≡ false → FailsF ≡ walk breaks step s (stepsIn b at (n - i))
-    unfolding walk condE stepsIn lastOf
+    unfolding walk testE stepsIn lastOf
     walk-keeps k = rw (none-left, k)
 
   pub walk-start : (s at n : ℕ) → walk breaks step s (stepsIn b at (n - 0)) ≡ walk breaks step s (stepsIn b at n)

@@ -9,12 +9,12 @@ use native.Mathlib.Nat.{not-suc-le-zero, le-of-suc-le-suc, eq-or-lt-of-le}
 use native.Mathlib.Omega.{arith}
 use lib.ListN.{length}
 use borrow.Author.Tests.{eqb-true, eq-eqb}
-use Rattle.notation.specs.Model.{Model}
+use Rattle.notation.specs.Model.{Model, stars}
 use Rattle.notation.specs.Regular.{Every}
 use Rattle.meaning.specs.Meaning.{Breaks, commandAt}
 use Rattle.meaning.specs.OneRow.{One, stateNumber, stateCount, wordCount, spread, starts, breaks, next, TraceStep, spreadStep, lastOf}
 use Rattle.meaning.specs.Evidence.{inMap, ConditionA, ConditionB, ConditionC, ConditionE, ConditionF, StepFits}
-use Rattle.meaning.specs.working.Conditions.{every, implies, testA, testB, testC, testD, testE, testF, AllTestsTell}
+use Rattle.meaning.specs.working.Conditions.{every, implies, testA, testB, wordsStay, closedAt, testC, testE, AllTestsTell}
 use Rattle.meaning.proofs.Number.{stateNumber-spread}
 use Rattle.meaning.proofs.OneRow.{and-split, and-join, starts-tell, breaks-tell, next-tells, last-is}
 
@@ -50,22 +50,22 @@ not-is true h = absurd (h refl)
 not-is false h = refl
 
 module _ (m : Model) where
-  tells-A : (bytes : List ℕ) → (testA m bytes ≡ true) ↔ ConditionA m bytes
+  tells-A : (bytes : List ℕ) → (testA (stateCount m) (starts m) bytes ≡ true) ↔ ConditionA m bytes
   unfolding testA
   tells-A bytes = (
     λ e s h g. implied (starts m s) (inMap bytes s) (below (stateCount m) _ e s h) (starts-tell m s .1 g),
     λ p. all-below _ _ λ s h. implying _ _ λ g. p s h (starts-tell m s .0 g),
   )
 
-  tells-B : (bytes : List ℕ) → (testB m bytes ≡ true) ↔ ConditionB m bytes
+  tells-B : (bytes : List ℕ) → (testB (stateCount m) (breaks m) bytes ≡ true) ↔ ConditionB m bytes
   unfolding testB
   tells-B bytes = (
     λ e s h g b. is-not (breaks m s) (implied (inMap bytes s) (not (breaks m s)) (below (stateCount m) _ e s h) g) (breaks-tell m s .1 b),
     λ p. all-below _ _ λ s h. implying _ _ λ g. not-is (breaks m s) λ b. p s h g (breaks-tell m s .0 b),
   )
 
-  tells-C : (bytes : List ℕ) → (testC m bytes ≡ true) ↔ ConditionC m bytes
-  unfolding testC
+  tells-C : (bytes : List ℕ) → (testC (stateCount m) (length (m .commands)) (λ k. length (stars (commandAt m k))) (next m) bytes ≡ true) ↔ ConditionC m bytes
+  unfolding testC closedAt wordsStay
   tells-C bytes = (
     λ e s k w hs hk hw g.
         below (wordCount (commandAt m k)) _
@@ -74,28 +74,26 @@ module _ (m : Model) where
     λ p. all-below _ _ λ s h. implying _ _ λ g. all-below _ _ λ k hk. all-below _ _ λ w hw. p s k w h hk hw g,
   )
 
-  steps-to : (s : ℕ) (xs : List TraceStep) → Every (StepFits m) xs → testE m s xs ≡ true → ConditionE m s xs
+  steps-to : (s : ℕ) (xs : List TraceStep) → Every (StepFits m) xs → testE (next m) s xs ≡ true → ConditionE m s xs
   unfolding testE spreadStep
   steps-to s [] f e = tt
   steps-to s (x ∷ xs) f e =
       let t = and-split _ _ e in
       (f .0 .command, ap (spread m One) (eqb-true _ _ (t .0)) ∙ next-tells m s (x .command) (x .word), steps-to (x .after) xs (f .1) (t .1))
 
-  steps-of : (s : ℕ) (xs : List TraceStep) → Every (StepFits m) xs → ConditionE m s xs → testE m s xs ≡ true
+  steps-of : (s : ℕ) (xs : List TraceStep) → Every (StepFits m) xs → ConditionE m s xs → testE (next m) s xs ≡ true
   unfolding testE spreadStep next
   steps-of s [] f h = refl
   steps-of s (x ∷ xs) f h =
       and-join _ _ (eq-eqb _ _ (sym (stateNumber-spread m (x .after) (f .0 .after)) ∙ ap stateNumber (h .1))) (steps-of (x .after) xs (f .1) (h .2))
 
-  tells-F : (s : ℕ) (xs : List TraceStep) → (testF m s xs ≡ true) ↔ ConditionF m s xs
-  unfolding testF
+  tells-F : (s : ℕ) (xs : List TraceStep) → (breaks m (lastOf s xs) ≡ true) ↔ ConditionF m s xs
   tells-F s xs = (
     λ e. subst (Breaks m) (sym (last-is m s xs)) (breaks-tell m (lastOf s xs) .0 e),
     λ b. breaks-tell m (lastOf s xs) .1 (subst (Breaks m) (last-is m s xs) b),
   )
 
 pub all-tests-tell : AllTestsTell
-unfolding testD
 all-tests-tell m =
     record {
       tellsA = tells-A m;

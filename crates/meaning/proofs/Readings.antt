@@ -20,7 +20,7 @@ use Rattle.meaning.specs.Meaning.{State, Move, eval, runRow, runItem, ru
 use Rattle.meaning.specs.OneRow.{One, theRow, stateNumber, spread, spreadWord, starts, breaks, next, lastOf}
 use Rattle.meaning.specs.Evidence.{inMap, safe, NotFromZero}
 use Rattle.meaning.specs.Readings.{StarByRow, ConditionByRow, ItemsInOrder, BreakAtStart, cured, UnreachedMember, still, ZeroRows, barred, barredText}
-use Rattle.meaning.specs.working.Conditions.{every, implies, testA, testB, testC, testD, testF}
+use Rattle.meaning.specs.working.Conditions.{every, implies, testA, testB, wordsStay, closedAt, testC}
 use Rattle.meaning.proofs.Accept.{all-tests-tell}
 use Rattle.meaning.proofs.Number.{spread-stateNumber}
 use Rattle.meaning.proofs.OneRow.{starts-tell}
@@ -63,7 +63,7 @@ cured-for-good s x [] h (inl b) =
     true≢false (rw e at b)
 
 pub break-at-start : BreakAtStart
-unfolding testD testF lastOf starts breaks bit spread eval
+unfolding lastOf starts breaks bit spread eval
 break-at-start = (
   record {
     startFits = lit< tt;
@@ -90,7 +90,7 @@ unfolding starts bit spread eval
 still-start = refl
 
 pub unreached-member : UnreachedMember
-unfolding testA testB testC every implies starts breaks next inMap bit number spread spreadWord stateNumber step runItems runItem eval stars starsItems starsExpr
+unfolding testA testB testC closedAt wordsStay every implies starts breaks next inMap bit number spread spreadWord stateNumber step runItems runItem eval stars starsItems starsExpr
 unreached-member = (
   λ s xs r e.
       let f = r .start in
@@ -107,7 +107,7 @@ unfolding bytes sameWord reserved wordIn wordToken sameKind allowed nameCounts R
 barred-says = record { tree = _; says = says-iff-answer barredText _ .1 refl; meant = refl }
 
 pub zero-rows : ZeroRows
-unfolding testA testB testC every implies starts breaks next inMap bit number spread spreadWord stateNumber step runItems runItem eval stars starsItems starsExpr
+unfolding testA testB testC closedAt wordsStay every implies starts breaks next inMap bit number spread spreadWord stateNumber step runItems runItem eval stars starsItems starsExpr
 zero-rows = record {
   says = barred-says;
   passes = record {
