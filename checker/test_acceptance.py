@@ -6,35 +6,17 @@ import unittest
 from collections import Counter
 
 from acceptance import answer
-from model import Refusal
-from one_row import OneRow
+from cases import G, G_SHEET, H, map_for, table_of
 from phrases import model
-from reading import read
 from searching import search
 from sheets import (Map, Trace, contents, header, map_sheet, record,
                     step_record, trace_sheet)
 from small_models import small_text
 from tables import goes_wrong, is_broken, is_start, run, outer_stars
 
-G = ("shared m. row w x.\n"
-     "start m each not x.\n"
-     "keep 1 each not (w and x).\n"
-     "command grant if m do\n"
-     "for 1 do w := *; x := * else skip end else skip.")
-H = G.replace("x := *", "x := not w and *")
-G_SHEET = bytes.fromhex("030000000100010201"
-                        "0200000003000100"
-                        "04000000040000030700")
-
-
-def table_of(text):
-    read_model = read(text.encode())
-    assert not isinstance(read_model, Refusal), text
-    return OneRow(read_model)
-
 
 def by_map(text, *members):
-    return answer(text.encode(), map_sheet(table_of(text), members))
+    return answer(text.encode(), map_for(text, members))
 
 
 class Cases(unittest.TestCase):

@@ -1,16 +1,4 @@
--- Laws of the evaluation, of sheets and of the test, by subject.
-pub mod CodeRuns
-pub mod Values
-pub mod Effects
-pub mod CellRuns
-pub mod LaneBits
-pub mod Zones
-pub mod LaneMoves
-pub mod LaneRuns
-pub mod LaneEnds
-pub mod LaneRows
-pub mod Batches
-pub mod Bounds
+-- Laws of sheets and of the test, by subject.
 pub mod UnusedBits
 pub mod SheetLaws
 pub mod SheetOpened
@@ -19,9 +7,12 @@ pub mod SheetWritten
 pub mod SheetSplit
 pub mod SheetAnswers
 pub mod Loops
-pub mod Traces
+pub mod TraceLaws
 pub mod TestMeans
 pub mod TestWhole
 pub mod StarCounts
+pub mod Alike
+pub mod TestTexts
 pub mod SheetCases
+pub mod TestCases
 pub mod Claims

@@ -1,25 +1,37 @@
 -- The conditions A, B and C, one turn of a loop at a time; and the bit of a map.
 -- Assumes nothing.
-use mathlib.Core.Path.{_≡_, refl, sym, ap, subst}
+use mathlib.Core.Path.{_≡_, refl, sym, ap, _∙_, subst}
 use mathlib.Core.Bool.{Bool, true, false, not, _&&_}
 use mathlib.Core.List.{List}
 use mathlib.Core.Logic.{_⊎_, inl, inr}
-use Prim.Native.Nat.{ℕ, zero, suc, _+_, _/_, _%_, _^_, _<_, _≤_}
+use Prim.Native.Nat.{ℕ, zero, suc, _+_, _*_, _/_, _%_, _^_, _<_, _≤_}
 use native.Mathlib.Omega.{arith}
 use native.Mathlib.Numerals.{add-one}
-use native.Mathlib.Nat.{not-suc-le-zero, le-of-suc-le-suc, eq-or-lt-of-le}
+use native.Mathlib.Nat.{mod-lt, not-suc-le-zero, le-of-suc-le-suc, eq-or-lt-of-le}
 use lib.ListN.{getD, drop}
-use lib.Seq.{getD-take, getD-drop}
+use lib.Seq.{slice, getD-take, getD-drop}
 use lib.Dec.{eqb}
+use lib.Pow.{pow-pos}
 use Rattle.meaning.specs.Bits.{bit}
 use Rattle.meaning.specs.Evidence.{inMap}
 use Rattle.meaning.specs.working.Conditions.{every, implies, wordsStay, testA, testB, testC, closedAt}
+use Rattle.evaluation.specs.working.CodeMachine.{runOf, startOf}
+use Rattle.evaluation.specs.working.Batches.{afterOf}
+use Rattle.evaluation.specs.working.CodeSystem.{beginOf, segmentOf, nextIn}
+use Rattle.evaluation.proofs.OneRowCode.{cut}
 use Rattle.acceptance.specs.working.SheetReading.{mapIn}
+use Rattle.acceptance.specs.working.Shapes.{starsIn}
+use Rattle.acceptance.proofs.SheetLaws.{stars-word}
 
 -- The bit that the code reads is that of the map.
 pub bit-in : (b : List ℕ) (p n s byte : ℕ) → s / 8 < n → byte ≡ getD b (p + s / 8) 0 → eqb (byte / 2 ^ (s % 8) % 2) 1 ≡ inMap (mapIn b p n) s
 unfolding inMap mapIn bit
 bit-in b p n s byte h e = rw (getD-take n (drop p b) (s / 8) 0 h, getD-drop p b (s / 8) 0, e)
+
+-- A state of n bits after a command has its bit in a map that has one for each.
+pub member-room : (os : List ℕ) (s n w x m : ℕ) → x ≡ afterOf os s n w → 2 ^ n ≤ 8 * m → x / 8 < m
+unfolding afterOf
+member-room os s n w x m e h = omega (arith, e, h, mod-lt (runOf os w (startOf s) .state) (pow-pos n))
 
 -- A test that holds of every number below n, one number more at a time.
 pub every-none : (f : ℕ → Bool) → every 0 f ≡ true
@@ -105,30 +117,29 @@ module _ (breaks : ℕ → Bool) (map : List ℕ) (s : ℕ) where
   unfolding testB
   b-fail n h f g = every-fail _ _ _ h (implies-bad _ _ f (ap not g))
 
--- C, one word, one command and one state more at a time.
-module _ (step : ℕ → ℕ → ℕ → ℕ) (map : List ℕ) (s : ℕ) where
-  pub words-none : (c : ℕ) → wordsStay step map s c 0 ≡ true
-  unfolding wordsStay
-  words-none c = every-none _
+-- What the code finds of the words of command k is what C asks of them.
+pub words-told : (ops ends stars map : List ℕ) (n s k from to x words : ℕ) (r : Bool) → from ≡ beginOf ends (4 + k) → to ≡ getD ends (4 + k) 0
+    → x ≡ getD stars k 0 → words ≡ 2 ^ x → r ≡ every words (λ w. inMap map (afterOf (slice from to ops) s n w))
+    → r ≡ wordsStay (nextIn ops ends n) map s k (2 ^ starsIn stars k)
+unfolding wordsStay nextIn
+words-told ops ends stars map n s k from to x words r e f g h t =
+    t
+    ∙ ap (λ (os : List ℕ). every words (λ w. inMap map (afterOf os s n w))) (cut ops ends (4 + k) from to e f)
+    ∙ ap (λ (m : ℕ). every m (λ w. inMap map (afterOf (segmentOf ops ends (4 + k)) s n w))) (stars-word stars k x words g h)
 
-  pub words-next : (c w : ℕ) → wordsStay step map s c w ≡ true → inMap map (step s c w) ≡ true → wordsStay step map s c (w + 1) ≡ true
-  unfolding wordsStay
-  words-next c w e h = every-next _ _ e h
-
+-- C, one command and one state more at a time.
 module _ (commands : ℕ) (stars : ℕ → ℕ) (step : ℕ → ℕ → ℕ → ℕ) (map : List ℕ) (s : ℕ) where
   pub closed-none : closedAt 0 stars step map s ≡ true
   unfolding closedAt
   closed-none = every-none _
 
-  pub closed-next : (c w n : ℕ) → closedAt c stars step map s ≡ true → n ≡ 2 ^ stars c → w ≤ n → n ≤ w → wordsStay step map s c w ≡ true → closedAt (c + 1) stars step map s ≡ true
+  pub closed-next : (k : ℕ) → closedAt k stars step map s ≡ true → wordsStay step map s k (2 ^ stars k) ≡ true → closedAt (k + 1) stars step map s ≡ true
   unfolding closedAt
-  closed-next c w n e q h k f =
-      let z : w ≡ 2 ^ stars c = omega arith in
-      every-next _ _ e (subst (λ (x : ℕ). wordsStay step map s c x ≡ true) z f)
+  closed-next k e h = every-next _ _ e h
 
-  pub closed-fail : (c w n : ℕ) → c < commands → n ≡ 2 ^ stars c → w < n → inMap map (step s c w) ≡ false → false ≡ closedAt commands stars step map s
-  unfolding closedAt wordsStay
-  closed-fail c w n h q k f = every-fail _ _ _ h (sym (every-fail (2 ^ stars c) (λ x. inMap map (step s c x)) w (rw q at k) f))
+  pub closed-fail : (k : ℕ) → k < commands → wordsStay step map s k (2 ^ stars k) ≡ false → false ≡ closedAt commands stars step map s
+  unfolding closedAt
+  closed-fail k h e = every-fail _ _ _ h e
 
   pub closed-done : (c : ℕ) → c ≤ commands → commands ≤ c → closedAt c stars step map s ≡ true → true ≡ closedAt commands stars step map s
   unfolding closedAt

@@ -1,14 +1,13 @@
 -- Worked cases of sheets' bytes, and refusals with their places, for models that differ from each other only in their counts.
 -- Assumes nothing.
 use mathlib.Core.Path.{_≡_, refl}
-use mathlib.Core.Bool.{Bool, true, false}
+use mathlib.Core.Bool.{true}
 use mathlib.Core.List.{List, [], _∷_, _++_}
 use Prim.Native.Nat.{ℕ}
 use Rattle.meaning.specs.Evidence.{Sheet, safe, trace}
-use Rattle.meaning.specs.OneRow.{TraceStep}
 use Rattle.acceptance.specs.SheetTexts.{both, twoAt, fourAt, isRecord, sameCounts, unusedClear, stepIn, stepFits}
-use Rattle.acceptance.specs.Sheets.{System, little, recordBytes, headerBytes, stepBytes, stepsBytes, sheetBytes, startBytes, mapBytes, mapLength}
-use Rattle.acceptance.specs.working.SheetReading.{Reading, refused, holds, demand, either, mapIn, mapAt, stepsIn, stepsAt, stepCount, traceAt, bodyAt, sheetOf, sheetIn}
+use Rattle.acceptance.specs.Sheets.{System, little, recordBytes, headerBytes, stepBytes, stepsBytes, sheetBytes, startBytes, mapLength}
+use Rattle.acceptance.specs.working.SheetReading.{refused, holds, demand, either, mapIn, mapAt, stepsIn, stepsAt, stepCount, traceAt, bodyAt, sheetOf, sheetIn}
 
 -- One shared name, two row names, one command with two stars.
 abbrev g : System

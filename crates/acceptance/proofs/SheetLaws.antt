@@ -3,12 +3,11 @@
 use mathlib.Core.Path.{_≡_, refl, sym, ap, _∙_, subst}
 use mathlib.Core.Bool.{Bool, true, false}
 use mathlib.Core.List.{List}
-use Prim.Native.Nat.{ℕ, suc, _+_, _-_, _*_, _/_, _%_, _^_, _<_, _≤_}
+use Prim.Native.Nat.{ℕ, suc, _+_, _-_, _*_, _/_, _^_, _<_, _≤_}
 use native.Mathlib.Omega.{arith}
-use native.Mathlib.Nat.{one-mul}
 use lib.ListN.{length, getD}
 use lib.Dec.{eqb, ltb}
-use lib.Pow.{shl-exact, pow-mono}
+use lib.Pow.{pow-mono}
 use borrow.Author.Tests.{leb-true, eqb-true, eq-eqb, ne-eqb, lt-ltb, le-ltb, le-leb, lt-leb}
 use Rattle.acceptance.specs.SheetTexts.{both, twoAt, fourAt, isRecord, sameCounts, unusedClear, stepIn, stepFits}
 use Rattle.acceptance.specs.Sheets.{mapLength}
@@ -45,9 +44,6 @@ record-length b p kind n e = eqb-true _ _ (both-split _ _ (both-split _ _ e .1) 
 pub record-kind : (b : List ℕ) (p kind n : ℕ) → isRecord b p kind n ≡ true → twoAt b (p + 4) ≡ kind
 unfolding isRecord
 record-kind b p kind n e = eqb-true _ _ (both-split _ _ (both-split _ _ e .1) .1)
-
-pub one-shifted : (n : ℕ) → n ≤ 12 → (1 * 2 ^ n) % 2 ^ 64 ≡ 2 ^ n
-one-shifted n h = shl-exact {a = 1} 1 n 64 (omega arith) (omega arith) ∙ one-mul (2 ^ n)
 
 pub length-one : (states : ℕ) → states / 8 ≡ 0 → 1 ≡ mapLength states
 unfolding mapLength
@@ -171,9 +167,6 @@ pub steps-start : (states commands : ℕ) (stars : ℕ → ℕ) (b : List ℕ) (
 steps-start states commands stars b p n rest = let q : n - 0 ≡ n = omega arith in ap (λ (x : ℕ). stepsAt states commands stars b p x rest) q
 
 -- Sizes.
-pub pow-small : (k n : ℕ) → k ≤ 12 → n ≡ 2 ^ k → n ≤ 4096
-pow-small k n h e = rw e (pow-mono {i = k} {j = 12} h)
-
 pub map-length-pos : (states n : ℕ) → n ≡ mapLength states → 1 ≤ n
 unfolding mapLength
 map-length-pos states n e = omega arith

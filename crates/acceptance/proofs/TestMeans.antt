@@ -1,28 +1,27 @@
 -- Each outcome of the test is given exactly where its conditions say, and one of the two that hold exactly where the sheet passes.
 -- Assumes nothing.
-use mathlib.Core.Path.{_≡_, refl, sym, ap, _∙_, subst}
+use mathlib.Core.Path.{_≡_, refl, sym, ap, _∙_}
 use mathlib.Core.Logic.{_↔_}
-use mathlib.Core.Bool.{Bool, true, false, cond, _&&_, true≢false}
-use mathlib.Core.List.{List, [], _∷_}
+use mathlib.Core.Bool.{Bool, true, false, cond, true≢false}
+use mathlib.Core.List.{List}
 use Prim.Native.Nat.{ℕ, _+_, _≤_}
 use native.Mathlib.Omega.{arith}
 use lib.ListN.{length}
-use lib.Dec.{eqb}
 use Rattle.notation.specs.Model.{Model}
 use Rattle.notation.specs.Regular.{Regular, Every}
 use Rattle.meaning.specs.OneRow.{stateCount, starts, breaks, next, TraceStep, lastOf}
 use Rattle.meaning.specs.Evidence.{safe, trace, ConditionA, ConditionB, ConditionC, ConditionD, ConditionE, ConditionF, StepFits}
 use Rattle.acceptance.specs.Sheets.{System, size, systemOf}
 use Rattle.acceptance.specs.SheetTexts.{InRange, AreBytes, SheetSays, SheetRefused}
-use Rattle.acceptance.specs.Promises.{MapThat, TraceThat, TestTells, PassTells}
-use Rattle.meaning.specs.working.Conditions.{testA, testB, wordsStay, closedAt, testC, testE}
+use Rattle.acceptance.specs.Promises.{MapThat, TraceThat}
+use Rattle.meaning.specs.working.Conditions.{testA, testB, testC, testE}
 use Rattle.acceptance.specs.working.SheetReading.{Reading, refused, holds, sheetOf}
 use Rattle.acceptance.specs.working.Test.{mapAnswer, walk, traceAnswer, answerIn, judge, outcomeOf}
 use Rattle.acceptance.specs.declared.outcome.Outcome.{Outcome}
 use Rattle.acceptance.specs.declared.outcome.Outcome.the-variants.{SafeHolds, TraceHolds, FailsA, FailsB, FailsC, FailsD, FailsE, FailsF, Refused}
 use Rattle.meaning.proofs.Lists.{weaken}
 use Rattle.meaning.proofs.Accept.{all-tests-tell}
-use Rattle.acceptance.proofs.SheetLaws.{pow-small}
+use Rattle.evaluation.proofs.Powers.{pow-small}
 use Rattle.acceptance.proofs.SheetRefusals.{refused-iff-reads}
 use Rattle.acceptance.proofs.SheetSplit.{says-iff-reads}
 
@@ -269,9 +268,21 @@ module _ (m : Model) (s : ℕ) (xs : List TraceStep) where
 pub few-states : (m : Model) → Regular m → stateCount m ≤ 65536
 few-states m g = omega (arith, pow-small (m .sharedNames + m .rowNames) (stateCount m) (g .fewNames) refl)
 
-pub test-tells : TestTells
+-- Each outcome for the bytes b, and exactly where it is given.
+pub record Given (m : Model) (b : List ℕ) : Type 0 where
+  pub refusal : (n p : ℕ) → (outcomeOf (systemOf m) b ≡ Refused n p) ↔ SheetRefused (systemOf m) b n p
+  pub safeHolds : (outcomeOf (systemOf m) b ≡ SafeHolds) ↔ MapThat m b λ map. ConditionA m map × ConditionB m map × ConditionC m map
+  pub failsA : (outcomeOf (systemOf m) b ≡ FailsA) ↔ MapThat m b λ map. ¬ (ConditionA m map)
+  pub failsB : (outcomeOf (systemOf m) b ≡ FailsB) ↔ MapThat m b λ map. ConditionA m map × ¬ (ConditionB m map)
+  pub failsC : (outcomeOf (systemOf m) b ≡ FailsC) ↔ MapThat m b λ map. ConditionA m map × ConditionB m map × ¬ (ConditionC m map)
+  pub traceHolds : (outcomeOf (systemOf m) b ≡ TraceHolds) ↔ TraceThat m b λ s xs. ConditionD m s × ConditionE m s xs × ConditionF m s xs
+  pub failsD : (outcomeOf (systemOf m) b ≡ FailsD) ↔ TraceThat m b λ s xs. ¬ (ConditionD m s)
+  pub failsE : (outcomeOf (systemOf m) b ≡ FailsE) ↔ TraceThat m b λ s xs. ConditionD m s × ¬ (ConditionE m s xs)
+  pub failsF : (outcomeOf (systemOf m) b ≡ FailsF) ↔ TraceThat m b λ s xs. ConditionD m s × ConditionE m s xs × ¬ (ConditionF m s xs)
+
+pub all-given : (m : Model) → Regular m → (b : List ℕ) → AreBytes b → Given m b
 unfolding kind
-test-tells m g b bytes =
+all-given m g b bytes =
     let few = few-states m g in
     record {
       refusal = refusal-means (systemOf m) b;
@@ -283,23 +294,4 @@ test-tells m g b bytes =
       failsD = trace-iff m few b bytes FailsD refl _ (fails-d-iff m);
       failsE = trace-iff m few b bytes FailsE refl _ (fails-e-iff m);
       failsF = trace-iff m few b bytes FailsF refl _ (fails-f-iff m);
-    }
-
-pub pass-tells : PassTells
-pass-tells m g b bytes =
-    let T = test-tells m g b bytes in
-    record {
-      safeSheet = (
-        λ o. let t = T .safeHolds .0 o in (t .0, t .1, record { starts = t .2 .0; keeps = t .2 .1; closed = t .2 .2 }),
-        λ t. T .safeHolds .1 (t .0, t .1, (t .2 .starts, t .2 .keeps, t .2 .closed)),
-      );
-      traceSheet = (
-        λ o. let t = T .traceHolds .0 o in (
-          t .0,
-          t .1,
-          t .2,
-          record { startFits = t .2 .fits .0; stepsFit = steps-fit m (t .1) (t .2 .fits .1); starts = t .3 .0; steps = t .3 .1; breaks = t .3 .2 },
-        ),
-        λ t. T .traceHolds .1 (t .0, t .1, t .2, (t .3 .starts, t .3 .steps, t .3 .breaks)),
-      );
     }

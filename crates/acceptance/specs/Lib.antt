@@ -3,4 +3,5 @@ pub mod Sheets
 pub mod SheetTexts
 pub mod Outcomes
 pub mod Promises
+pub mod Cases
 pub mod working

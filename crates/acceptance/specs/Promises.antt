@@ -6,16 +6,15 @@ use mathlib.Core.Bool.{true, false}
 use mathlib.Core.List.{List}
 use Prim.Native.Nat.{ℕ, _<_, _≤_}
 use Rattle.notation.specs.Model.{Model}
-use Rattle.notation.specs.Regular.{Regular}
-use Rattle.notation.specs.Texts.{TextSays}
+use Rattle.notation.specs.Texts.{TextSays, TextRefused}
 use Rattle.meaning.specs.Bits.{bit}
 use Rattle.meaning.specs.OneRow.{TraceStep}
 use Rattle.meaning.specs.Evidence.{Sheet, safe, trace, Passes, Promise, ConditionA, ConditionB, ConditionC, ConditionD, ConditionE, ConditionF}
 use Rattle.acceptance.specs.Sheets.{System, size, systemOf}
+use Rattle.acceptance.specs.Outcomes.{Wording, words, letter, returned, wordingOf}
 use Rattle.acceptance.specs.SheetTexts.{unusedClear, AreBytes, SheetSays, SheetRefused}
 use Rattle.acceptance.specs.working.SheetReading.{refused, holds, sheetOf}
-use Rattle.acceptance.specs.working.Test.{outcomeOf}
-use Rattle.acceptance.specs.declared.outcome.Outcome.the-variants.{SafeHolds, TraceHolds, FailsA, FailsB, FailsC, FailsD, FailsE, FailsF, Refused}
+use Rattle.acceptance.specs.working.Test.{testOf}
 
 -- The test of the unused bits asks that each bit of the byte from `states` up is 0.
 abbrev pub UnusedTell : Type 0
@@ -39,7 +38,10 @@ pub record SheetAnswered (M : System) (b : List ℕ) : Type 0 where
 abbrev pub OneAnswer : Type 0
 OneAnswer = (M : System) → size M ≤ 65536 → (b : List ℕ) → AreBytes b → SheetAnswered M b
 
--- Each outcome for the bytes b, and exactly where it is given.
+-- What the test answers for a text and a sheet.
+abbrev pub answerTo : List ℕ → List ℕ → Wording
+answerTo text b = wordingOf (testOf text b)
+
 module _ (m : Model) (b : List ℕ) where
   -- The bytes say a map of which this holds.
   abbrev pub MapThat : (List ℕ → Type 0) → Type 0
@@ -49,37 +51,42 @@ module _ (m : Model) (b : List ℕ) where
   abbrev pub TraceThat : (ℕ → List TraceStep → Type 0) → Type 0
   TraceThat P = (s : ℕ) × (xs : List TraceStep) × SheetSays (systemOf m) b (trace s xs) × P s xs
 
-  pub record TestMeans : Type 0 where
-    pub refusal : (n p : ℕ) → (outcomeOf (systemOf m) b ≡ Refused n p) ↔ SheetRefused (systemOf m) b n p
-    pub safeHolds : (outcomeOf (systemOf m) b ≡ SafeHolds) ↔ MapThat λ map. ConditionA m map × ConditionB m map × ConditionC m map
-    pub failsA : (outcomeOf (systemOf m) b ≡ FailsA) ↔ MapThat λ map. ¬ (ConditionA m map)
-    pub failsB : (outcomeOf (systemOf m) b ≡ FailsB) ↔ MapThat λ map. ConditionA m map × ¬ (ConditionB m map)
-    pub failsC : (outcomeOf (systemOf m) b ≡ FailsC) ↔ MapThat λ map. ConditionA m map × ConditionB m map × ¬ (ConditionC m map)
-    pub traceHolds : (outcomeOf (systemOf m) b ≡ TraceHolds) ↔ TraceThat λ s xs. ConditionD m s × ConditionE m s xs × ConditionF m s xs
-    pub failsD : (outcomeOf (systemOf m) b ≡ FailsD) ↔ TraceThat λ s xs. ¬ (ConditionD m s)
-    pub failsE : (outcomeOf (systemOf m) b ≡ FailsE) ↔ TraceThat λ s xs. ConditionD m s × ¬ (ConditionE m s xs)
-    pub failsF : (outcomeOf (systemOf m) b ≡ FailsF) ↔ TraceThat λ s xs. ConditionD m s × ConditionE m s xs × ¬ (ConditionF m s xs)
+  -- Each answer for the model and the bytes, and exactly where it is given.
+  pub record TestMeans (answer : Wording) : Type 0 where
+    pub refusal : (n p : ℕ) → (answer ≡ returned n p) ↔ SheetRefused (systemOf m) b n p
+    pub safeHolds : (answer ≡ words "safe holds") ↔ MapThat λ map. ConditionA m map × ConditionB m map × ConditionC m map
+    pub failsA : (answer ≡ letter "A") ↔ MapThat λ map. ¬ (ConditionA m map)
+    pub failsB : (answer ≡ letter "B") ↔ MapThat λ map. ConditionA m map × ¬ (ConditionB m map)
+    pub failsC : (answer ≡ letter "C") ↔ MapThat λ map. ConditionA m map × ConditionB m map × ¬ (ConditionC m map)
+    pub traceHolds : (answer ≡ words "trace holds") ↔ TraceThat λ s xs. ConditionD m s × ConditionE m s xs × ConditionF m s xs
+    pub failsD : (answer ≡ letter "D") ↔ TraceThat λ s xs. ¬ (ConditionD m s)
+    pub failsE : (answer ≡ letter "E") ↔ TraceThat λ s xs. ConditionD m s × ¬ (ConditionE m s xs)
+    pub failsF : (answer ≡ letter "F") ↔ TraceThat λ s xs. ConditionD m s × ConditionE m s xs × ¬ (ConditionF m s xs)
 
-  -- The outcome is one of the two that hold exactly where the sheet passes.
-  pub record PassMeans : Type 0 where
-    pub safeSheet : (outcomeOf (systemOf m) b ≡ SafeHolds) ↔ MapThat λ map. Passes m (safe map)
-    pub traceSheet : (outcomeOf (systemOf m) b ≡ TraceHolds) ↔ TraceThat λ s xs. Passes m (trace s xs)
+  -- The answer is one of the two that hold exactly where the sheet passes.
+  pub record PassMeans (answer : Wording) : Type 0 where
+    pub safeSheet : (answer ≡ words "safe holds") ↔ MapThat λ map. Passes m (safe map)
+    pub traceSheet : (answer ≡ words "trace holds") ↔ TraceThat λ s xs. Passes m (trace s xs)
 
--- Both for every model that a text can say and for all bytes.
+-- Both for every text that says a model, and all bytes.
 abbrev pub TestTells : Type 0
-TestTells = (m : Model) → Regular m → (b : List ℕ) → AreBytes b → TestMeans m b
+TestTells = (text : List ℕ) (m : Model) → TextSays text m → (b : List ℕ) → AreBytes b → TestMeans m b (answerTo text b)
 
 abbrev pub PassTells : Type 0
-PassTells = (m : Model) → Regular m → (b : List ℕ) → AreBytes b → PassMeans m b
+PassTells = (text : List ℕ) (m : Model) → TextSays text m → (b : List ℕ) → AreBytes b → PassMeans m b (answerTo text b)
 
--- The claim, said of bytes: where the outcome is that a sheet holds, what the bytes say holds of both tables,
--- and for no other bytes is the outcome that a sheet of the other kind holds.
-pub record BytesPromise (m : Model) (b : List ℕ) (n₁ n₂ : ℕ) : Type 0 where
-  pub safeSheet : outcomeOf (systemOf m) b ≡ SafeHolds → MapThat m b λ map. Promise m (safe map) n₁ n₂
-  pub traceSheet : outcomeOf (systemOf m) b ≡ TraceHolds → TraceThat m b λ s xs. Promise m (trace s xs) n₁ n₂
-  pub oneKind : (c : List ℕ) → AreBytes c → outcomeOf (systemOf m) b ≡ SafeHolds → ¬ (outcomeOf (systemOf m) c ≡ TraceHolds)
+-- A text that says no model gets its own first refusal, whatever the bytes are.
+abbrev pub TextComesFirst : Type 0
+TextComesFirst = (text : List ℕ) (n i : ℕ) → TextRefused text n i → (b : List ℕ) → answerTo text b ≡ returned n i
 
--- For every model that a text says, all bytes, and all pairs of tables of one row or more.
-abbrev pub ClaimOfBytes : Type 0
-ClaimOfBytes =
-    (text : List ℕ) (m : Model) → TextSays text m → (b : List ℕ) → AreBytes b → (n₁ n₂ : ℕ) → 1 ≤ n₁ → 1 ≤ n₂ → BytesPromise m b n₁ n₂
+-- The claim, said of the test: where it answers that a sheet holds, what the bytes say holds of both tables,
+-- and for no text of the model and no bytes does it answer that a sheet of the other kind holds.
+pub record TestPromise (text : List ℕ) (m : Model) (b : List ℕ) (n₁ n₂ : ℕ) : Type 0 where
+  pub safeSheet : answerTo text b ≡ words "safe holds" → MapThat m b λ map. Promise m (safe map) n₁ n₂
+  pub traceSheet : answerTo text b ≡ words "trace holds" → TraceThat m b λ s xs. Promise m (trace s xs) n₁ n₂
+  pub oneKind : (other c : List ℕ) → TextSays other m → AreBytes c → answerTo text b ≡ words "safe holds" → ¬ (answerTo other c ≡ words "trace holds")
+
+-- For every text, the model that it says, all bytes, and all pairs of tables of one row or more.
+abbrev pub ClaimOfTest : Type 0
+ClaimOfTest =
+    (text : List ℕ) (m : Model) → TextSays text m → (b : List ℕ) → AreBytes b → (n₁ n₂ : ℕ) → 1 ≤ n₁ → 1 ≤ n₂ → TestPromise text m b n₁ n₂

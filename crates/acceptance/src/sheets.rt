@@ -5,6 +5,8 @@ ghost use Rattle.acceptance.specs.Sheets.{mapLength};
 ghost use Rattle.acceptance.specs.SheetTexts.{twoAt, isRecord, sameCounts, unusedClear, stepIn, stepFits};
 ghost use Rattle.acceptance.specs.working.SheetReading.{mapAt, traceAt, bodyAt, sheetIn};
 ghost use Rattle.acceptance.specs.working.Shapes.{shapeOf, starsIn, Few};
+use evaluation::numbers::count;
+use evaluation::numbers::power;
 
 // The most bytes that a sheet may have.
 const MAX_SHEET: usize = 65536;
@@ -17,29 +19,14 @@ pub enum Shape {
 }
 
 // A byte as a number.
-fn wide(x: u8) -> usize
+pub fn wide(x: u8) -> usize
     ensures { λ r. ⌜ (r ≡ x) × (r < 256) ⌝ }
 {
     x as usize
 }
 
-// A star count as a number.
-fn count(x: u16) -> usize
-    ensures { λ r. ⌜ r ≡ x ⌝ }
-{
-    x as usize
-}
-
-// 2 to the n.
-fn power(n: usize) -> usize
-    requires { ⌜ n ≤ 12 ⌝ }
-    ensures { λ r. ⌜ r ≡ 2 ^ n ⌝ }
-{
-    1 << n
-}
-
 // The two-byte number at p.
-fn two_at(b: &[u8], p: usize) -> usize
+pub fn two_at(b: &[u8], p: usize) -> usize
     requires { do ⌜ p + 2 ≤ (← ⟦b.len()⟧) ⌝ }
     ensures { λ r. ⌜ (r ≡ twoAt (now (b .entry)) p) × (r < 65536) ⌝ }
 {
@@ -77,7 +64,7 @@ fn same_counts(b: &[u8], shared: usize, row: usize, commands: usize) -> bool
 }
 
 // How many bytes a map has.
-fn map_length(states: usize) -> usize
+pub fn map_length(states: usize) -> usize
     ensures { λ r. ⌜ r ≡ mapLength states ⌝ }
 {
     let n = states / 8;

@@ -1,10 +1,16 @@
 // Reads texts from standard input, and writes an answer line for each.
 // A text comes as its length in digits, a newline, its bytes and a newline. At anything else the input ends.
 // An answer is `refused NUMBER PLACE`, or `model` and the whole flat form.
-ghost use Prim.Native.Nat.{_≤_};
-ghost use Rattle.io.specs.Counts.{Counts};
-use libc::STDIN_FILENO;
-use libc::STDOUT_FILENO;
+use corpus_io::bounds::at_most;
+use corpus_io::bounds::fitting;
+use corpus_io::input::Head;
+use corpus_io::input::Rest;
+use corpus_io::input::whole_text;
+use corpus_io::output::flush;
+use corpus_io::output::put;
+use corpus_io::output::put_bytes;
+use corpus_io::output::put_number;
+use corpus_io::output::put_refusal;
 use reader::Answer;
 use reader::Code;
 use reader::read;
@@ -14,24 +20,6 @@ type Block = [u8; 65536];
 
 // Room for more than the longest text, so a text that is cut to it is refused all the same.
 type Room = [u8; 32768];
-
-// The part of the input block that is not used yet.
-struct Rest {
-    at: usize,
-    end: usize,
-}
-
-// The next byte, and what follows it.
-enum Next {
-    Byte(u8, Rest),
-    End,
-}
-
-// The length of the next text, and what follows it.
-enum Head {
-    Length(usize, Rest),
-    End,
-}
 
 // Where input and output stand: `filled` bytes of the output block are not written yet.
 struct Place {
@@ -45,124 +33,8 @@ enum Step {
     End,
 }
 
-fn at_most(x: usize, limit: usize) -> usize
-    ensures { λ r. ⌜ r ≤ limit ⌝ }
-{
-    if x < limit { x } else { limit }
-}
-
-// n, or how many bytes there are if they are fewer.
-fn fitting(n: usize, bytes: &[u8]) -> usize
-    ensures { λ r. ⌜ Counts r (now (bytes .entry)) ⌝ }
-{
-    at_most(n, bytes.len())
-}
-
 fn wide(x: u16) -> usize {
     x as usize
-}
-
-// The first byte of the next input block.
-fn first_byte(block: &mut Block) -> Next {
-    let got = libc::read(STDIN_FILENO, block);
-    let n = io::count(got, block);
-    if n == 0 {
-        return Next::End;
-    }
-    Next::Byte(block[0], Rest { at: 1, end: n })
-}
-
-fn next_byte(block: &mut Block, rest: Rest) -> Next {
-    let at = rest.at;
-    let end = at_most(rest.end, 65536);
-    if at < end {
-        return Next::Byte(
-            block[at],
-            Rest {
-                at: at + 1,
-                end: end,
-            },
-        );
-    }
-    first_byte(block)
-}
-
-// n with one digit more, but for a number that is too large already.
-fn with_digit(n: usize, digit: u8) -> usize {
-    if 100000000 < n {
-        return n;
-    }
-    n * 10 + digit as usize
-}
-
-// A length of at most 9 digits, and its newline.
-fn text_length(block: &mut Block, start: Rest) -> Head {
-    let mut rest = start;
-    let mut n: usize = 0;
-    let mut left: usize = 10;
-    'digits: while 0 < left {
-        let got = next_byte(block, rest);
-        let Next::Byte(b, after) = got else {
-            return Head::End;
-        };
-        if b == b'\n' {
-            return Head::Length(n, after);
-        }
-        if b < b'0' || b'9' < b {
-            return Head::End;
-        }
-        n = with_digit(n, b - b'0');
-        rest = after;
-        left -= 1;
-    }
-    Head::End
-}
-
-// The n bytes of a text, as far as there is room for them, and then the byte after it.
-fn text_bytes(block: &mut Block, start: Rest, text: &mut Room, n: usize) -> Next {
-    let mut rest = start;
-    let mut i: usize = 0;
-    'bytes: while i < n {
-        let got = next_byte(block, rest);
-        let Next::Byte(b, after) = got else {
-            return Next::End;
-        };
-        if i < 32768 {
-            text[i] = b;
-        }
-        rest = after;
-        i += 1;
-    }
-    next_byte(block, rest)
-}
-
-// Puts a byte after the `filled` ones of the output block, which is written first if it is full; how many are filled then.
-fn put(out: &mut Block, filled: usize, b: u8) -> usize {
-    if filled < 65536 {
-        out[filled] = b;
-        return filled + 1;
-    }
-    io::write_all(STDOUT_FILENO, out);
-    out[0] = b;
-    1
-}
-
-fn put_bytes(out: &mut Block, filled: usize, bytes: &[u8]) -> usize {
-    let mut n = filled;
-    let mut i: usize = 0;
-    'bytes: while i < bytes.len() {
-        n = put(out, n, bytes[i]);
-        i += 1;
-    }
-    n
-}
-
-// A space and the digits of x.
-fn put_number(out: &mut Block, filled: usize, x: usize) -> usize {
-    let mut digits = [0u8; 20];
-    let k = io::decimal(x as u64, &mut digits);
-    let n = put(out, filled, b' ');
-    put_bytes(out, n, &digits[..k])
 }
 
 // A title and the first `count` values.
@@ -224,12 +96,6 @@ fn put_model(out: &mut Block, filled: usize, code: Code) -> usize {
     put_code(out, ended, &ops, last)
 }
 
-fn put_refusal(out: &mut Block, filled: usize, number: u8, place: usize) -> usize {
-    let title = put_bytes(out, filled, b"refused");
-    let first = put_number(out, title, number as usize);
-    put_number(out, first, place)
-}
-
 // The answer line for a text of n bytes, or for what there was room for.
 fn put_answer(out: &mut Block, filled: usize, text: &[u8], n: usize) -> usize {
     let k = fitting(n, text);
@@ -249,17 +115,10 @@ fn put_answer(out: &mut Block, filled: usize, text: &[u8], n: usize) -> usize {
 
 // The next text and its answer.
 fn answer_one(block: &mut Block, text: &mut Room, out: &mut Block, from: Place) -> Step {
-    let head = text_length(block, from.rest);
-    let Head::Length(n, start) = head else {
+    let got = whole_text(block, from.rest, text);
+    let Head::Length(n, rest) = got else {
         return Step::End;
     };
-    let body = text_bytes(block, start, text, n);
-    let Next::Byte(b, rest) = body else {
-        return Step::End;
-    };
-    if b != b'\n' {
-        return Step::End;
-    }
     let filled = put_answer(out, from.filled, text, n);
     Step::Answered(Place {
         rest: rest,
@@ -283,13 +142,6 @@ fn answer_all(block: &mut Block, text: &mut Room, out: &mut Block) -> usize {
         turns -= 1;
     }
     place.filled
-}
-
-// Writes what is left in the output block.
-fn flush(out: &Block, filled: usize) {
-    let bytes: &[u8] = out;
-    let k = fitting(filled, bytes);
-    io::write_all(STDOUT_FILENO, &bytes[..k]);
 }
 
 fn main() {

@@ -2,12 +2,17 @@
 -- Assumes nothing.
 use mathlib.Core.Bool.{Bool, cond}
 use mathlib.Core.List.{List}
-use Prim.Native.Nat.{ℕ}
+use Prim.Native.Nat.{ℕ, _+_}
 use Rattle.meaning.specs.OneRow.{TraceStep, lastOf}
 use Rattle.meaning.specs.Evidence.{Sheet, safe, trace}
-use Rattle.acceptance.specs.Sheets.{System, size}
+use Rattle.notation.specs.Texts.{modelOf}
+use Rattle.notation.specs.working.Machine as N
+use Rattle.notation.specs.working.Answer.{answer}
+use Rattle.evaluation.specs.working.CodeSystem.{startsIn, breaksIn, nextIn}
+use Rattle.acceptance.specs.Sheets.{System, size, systemOf}
 use Rattle.meaning.specs.working.Conditions.{testA, testB, testC, testE}
 use Rattle.acceptance.specs.working.SheetReading.{Reading, refused, holds, sheetOf}
+use Rattle.acceptance.specs.working.Shapes.{starsIn}
 use Rattle.acceptance.specs.declared.outcome.Outcome.{Outcome}
 use Rattle.acceptance.specs.declared.outcome.Outcome.the-variants.{SafeHolds, TraceHolds, FailsA, FailsB, FailsC, FailsD, FailsE, FailsF, Refused}
 
@@ -37,3 +42,25 @@ judge M (holds x) = answerIn M x
 -- The outcome for bytes.
 unfoldable pub outcomeOf : System → List ℕ → Outcome
 outcomeOf M b = judge M (sheetOf M b)
+
+-- The outcome for a text that was read or refused, and a sheet.
+unfoldable pub testIn : N.Outcome → List ℕ → Outcome
+testIn (N.read x) sheet = outcomeOf (systemOf (modelOf x)) sheet
+testIn (N.refused n p) sheet = Refused n p
+
+-- The outcome for a text and a sheet.
+unfoldable pub testOf : List ℕ → List ℕ → Outcome
+testOf text sheet = testIn (answer text) sheet
+
+-- The system that a model's flat form gives, with its code, the ends of its segments and its star counts in arrays.
+abbrev pub systemIn : ℕ → ℕ → ℕ → List ℕ → List ℕ → List ℕ → System
+systemIn shared row commands ops ends stars =
+    record {
+      shared = shared;
+      row = row;
+      commands = commands;
+      stars = starsIn stars;
+      starts = startsIn ops ends;
+      breaks = breaksIn ops ends;
+      step = nextIn ops ends (shared + row);
+    }

@@ -4,7 +4,8 @@ use Prim.Native.Nat.{_+_}
 use mathlib.Core.Path.{sym, _∙_}
 use native.Mathlib.Omega.{arith}
 use borrow.Author.Tests.{not-true, not-false}
-use Rattle.acceptance.proofs.SheetLaws.{record-fits, pow-small, sheet-long, sheet-header, sheet-counts, sheet-body}
+use Rattle.acceptance.proofs.SheetLaws.{record-fits, sheet-long, sheet-header, sheet-counts, sheet-body}
+use Rattle.evaluation.proofs.Powers.{pow-small}
 use borrow.Author.Needs.{needs}
 use Rattle.acceptance.proofs.sheets.shape_of.Statement.{statement}
 use Rattle.acceptance.proofs.sheets.shape_of.Tie as tie

@@ -1,0 +1,102 @@
+-- Two systems that agree on all numbers in range have the same outcomes.
+-- Assumes nothing.
+use mathlib.Core.Path.{_≡_, refl, sym, ap, ap₂, _∙_}
+use mathlib.Core.Bool.{Bool, not, _&&_}
+use mathlib.Core.List.{List}
+use Prim.Native.Nat.{ℕ, zero, suc, _+_, _^_, _<_}
+use native.Mathlib.Omega.{arith}
+use lib.Dec.{eqb}
+use borrow.Author.Tests.{ltb-true}
+use Rattle.meaning.specs.OneRow.{lastOf}
+use Rattle.meaning.specs.Evidence.{inMap}
+use Rattle.meaning.specs.working.Conditions.{every, implies, wordsStay, closedAt, testA, testB, testC, testE}
+use Rattle.acceptance.specs.Sheets.{System, mapLength}
+use Rattle.acceptance.specs.SheetTexts.{twoAt, stepIn, stepFits}
+use Rattle.acceptance.specs.working.SheetReading.{mapIn, stepsIn, stepCount, sheetOf, StepsStand}
+use Rattle.acceptance.specs.working.Test.{mapAnswer, walk, traceAnswer, outcomeOf}
+use Rattle.acceptance.specs.working.Shapes.{shapeOf}
+use Rattle.acceptance.specs.declared.sheets.Shape.{Shape}
+use Rattle.acceptance.specs.declared.sheets.Shape.the-variants.{Bad, Map, Trace}
+use Rattle.acceptance.proofs.SheetLaws.{both-split}
+use Rattle.acceptance.proofs.StarCounts.{sheet-alike}
+use Rattle.acceptance.proofs.TestWhole.{whole-refused, whole-map, whole-trace, trace-stands}
+
+every-alike : (n : ℕ) (f g : ℕ → Bool) → ((i : ℕ) → i < n → f i ≡ g i) → every n f ≡ every n g
+unfolding every
+every-alike zero f g e = refl
+every-alike (suc n) f g e = ap₂ _&&_ (every-alike n f g (λ i h. e i (omega arith))) (e n (omega arith))
+
+module _ (shared row commands : ℕ) (f f′ : ℕ → ℕ) (p p′ q q′ : ℕ → Bool) (n n′ : ℕ → ℕ → ℕ → ℕ)
+    (stars-alike : (k : ℕ) → k < commands → f k ≡ f′ k)
+    (starts-alike : (s : ℕ) → s < 2 ^ (shared + row) → p s ≡ p′ s)
+    (breaks-alike : (s : ℕ) → s < 2 ^ (shared + row) → q s ≡ q′ s)
+    (step-alike : (s k w : ℕ) → s < 2 ^ (shared + row) → k < commands → n s k w ≡ n′ s k w) where
+  abbrev states : ℕ
+  states = 2 ^ (shared + row)
+
+  abbrev M : System
+  M = record { shared = shared; row = row; commands = commands; stars = f; starts = p; breaks = q; step = n }
+
+  abbrev N : System
+  N = record { shared = shared; row = row; commands = commands; stars = f′; starts = p′; breaks = q′; step = n′ }
+
+  a-alike : (map : List ℕ) → testA states p map ≡ testA states p′ map
+  unfolding testA
+  a-alike map = every-alike states _ _ λ s h. ap (λ (x : Bool). implies x (inMap map s)) (starts-alike s h)
+
+  b-alike : (map : List ℕ) → testB states q map ≡ testB states q′ map
+  unfolding testB
+  b-alike map = every-alike states _ _ λ s h. ap (λ (x : Bool). implies (inMap map s) (not x)) (breaks-alike s h)
+
+  words-alike : (map : List ℕ) (s k : ℕ) → s < states → k < commands → wordsStay n map s k (2 ^ f k) ≡ wordsStay n′ map s k (2 ^ f′ k)
+  unfolding wordsStay
+  words-alike map s k h l =
+      every-alike (2 ^ f k) _ _ (λ w b. ap (inMap map) (step-alike s k w h l))
+      ∙ ap (λ (x : ℕ). every (2 ^ x) λ w. inMap map (n′ s k w)) (stars-alike k l)
+
+  c-alike : (map : List ℕ) → testC states commands f n map ≡ testC states commands f′ n′ map
+  unfolding testC closedAt
+  c-alike map = every-alike states _ _ λ s h. ap (implies (inMap map s)) (every-alike commands _ _ λ k l. words-alike map s k h l)
+
+  map-alike : (map : List ℕ) → mapAnswer states commands f p q n map ≡ mapAnswer states commands f′ p′ q′ n′ map
+  unfolding mapAnswer
+  map-alike map = rw (a-alike map, b-alike map, c-alike map) refl
+
+  -- The steps of a trace that stand are in range.
+  module _ (b : List ℕ) where
+    e-alike : (s at i : ℕ) → s < states → StepsStand states commands f b at i → testE n s (stepsIn b at i) ≡ testE n′ s (stepsIn b at i)
+    unfolding testE stepsIn StepsStand stepFits stepIn
+    e-alike s at zero h S = refl
+    e-alike s at (suc i) h S =
+        let x = both-split _ _ (S .1) in
+        let y = both-split _ _ (x .1) in
+        ap₂ _&&_ (ap (eqb (stepIn b (at + 6) .after)) (step-alike s (stepIn b (at + 6) .command) (stepIn b (at + 6) .word) h (ltb-true _ _ (x .0))))
+        (e-alike (stepIn b (at + 6) .after) (at + 10) i (ltb-true _ _ (y .1)) (S .2))
+
+    last-below : (s at i : ℕ) → s < states → StepsStand states commands f b at i → lastOf s (stepsIn b at i) < states
+    unfolding lastOf stepsIn StepsStand stepFits
+    last-below s at zero h S = h
+    last-below s at (suc i) h S =
+        last-below (stepIn b (at + 6) .after) (at + 10) i (ltb-true _ _ (both-split _ _ (both-split _ _ (S .1) .1) .1)) (S .2)
+
+    trace-alike : (s at i : ℕ) → s < states → StepsStand states commands f b at i → traceAnswer p q n s (stepsIn b at i) ≡ traceAnswer p′ q′ n′ s (stepsIn b at i)
+    unfolding traceAnswer walk
+    trace-alike s at i h S = rw (starts-alike s h, e-alike s at i h S, breaks-alike (lastOf s (stepsIn b at i)) (last-below s at i h S)) refl
+
+    pub outcome-alike : outcomeOf M b ≡ outcomeOf N b
+    outcome-alike = go (shapeOf (sheetOf M b)) refl
+      where
+        same : shapeOf (sheetOf M b) ≡ shapeOf (sheetOf N b)
+        same = ap shapeOf (sheet-alike shared row commands f f′ stars-alike b)
+
+        go : (x : Shape) → x ≡ shapeOf (sheetOf M b) → outcomeOf M b ≡ outcomeOf N b
+        go (Bad k i) e = sym (whole-refused M b k i e) ∙ whole-refused N b k i (e ∙ same)
+        go Map e =
+            sym (whole-map M b states refl e (mapLength states) refl _ refl)
+            ∙ map-alike (mapIn b 15 (mapLength states))
+            ∙ whole-map N b states refl (e ∙ same) (mapLength states) refl _ refl
+        go Trace e =
+            let S = trace-stands M b states refl e in
+            sym (whole-trace M b states refl e _ refl)
+            ∙ trace-alike (twoAt b 15) 17 (stepCount b 17) (S .start) (S .steps)
+            ∙ whole-trace N b states refl (e ∙ same) _ refl

@@ -1,0 +1,135 @@
+-- The test of a text: its refusal, or the outcome that the flat form of its model gives.
+-- Assumes nothing.
+use mathlib.Core.Path.{_≡_, refl, sym, ap, _∙_, subst}
+use mathlib.Core.List.{List, _++_, map}
+use Prim.Native.Nat.{ℕ, _+_, _<_, _≤_}
+use native.Mathlib.Omega.{arith}
+use lib.ListN.{length, getD, drop, replicate, length-map, length-replicate, List·getD-append}
+use lib.Seq.{sets-eq}
+use Rattle.notation.specs.Tokens.{Name}
+use Rattle.notation.specs.Model.{Model, stars}
+use Rattle.notation.specs.Layout.{layoutOf}
+use Rattle.notation.specs.Regular.{Regular}
+use Rattle.notation.specs.Texts.{modelOf, namesOf}
+use Rattle.notation.specs.working.Machine as N
+use Rattle.notation.specs.working.Answer.{answer}
+use Rattle.notation.proofs.Texts.{says-iff-answer}
+use Rattle.notation.proofs.Regular.{all-regular}
+use Rattle.meaning.specs.Meaning.{commandAt, idle}
+use Rattle.meaning.specs.OneRow.{starts, breaks, next}
+use Rattle.meaning.proofs.Lists.{every-at}
+use Rattle.reader.specs.declared.Answer.the-variants as A
+use Rattle.reader.specs.declared.Code.{Code}
+use Rattle.reader.specs.declared.Reading.{Reading}
+use Rattle.reader.specs.Read.{filled, codeOf, readingIn, readingOf}
+use Rattle.evaluation.specs.Promises.{Computes}
+use Rattle.evaluation.specs.working.CodeSystem.{startsIn, breaksIn, nextIn, Parted}
+use Rattle.evaluation.proofs.FlatForms.{flat-computes, ends-counted, mapped}
+use Rattle.acceptance.specs.Sheets.{systemOf}
+use Rattle.acceptance.specs.working.Shapes.{starsIn, Few}
+use Rattle.acceptance.specs.working.Test.{outcomeOf, testIn, testOf, systemIn}
+use Rattle.acceptance.specs.declared.outcome.Outcome.{Outcome}
+use Rattle.acceptance.specs.declared.outcome.Outcome.the-variants.{Refused}
+use Rattle.acceptance.proofs.Alike.{outcome-alike}
+
+-- What an array holds: the list, and zeros behind it.
+filled-front : (n : ℕ) (l : List ℕ) → length l ≤ n → filled n l ≡ l ++ drop (length l) (replicate n 0)
+filled-front n l h =
+    sets-eq l (replicate n 0) 0 (omega (arith, length-replicate {A = ℕ} n 0)) ∙ (let q : 0 + length l ≡ length l = omega arith in ap (λ (k : ℕ). l ++ drop k (replicate n 0)) q)
+
+stars-read : (stars : List ℕ) (k : ℕ) → getD stars k 0 ≡ starsIn stars k
+unfolding starsIn
+stars-read stars k = refl
+
+-- The flat form of a model in arrays is ready for the test, and the outcome over it is that of the model.
+pub record Flat (c : Code) (m : Model) : Type 0 where
+  pub fewNames : c .shared + c .row ≤ 12
+  pub few : Few (c .commands) (c .stars)
+  pub parted : Parted (c .commands) (c .ends)
+  pub same : (b : List ℕ) → outcomeOf (systemIn (c .shared) (c .row) (c .commands) (c .ops) (c .ends) (c .stars)) b ≡ outcomeOf (systemOf m) b
+
+module _ (m : Model) (g : Regular m) (ns : List Name) where
+  abbrev counts : List ℕ
+  counts = map (λ k. length (stars k)) (m .commands)
+
+  counts-length : length counts ≡ length (m .commands)
+  counts-length = length-map (m .commands) (λ k. length (stars k))
+
+  star-count : (k : ℕ) → k < length (m .commands) → starsIn (filled 16 counts) k ≡ length (stars (commandAt m k))
+  unfolding starsIn
+  star-count k h =
+      ap (λ (l : List ℕ). getD l k 0) (filled-front 16 counts (omega (arith, counts-length, g .fewCommands)))
+      ∙ List·getD-append counts (drop (length counts) (replicate 16 0)) 0 k (omega (arith, counts-length))
+      ∙ mapped (λ c. length (stars c)) 0 idle (m .commands) k h
+
+  ends-length : length (layoutOf m .ends) ≡ 4 + length (m .commands)
+  ends-length = ends-counted m
+
+  flat-code : Computes m (filled 2048 (layoutOf m .code)) (filled 20 (layoutOf m .ends))
+  flat-code =
+      let code = layoutOf m .code in
+      let ends = layoutOf m .ends in
+      subst (λ (l : List ℕ). Computes m l (filled 20 ends)) (sym (filled-front 2048 code (omega (arith, g .short))))
+      (subst (λ (l : List ℕ). Computes m (code ++ drop (length code) (replicate 2048 0)) l) (sym (filled-front 20 ends (omega (arith, ends-length, g .fewCommands))))
+      (flat-computes m g (drop (length code) (replicate 2048 0)) (drop (length ends) (replicate 20 0))))
+
+  pub flat : Flat (codeOf (layoutOf m) ns) m
+  unfolding codeOf layoutOf
+  flat =
+      record {
+        fewNames = g .fewNames;
+        few =
+            record {
+              fewCommands = g .fewCommands;
+              fewStars = λ k h. omega (arith, counted k h, every-at (λ c. length (stars c) ≤ 8) (m .commands) idle k (g .fewStars) h);
+            };
+        parted = flat-code .parted;
+        same = λ b.
+            outcome-alike (m .sharedNames) (m .rowNames) (length (m .commands)) (starsIn (filled 16 counts)) (λ k. length (stars (commandAt m k)))
+            (startsIn (filled 2048 (layoutOf m .code)) (filled 20 (layoutOf m .ends))) (starts m)
+            (breaksIn (filled 2048 (layoutOf m .code)) (filled 20 (layoutOf m .ends))) (breaks m)
+            (nextIn (filled 2048 (layoutOf m .code)) (filled 20 (layoutOf m .ends)) (m .sharedNames + m .rowNames)) (next m)
+            star-count (flat-code .starts) (flat-code .breaks) (flat-code .next) b;
+      }
+    where
+      counted : (k : ℕ) → k < length (m .commands) → getD (filled 16 counts) k 0 ≡ length (stars (commandAt m k))
+      counted k h = stars-read (filled 16 counts) k ∙ star-count k h
+
+-- A text that was read says a model, whose flat form is the code and whose outcome is the test's.
+pub record Said (text : List ℕ) (c : Code) : Type 0 where
+  pub model : Model
+  pub flat : Flat c model
+  pub test : (b : List ℕ) → outcomeOf (systemOf model) b ≡ testOf text b
+
+module _ (text b : List ℕ) (r : Reading) where
+  read-said : (o : N.Outcome) → r ≡ readingIn o → answer text ≡ o → A.Read ≡ r .answer → Said text (r .code)
+  unfolding readingIn testIn testOf
+  read-said (N.read x) e q h =
+      record {
+        model = modelOf x;
+        flat =
+            subst (λ (c : Code). Flat c (modelOf x)) (sym (ap (λ (z : Reading). z .code) e))
+            (flat (modelOf x) (all-regular text (modelOf x) (record { tree = x; says = says-iff-answer text x .1 q; meant = refl })) (namesOf x));
+        test = λ c. sym (ap (λ (o : N.Outcome). testIn o c) q);
+      }
+  read-said (N.refused n i) e q h = let y : A.Read ≡ A.Refused n i = h ∙ ap (λ (z : Reading). z .answer) e in let z : _≡_ {A = ℕ} 0 1 = cc in absurd (omega arith)
+
+  refused-said : (n i : ℕ) (o : N.Outcome) → r ≡ readingIn o → answer text ≡ o → A.Refused n i ≡ r .answer → Refused n i ≡ testOf text b
+  unfolding readingIn testIn testOf
+  refused-said n i (N.read x) e q h = let y : A.Refused n i ≡ A.Read = h ∙ ap (λ (z : Reading). z .answer) e in let z : _≡_ {A = ℕ} 0 1 = cc in absurd (omega arith)
+  refused-said n i (N.refused k j) e q h =
+      let y : A.Refused n i ≡ A.Refused k j = h ∙ ap (λ (z : Reading). z .answer) e in
+      let z : Refused n i ≡ Refused k j = cc in
+      z ∙ sym (ap (λ (o : N.Outcome). testIn o b) q)
+
+  module _ (e : r ≡ readingOf text) where
+    pub was-read : A.Read ≡ r .answer → Said text (r .code)
+    was-read h = read-said (answer text) e refl h
+
+    -- The outcome for a text that was read is that over its code, and for one that was refused it is the refusal.
+    pub test-read : A.Read ≡ r .answer → (o : Outcome)
+        → o ≡ outcomeOf (systemIn (r .code .shared) (r .code .row) (r .code .commands) (r .code .ops) (r .code .ends) (r .code .stars)) b → o ≡ testOf text b
+    test-read h o q = let s = was-read h in q ∙ s .flat .same b ∙ s .test b
+
+    pub test-refused : (n i : ℕ) → A.Refused n i ≡ r .answer → Refused n i ≡ testOf text b
+    test-refused n i h = refused-said n i (answer text) e refl h

@@ -1,0 +1,65 @@
+-- `holds_c` meets its contract: C has been found to hold of the states before s.
+-- Assumes nothing.
+use Prim.Native.Nat.{_-_, _^_, _≤_}
+use mathlib.Core.Path.{_≡_, sym, _∙_}
+use mathlib.Core.Bool.{true}
+use mathlib.Core.Logic.{⊎-elim}
+use native.Mathlib.Omega.{arith}
+use borrow.Author.Needs.{needs}
+use borrow.Author.Tests.{not-true, not-false}
+use Rattle.acceptance.specs.working.Shapes.{starsIn}
+use Rattle.acceptance.specs.working.SheetReading.{mapIn}
+use Rattle.meaning.specs.working.Conditions.{testC}
+use Rattle.evaluation.specs.working.CodeSystem.{nextIn}
+use Rattle.acceptance.proofs.Loops.{c-none, c-other, c-closed, c-fail, c-done}
+use Rattle.acceptance.proofs.maps.holds_c.Statement.{statement}
+use Rattle.acceptance.proofs.maps.holds_c.Tie as tie
+
+abbrev Inv-states : tie.InvT-states
+Inv-states b p n bits commands ops ends stars states s₀ s = (s ≤ states) × (testC s commands (starsIn stars) (nextIn ops ends bits) (mapIn b p n) ≡ true)
+
+abbrev μ-states : tie.MeasureT-states
+μ-states b p n bits commands ops ends stars states s₀ s = states - s
+
+power-requires : tie.Need-power-requires Inv-states μ-states
+power-requires c κs = search needs
+
+states-holds : tie.Need-states-holds Inv-states μ-states
+states-holds c = (omega arith, c-none _ _ _ _ 0)
+
+in-map-requires : tie.Need-in-map-requires Inv-states μ-states
+in-map-requires c κs = (c .before .before .before .before .pre .0, omega (arith, c .before .before .power .ensures, c .before .before .before .before .pre .1))
+
+closed-at-requires : tie.Need-closed-at-requires Inv-states μ-states
+closed-at-requires c κs = (c .before .before .before .before .before .before .pre .0, c .before .before .before .before .before .before .pre .1, c .before .before .before .before .before .before .pre .2, omega (arith, c .before .before .before .before .power .ensures), c .before .before .before .before .before .before .pre .3, c .before .before .before .before .before .before .pre .4)
+
+returns : tie.Need-returns Inv-states μ-states
+returns c = c-fail _ _ _ _ (c .before .before .before .before .before .states .s) (2 ^ c .before .before .before .before .before .before .before .before .args .bits) (omega (arith, c .before .before .before .before .before .before .power .ensures)) (sym (c .before .before .before .in-map .ensures) ∙ c .before .before .if1 .taken) (sym (c .before .closed-at .ensures) ∙ not-true _ (c .if2 .taken))
+
+add-s : tie.Need-add-s Inv-states μ-states
+add-s c = omega arith
+
+states-less : tie.Need-states-less Inv-states μ-states
+states-less c = omega arith
+
+states-again : tie.Need-states-again Inv-states μ-states
+states-again c = (omega arith, ⊎-elim (λ w. c-closed _ _ _ _ _ (c .before .before .before .states .inv .1) (sym (w .1 .ensures) ∙ not-false _ (w .2 .left))) (λ w. c-other _ _ _ _ _ (c .before .before .before .states .inv .1) (sym (c .before .in-map .ensures) ∙ w .left)) (c .if1 .came))
+
+returns-2 : tie.Need-returns-2 Inv-states μ-states
+returns-2 c = c-done _ _ _ _ (c .before .states .s) (c .before .states .inv .1) (2 ^ c .before .before .before .before .args .bits) (omega (arith, c .before .before .power .ensures)) (omega (arith, c .before .before .power .ensures))
+
+pub holds-c-spec : {M : Type 1} → statement M
+holds-c-spec =
+    tie.close
+    (tie.spec
+    Inv-states
+    μ-states
+    power-requires
+    states-holds
+    in-map-requires
+    closed-at-requires
+    returns
+    add-s
+    states-less
+    states-again
+    returns-2)

@@ -1,0 +1,63 @@
+-- `test_sheet` meets its contract: the first pass finds the sheet's kind, and its conditions decide.
+-- Assumes nothing.
+use mathlib.Core.List.{[]}
+use Rattle.acceptance.specs.working.Test.{systemIn}
+use mathlib.Core.Path.{refl, sym, _∙_, ap}
+use Rattle.acceptance.specs.Sheets.{mapLength}
+use Rattle.acceptance.proofs.TestWhole.{whole-refused, map-room, map-bits, whole-map, trace-stands, trace-short, whole-trace}
+use borrow.Author.Needs.{needs}
+use Rattle.acceptance.proofs.test_sheet.Statement.{statement}
+use Rattle.acceptance.proofs.test_sheet.Tie as tie
+
+add-bits : tie.Need-add-bits
+add-bits c = search needs
+
+shape-of-requires : tie.Need-shape-of-requires
+shape-of-requires c κs = search needs
+
+enum-known-shape : tie.Need-enum-known-shape
+enum-known-shape c = search needs
+
+enum-told : tie.Need-enum-told
+enum-told c = search needs
+
+power-requires : tie.Need-power-requires
+power-requires c κs = search needs
+
+map-length-requires : tie.Need-map-length-requires
+map-length-requires c κs = search needs
+
+test-map-requires : tie.Need-test-map-requires
+test-map-requires c κs = (map-room (systemIn _ _ _ [] [] _) _ _ refl (sym (c .before .before .enum-told .given .1) ∙ c .before .before .before .before .shape-of .ensures) _ (c .map-length .ensures ∙ ap mapLength (c .before .power .ensures)), map-bits (systemIn _ _ _ [] [] _) _ _ refl (sym (c .before .before .enum-told .given .1) ∙ c .before .before .before .before .shape-of .ensures) _ (c .map-length .ensures ∙ ap mapLength (c .before .power .ensures)), c .before .before .before .before .before .before .pre .0, c .before .before .before .before .before .before .pre .1, c .before .before .before .before .before .before .pre .2)
+
+enum-told-2 : tie.Need-enum-told-2
+enum-told-2 c = search needs
+
+test-trace-requires : tie.Need-test-trace-requires
+test-trace-requires c κs = (c .before .before .before .before .pre .0, trace-short (systemIn _ _ _ [] [] _) _ _ refl (sym (c .enum-told2 .given .1) ∙ c .before .before .shape-of .ensures), c .before .before .before .before .pre .1, c .before .before .before .before .pre .2, trace-stands (systemIn _ _ _ [] [] _) _ _ refl (sym (c .enum-told2 .given .1) ∙ c .before .before .shape-of .ensures))
+
+returns : tie.Need-returns
+returns c = whole-refused _ _ _ _ (sym (c .before .shape .given .1) ∙ c .before .before .before .shape-of .ensures)
+
+returns-2 : tie.Need-returns-2
+returns-2 c = whole-map _ _ _ refl (sym (c .before .before .before .enum-told .given .1) ∙ c .before .before .before .before .before .shape-of .ensures) _ (c .before .map-length .ensures ∙ ap mapLength (c .before .before .power .ensures)) _ (c .test-map .ensures)
+
+returns-3 : tie.Need-returns-3
+returns-3 c = whole-trace _ _ _ refl (sym (c .before .enum-told2 .given .1) ∙ c .before .before .before .shape-of .ensures) _ (c .test-trace .ensures)
+
+pub test-sheet-spec : {M : Type 1} → statement M
+test-sheet-spec =
+    tie.close
+    (tie.spec
+    add-bits
+    shape-of-requires
+    enum-known-shape
+    enum-told
+    power-requires
+    map-length-requires
+    test-map-requires
+    enum-told-2
+    test-trace-requires
+    returns
+    returns-2
+    returns-3)

@@ -1,0 +1,190 @@
+// The conditions A, B and C on a map, whose n bytes stand in the sheet from p on.
+ghost use mathlib.Core.Path.{_≡_};
+ghost use Prim.Native.Nat.{_+_, _*_, _/_, _^_, _<_, _≤_};
+ghost use lib.ListN.{length};
+ghost use lib.Seq.{slice};
+ghost use Rattle.meaning.specs.Evidence.{inMap};
+ghost use Rattle.meaning.specs.working.Conditions.{every, testA, testB, testC, closedAt};
+ghost use Rattle.evaluation.specs.working.Batches.{afterOf};
+ghost use Rattle.evaluation.specs.working.CodeSystem.{startsIn, breaksIn, nextIn, Parted};
+ghost use Rattle.acceptance.specs.working.SheetReading.{mapIn};
+ghost use Rattle.acceptance.specs.working.Shapes.{starsIn, Few};
+ghost use Rattle.acceptance.specs.working.Test.{mapAnswer};
+use crate::outcome::Outcome;
+use crate::sheets::wide;
+use evaluation::lanes::fill;
+use evaluation::lanes::pick;
+use evaluation::numbers::count;
+use evaluation::numbers::power;
+use evaluation::one_row::begin;
+use evaluation::one_row::breaks;
+use evaluation::one_row::starts;
+
+// Whether state s is a member.
+fn in_map(b: &[u8], p: usize, n: usize, s: usize) -> bool
+    requires { do ⌜ (p + n ≤ (← ⟦b.len()⟧)) × (s / 8 < n) ⌝ }
+    ensures { λ r. ⌜ r ≡ inMap (mapIn (now (b .entry)) p n) s ⌝ }
+{
+    let byte = wide(b[p + s / 8]);
+    (byte >> (s % 8)) % 2 == 1
+}
+
+// A: every start state is a member.
+fn holds_a(
+    b: &[u8],
+    p: usize,
+    n: usize,
+    bits: usize,
+    commands: usize,
+    ops: &[u16; 2048],
+    ends: &[u16; 20],
+) -> bool
+    requires { do ⌜ (p + n ≤ (← ⟦b.len()⟧)) × (2 ^ bits ≤ 8 * n) × (bits ≤ 12) × (commands ≤ 16) × Parted commands (now ends) ⌝ }
+    ensures { λ r. ⌜ r ≡ testA (2 ^ bits) (startsIn (now (ops .entry)) (now (ends .entry))) (mapIn (now (b .entry)) p n) ⌝ }
+{
+    let states = power(bits);
+    'states: for s in 0..states {
+        if starts(ops, ends, commands, s) {
+            let member = in_map(b, p, n, s);
+            if !member {
+                return false;
+            }
+        }
+    }
+    true
+}
+
+// B: no member violates `keep`.
+fn holds_b(
+    b: &[u8],
+    p: usize,
+    n: usize,
+    bits: usize,
+    commands: usize,
+    ops: &[u16; 2048],
+    ends: &[u16; 20],
+) -> bool
+    requires { do ⌜ (p + n ≤ (← ⟦b.len()⟧)) × (2 ^ bits ≤ 8 * n) × (bits ≤ 12) × (commands ≤ 16) × Parted commands (now ends) ⌝ }
+    ensures { λ r. ⌜ r ≡ testB (2 ^ bits) (breaksIn (now (ops .entry)) (now (ends .entry))) (mapIn (now (b .entry)) p n) ⌝ }
+{
+    let states = power(bits);
+    'states: for s in 0..states {
+        if in_map(b, p, n, s) {
+            if breaks(ops, ends, commands, s) {
+                return false;
+            }
+        }
+    }
+    true
+}
+
+// Whether the code from..to of a command leads from s to members under all of its words.
+fn words_stay(
+    b: &[u8],
+    p: usize,
+    n: usize,
+    bits: usize,
+    ops: &[u16; 2048],
+    from: usize,
+    to: usize,
+    words: usize,
+    s: usize,
+) -> bool
+    requires { do ⌜ (p + n ≤ (← ⟦b.len()⟧)) × (2 ^ bits ≤ 8 * n) × (bits ≤ 12) × (from ≤ to) × (to ≤ 2048) × (words ≤ 256) × (s < 2 ^ bits) ⌝ }
+    ensures { λ r. ⌜ r ≡ every words (λ w. inMap (mapIn (now (b .entry)) p n) (afterOf (slice from to (now (ops .entry))) s bits w)) ⌝ }
+{
+    let state = s as u32;
+    let mut rows = [0u64; 16];
+    'words: for w in 0..words {
+        let word = w as u32;
+        fill(&mut rows, ops, from, to, state, bits, word);
+        let after = pick(&rows, word % 64) as usize;
+        let member = in_map(b, p, n, after);
+        if !member {
+            return false;
+        }
+    }
+    true
+}
+
+// Whether all commands under all words lead from s to members.
+fn closed_at(
+    b: &[u8],
+    p: usize,
+    n: usize,
+    bits: usize,
+    commands: usize,
+    ops: &[u16; 2048],
+    ends: &[u16; 20],
+    stars: &[u16; 16],
+    s: usize,
+) -> bool
+    requires { do ⌜ (p + n ≤ (← ⟦b.len()⟧)) × (2 ^ bits ≤ 8 * n) × (bits ≤ 12) × (s < 2 ^ bits) × Few commands (now stars) × Parted commands (now ends) ⌝ }
+    ensures { λ r. ⌜ r ≡ closedAt commands (starsIn (now (stars .entry))) (nextIn (now (ops .entry)) (now (ends .entry)) bits) (mapIn (now (b .entry)) p n) s ⌝ }
+{
+    'commands: for k in 0..commands {
+        let from = begin(ends, 4 + k);
+        let to = count(ends[4 + k]);
+        let words = power(count(stars[k]));
+        let stay = words_stay(b, p, n, bits, ops, from, to, words, s);
+        if !stay {
+            return false;
+        }
+    }
+    true
+}
+
+// C: no step leads out of the map.
+fn holds_c(
+    b: &[u8],
+    p: usize,
+    n: usize,
+    bits: usize,
+    commands: usize,
+    ops: &[u16; 2048],
+    ends: &[u16; 20],
+    stars: &[u16; 16],
+) -> bool
+    requires { do ⌜ (p + n ≤ (← ⟦b.len()⟧)) × (2 ^ bits ≤ 8 * n) × (bits ≤ 12) × Few commands (now stars) × Parted commands (now ends) ⌝ }
+    ensures { λ r. ⌜ r ≡ testC (2 ^ bits) commands (starsIn (now (stars .entry))) (nextIn (now (ops .entry)) (now (ends .entry)) bits) (mapIn (now (b .entry)) p n) ⌝ }
+{
+    let states = power(bits);
+    'states: for s in 0..states {
+        if in_map(b, p, n, s) {
+            let closed = closed_at(b, p, n, bits, commands, ops, ends, stars, s);
+            if !closed {
+                return false;
+            }
+        }
+    }
+    true
+}
+
+// The outcome for a map: the first of the three that fails, if one does.
+pub fn test_map(
+    b: &[u8],
+    p: usize,
+    n: usize,
+    bits: usize,
+    commands: usize,
+    ops: &[u16; 2048],
+    ends: &[u16; 20],
+    stars: &[u16; 16],
+) -> Outcome
+    requires { do ⌜ (p + n ≤ (← ⟦b.len()⟧)) × (2 ^ bits ≤ 8 * n) × (bits ≤ 12) × Few commands (now stars) × Parted commands (now ends) ⌝ }
+    ensures { λ r. ⌜ r ≡ mapAnswer (2 ^ bits) commands (starsIn (now (stars .entry))) (startsIn (now (ops .entry)) (now (ends .entry))) (breaksIn (now (ops .entry)) (now (ends .entry))) (nextIn (now (ops .entry)) (now (ends .entry)) bits) (mapIn (now (b .entry)) p n) ⌝ }
+{
+    let starts_in = holds_a(b, p, n, bits, commands, ops, ends);
+    if !starts_in {
+        return Outcome::FailsA;
+    }
+    let kept = holds_b(b, p, n, bits, commands, ops, ends);
+    if !kept {
+        return Outcome::FailsB;
+    }
+    let closed = holds_c(b, p, n, bits, commands, ops, ends, stars);
+    if !closed {
+        return Outcome::FailsC;
+    }
+    Outcome::SafeHolds
+}

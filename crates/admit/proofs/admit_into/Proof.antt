@@ -1,0 +1,95 @@
+-- `admit_into` is safe: what came into a room is no longer than the room.
+-- Assumes nothing.
+use borrow.Author.Needs.{needs}
+use Rattle.admit.proofs.Reading.{came}
+use Rattle.admit.proofs.admit_into.Statement.{statement}
+use Rattle.admit.proofs.admit_into.Tie as tie
+
+read-argument-requires : tie.Need-read-argument-requires
+read-argument-requires c κs = search needs
+
+enum-known-first : tie.Need-enum-known-first
+enum-known-first c = search needs
+
+enum-told : tie.Need-enum-told
+enum-told c = search needs
+
+same-length : tie.Need-same-length
+same-length c = search needs
+
+returns : tie.Need-returns
+returns c = search needs
+
+read-argument-requires-2 : tie.Need-read-argument-requires-2
+read-argument-requires-2 c κs = search needs
+
+enum-known-second : tie.Need-enum-known-second
+enum-known-second c = search needs
+
+enum-told-2 : tie.Need-enum-told-2
+enum-told-2 c = search needs
+
+same-length-2 : tie.Need-same-length-2
+same-length-2 c = search needs
+
+same-length-3 : tie.Need-same-length-3
+same-length-3 c = search needs
+
+returns-2 : tie.Need-returns-2
+returns-2 c = search needs
+
+slice-reshare-prefix-answer : tie.Need-slice-reshare-prefix-answer
+slice-reshare-prefix-answer c =
+    let r = c .before .before .before .before .before .before .before .before .before .before .before .before .read-argument in
+    came (r .result) (r .last .1 .0) (c .before .before .before .before .before .before .before .before .first .given .0 .0) (r .ensures) (c .before .before .before .before .before .before .before .before .first .given .1) .0
+
+slice-aggregate-answer : tie.Need-slice-aggregate-answer
+slice-aggregate-answer c =
+    let r = c .before .before .before .before .before .before .before .before .before .before .before .before .before .read-argument in
+    came (r .result) (r .last .1 .0) (c .before .before .before .before .before .before .before .before .before .first .given .0 .0) (r .ensures) (c .before .before .before .before .before .before .before .before .before .first .given .1) .1
+
+slice-reshare-prefix-answer-2 : tie.Need-slice-reshare-prefix-answer-2
+slice-reshare-prefix-answer-2 c =
+    let r = c .before .before .before .before .before .before .read-argument2 in
+    came (r .result) (r .last .1 .0) (c .before .before .second .given .0 .0) (r .ensures) (c .before .before .second .given .1) .0
+
+slice-aggregate-answer-2 : tie.Need-slice-aggregate-answer-2
+slice-aggregate-answer-2 c =
+    let r = c .before .before .before .before .before .before .before .read-argument2 in
+    came (r .result) (r .last .1 .0) (c .before .before .before .second .given .0 .0) (r .ensures) (c .before .before .before .second .given .1) .1
+
+answer-requires : tie.Need-answer-requires
+answer-requires c κs = search needs
+
+same-length-4 : tie.Need-same-length-4
+same-length-4 c = search needs
+
+same-length-5 : tie.Need-same-length-5
+same-length-5 c = search needs
+
+returns-3 : tie.Need-returns-3
+returns-3 c = search needs
+
+pub admit-into-spec : {M : Type 1} → statement M
+admit-into-spec =
+    tie.close
+    (tie.spec
+    read-argument-requires
+    enum-known-first
+    enum-told
+    same-length
+    returns
+    read-argument-requires-2
+    enum-known-second
+    enum-told-2
+    same-length-2
+    same-length-3
+    returns-2
+    slice-reshare-prefix-answer
+    slice-aggregate-answer
+    slice-reshare-prefix-answer-2
+    slice-aggregate-answer-2
+    answer-requires
+    same-length-4
+    same-length-5
+    returns-3)

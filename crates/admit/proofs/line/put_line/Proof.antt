@@ -1,0 +1,196 @@
+-- `put_line` meets its contract: each arm puts the line of the outcome that it matched.
+-- Assumes nothing.
+use mathlib.Core.Path.{refl}
+use native.Mathlib.Omega.{arith}
+use borrow.Author.Needs.{needs}
+use Rattle.notation.specs.Bytes.{bytes}
+use Rattle.acceptance.specs.declared.outcome.Outcome.the-variants.{SafeHolds, TraceHolds, FailsA, FailsB, FailsC, FailsD, FailsE, FailsF}
+use Rattle.acceptance.specs.Outcomes.{wordingOf}
+use Rattle.admit.specs.Lines.{spelt}
+use Rattle.admit.proofs.Spelling.{whole-written, told-refusal}
+use Rattle.admit.proofs.line.put_line.Statement.{statement}
+use Rattle.admit.proofs.line.put_line.Tie as tie
+
+enum-told : tie.Need-enum-told
+enum-told c = search needs
+
+slice-aggregate-put : tie.Need-slice-aggregate-put
+slice-aggregate-put c = search needs
+
+put-requires : tie.Need-put-requires
+put-requires c κs = search needs
+
+enum-told-2 : tie.Need-enum-told-2
+enum-told-2 c = search needs
+
+slice-aggregate-put-2 : tie.Need-slice-aggregate-put-2
+slice-aggregate-put-2 c = search needs
+
+put-requires-2 : tie.Need-put-requires-2
+put-requires-2 c κs = search needs
+
+enum-told-3 : tie.Need-enum-told-3
+enum-told-3 c = search needs
+
+slice-aggregate-put-3 : tie.Need-slice-aggregate-put-3
+slice-aggregate-put-3 c = search needs
+
+put-requires-3 : tie.Need-put-requires-3
+put-requires-3 c κs = search needs
+
+enum-told-4 : tie.Need-enum-told-4
+enum-told-4 c = search needs
+
+slice-aggregate-put-4 : tie.Need-slice-aggregate-put-4
+slice-aggregate-put-4 c = search needs
+
+put-requires-4 : tie.Need-put-requires-4
+put-requires-4 c κs = search needs
+
+enum-told-5 : tie.Need-enum-told-5
+enum-told-5 c = search needs
+
+slice-aggregate-put-5 : tie.Need-slice-aggregate-put-5
+slice-aggregate-put-5 c = search needs
+
+put-requires-5 : tie.Need-put-requires-5
+put-requires-5 c κs = search needs
+
+enum-told-6 : tie.Need-enum-told-6
+enum-told-6 c = search needs
+
+slice-aggregate-put-6 : tie.Need-slice-aggregate-put-6
+slice-aggregate-put-6 c = search needs
+
+put-requires-6 : tie.Need-put-requires-6
+put-requires-6 c κs = search needs
+
+enum-told-7 : tie.Need-enum-told-7
+enum-told-7 c = search needs
+
+slice-aggregate-put-7 : tie.Need-slice-aggregate-put-7
+slice-aggregate-put-7 c = search needs
+
+put-requires-7 : tie.Need-put-requires-7
+put-requires-7 c κs = search needs
+
+enum-told-8 : tie.Need-enum-told-8
+enum-told-8 c = search needs
+
+slice-aggregate-put-8 : tie.Need-slice-aggregate-put-8
+slice-aggregate-put-8 c = search needs
+
+put-requires-8 : tie.Need-put-requires-8
+put-requires-8 c κs = search needs
+
+enum-known-outcome : tie.Need-enum-known-outcome
+enum-known-outcome c = search needs
+
+cast-put-refusal : tie.Need-cast-put-refusal
+cast-put-refusal c = search needs
+
+put-refusal-requires : tie.Need-put-refusal-requires
+put-refusal-requires c κs = search needs
+
+returns : tie.Need-returns
+unfolding spelt bytes wordingOf
+returns c =
+    let p = c .put in
+    let w = whole-written (c .before .before .before .before .before .args .line .now) (p .last .0) _ (p .result) (c .before .before .before .before .before .args .outcome) SafeHolds (p .ensures .0) (p .ensures .1) (c .before .before .before .enum-told .given .1) refl in
+    (w .0, w .1, omega (arith, p .ensures .1))
+
+returns-2 : tie.Need-returns-2
+unfolding spelt bytes wordingOf
+returns-2 c =
+    let p = c .put2 in
+    let w = whole-written (c .before .before .before .before .before .args .line .now) (p .last .0) _ (p .result) (c .before .before .before .before .before .args .outcome) TraceHolds (p .ensures .0) (p .ensures .1) (c .before .before .before .enum-told2 .given .1) refl in
+    (w .0, w .1, omega (arith, p .ensures .1))
+
+returns-3 : tie.Need-returns-3
+unfolding spelt bytes wordingOf
+returns-3 c =
+    let p = c .put3 in
+    let w = whole-written (c .before .before .before .before .before .args .line .now) (p .last .0) _ (p .result) (c .before .before .before .before .before .args .outcome) FailsA (p .ensures .0) (p .ensures .1) (c .before .before .before .enum-told3 .given .1) refl in
+    (w .0, w .1, omega (arith, p .ensures .1))
+
+returns-4 : tie.Need-returns-4
+unfolding spelt bytes wordingOf
+returns-4 c =
+    let p = c .put4 in
+    let w = whole-written (c .before .before .before .before .before .args .line .now) (p .last .0) _ (p .result) (c .before .before .before .before .before .args .outcome) FailsB (p .ensures .0) (p .ensures .1) (c .before .before .before .enum-told4 .given .1) refl in
+    (w .0, w .1, omega (arith, p .ensures .1))
+
+returns-5 : tie.Need-returns-5
+unfolding spelt bytes wordingOf
+returns-5 c =
+    let p = c .put5 in
+    let w = whole-written (c .before .before .before .before .before .args .line .now) (p .last .0) _ (p .result) (c .before .before .before .before .before .args .outcome) FailsC (p .ensures .0) (p .ensures .1) (c .before .before .before .enum-told5 .given .1) refl in
+    (w .0, w .1, omega (arith, p .ensures .1))
+
+returns-6 : tie.Need-returns-6
+unfolding spelt bytes wordingOf
+returns-6 c =
+    let p = c .put6 in
+    let w = whole-written (c .before .before .before .before .before .args .line .now) (p .last .0) _ (p .result) (c .before .before .before .before .before .args .outcome) FailsD (p .ensures .0) (p .ensures .1) (c .before .before .before .enum-told6 .given .1) refl in
+    (w .0, w .1, omega (arith, p .ensures .1))
+
+returns-7 : tie.Need-returns-7
+unfolding spelt bytes wordingOf
+returns-7 c =
+    let p = c .put7 in
+    let w = whole-written (c .before .before .before .before .before .args .line .now) (p .last .0) _ (p .result) (c .before .before .before .before .before .args .outcome) FailsE (p .ensures .0) (p .ensures .1) (c .before .before .before .enum-told7 .given .1) refl in
+    (w .0, w .1, omega (arith, p .ensures .1))
+
+returns-8 : tie.Need-returns-8
+unfolding spelt bytes wordingOf
+returns-8 c =
+    let p = c .put8 in
+    let w = whole-written (c .before .before .before .before .before .args .line .now) (p .last .0) _ (p .result) (c .before .before .before .before .before .args .outcome) FailsF (p .ensures .0) (p .ensures .1) (c .before .before .before .enum-told8 .given .1) refl in
+    (w .0, w .1, omega (arith, p .ensures .1))
+
+returns-9 : tie.Need-returns-9
+returns-9 c =
+    let p = c .put-refusal in
+    let w = told-refusal (c .before .before .before .before .before .args .line .now) (p .last .0) (p .result) (c .before .before .before .before .before .args .outcome) _ _ (p .ensures .0) (p .ensures .1) (c .before .before .before .outcome .given .1) in
+    (w .0, w .1, p .ensures .2)
+
+pub put-line-spec : {M : Type 1} → statement M
+put-line-spec =
+    tie.close
+    (tie.spec
+    enum-told
+    slice-aggregate-put
+    put-requires
+    enum-told-2
+    slice-aggregate-put-2
+    put-requires-2
+    enum-told-3
+    slice-aggregate-put-3
+    put-requires-3
+    enum-told-4
+    slice-aggregate-put-4
+    put-requires-4
+    enum-told-5
+    slice-aggregate-put-5
+    put-requires-5
+    enum-told-6
+    slice-aggregate-put-6
+    put-requires-6
+    enum-told-7
+    slice-aggregate-put-7
+    put-requires-7
+    enum-told-8
+    slice-aggregate-put-8
+    put-requires-8
+    enum-known-outcome
+    cast-put-refusal
+    put-refusal-requires
+    returns
+    returns-2
+    returns-3
+    returns-4
+    returns-5
+    returns-6
+    returns-7
+    returns-8
+    returns-9)

@@ -1,0 +1,3 @@
+-- What the program writes, and what its reads leave.
+pub mod Lines
+pub mod Reads

@@ -1,0 +1,116 @@
+// Tests a sheet for a model: `admit TEXT SHEET`, the paths of two files.
+// It writes one line to standard output: `safe holds`, `trace holds`, the letter of the first failure, or `refused NUMBER PLACE`.
+// Without two arguments, or where a file can't be read, it writes nothing there, and a line to standard error.
+// A program ends with status 0 whatever it found, so the line is the whole answer.
+mod line;
+
+ghost use Rattle.admit.specs.Reads.{Within};
+use acceptance::test;
+use libc::STDERR_FILENO;
+use libc::STDOUT_FILENO;
+use line::put_line;
+
+// How many bytes came, none of them at the file's end, or that the read failed.
+enum Got {
+    Bytes(usize),
+    Failed,
+}
+
+// One read into the front of the room.
+fn read_some(fd: i32, room: &mut [u8]) -> Got
+    ensures { λ r. ⌜ Within r (now (room .exit)) ⌝ }
+{
+    let got = libc::read(fd, room);
+    if got < 0 {
+        return Got::Failed;
+    }
+    Got::Bytes(io::count(got, room))
+}
+
+// Reads until the file ends or the room is full.
+fn read_file(fd: i32, room: &mut [u8]) -> Got
+    ensures { λ r. ⌜ Within r (now (room .exit)) ⌝ }
+{
+    let size = room.len();
+    let mut at: usize = 0;
+    'parts: while at < size {
+        let got = read_some(fd, &mut room[at..]);
+        let Got::Bytes(n) = got else {
+            return Got::Failed;
+        };
+        if n == 0 {
+            return Got::Bytes(at);
+        }
+        at += n;
+    }
+    Got::Bytes(at)
+}
+
+// Says on standard error that a file can't be read, and why.
+fn say_unread(path: &[u8]) {
+    io::write_all(STDERR_FILENO, b"admit: cannot read ");
+    os::fail(path);
+}
+
+// Reads the file at a path; where it can't be read, says so.
+fn read_path(path: &[u8], room: &mut [u8]) -> Got
+    ensures { λ r. ⌜ Within r (now (room .exit)) ⌝ }
+{
+    let fd = os::open_read(path);
+    if fd < 0 {
+        say_unread(path);
+        return Got::Failed;
+    }
+    let got = read_file(fd, room);
+    let Got::Bytes(n) = got else {
+        say_unread(path);
+        libc::close(fd);
+        return Got::Failed;
+    };
+    libc::close(fd);
+    got
+}
+
+// Reads the file that argument i names. An argument that is too long for a path is cut in what is said of it.
+fn read_argument(i: usize, room: &mut [u8]) -> Got
+    ensures { λ r. ⌜ Within r (now (room .exit)) ⌝ }
+{
+    let mut path = io::buffer();
+    let n = os::arg(i, &mut path);
+    if os::errno() != 0 {
+        say_unread(&path);
+        return Got::Failed;
+    }
+    read_path(&path[..n], room)
+}
+
+// Writes the outcome's line to standard output.
+fn answer(text: &[u8], sheet: &[u8]) {
+    let mut line = [0u8; 64];
+    let n = put_line(&mut line, test(text, sheet));
+    io::write_all(STDOUT_FILENO, &line[..n]);
+}
+
+// Reads the text and the sheet into their rooms, and answers.
+fn admit_into(text: &mut [u8], sheet: &mut [u8]) {
+    let first = read_argument(1, text);
+    let Got::Bytes(n) = first else {
+        return;
+    };
+    let second = read_argument(2, sheet);
+    let Got::Bytes(m) = second else {
+        return;
+    };
+    answer(&text[..n], &sheet[..m]);
+}
+
+// The rooms have a byte more than the longest text and the longest sheet that the test takes, so it refuses a longer one itself.
+fn main() {
+    if os::arg_count() != 3 {
+        io::write_all(STDERR_FILENO, b"usage: admit TEXT SHEET\n");
+        return;
+    }
+    let mut text = [0u8; 16385];
+    let mut sheet = [0u8; 65537];
+    admit_into(&mut text, &mut sheet);
+}

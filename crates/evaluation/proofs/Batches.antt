@@ -1,0 +1,70 @@
+-- A batch's rows serve the 64 words from a multiple of 64.
+-- Assumes nothing.
+use Prim.Native.Nat.{ℕ, zero, suc, _+_, _*_, _/_, _%_, _^_, _≤_, _<_}
+use mathlib.Core.Path.{_≡_, refl, ap, _∙_, subst}
+use mathlib.Core.List.{List}
+use native.Mathlib.Omega.{arith}
+use lib.Dec.{eqb}
+use lib.ListN.{length, replicate}
+use mathlib.Core.Bool.{Bool, true, false, cond}
+use borrow.Author.Tests.{eq-eqb, ne-eqb}
+use Rattle.evaluation.specs.working.CodeMachine.{runOf, startOf}
+use Rattle.evaluation.specs.working.Ends.{rowOf, fills, pickOf}
+use Rattle.evaluation.specs.working.Batches.{afterOf, cellsAt, filledOf}
+use Rattle.evaluation.proofs.LaneRows.{Have, picked-right}
+use Rattle.evaluation.proofs.LaneEnds.{fills-at, fills-length}
+
+-- Before the word w the rows are those of its batch, unless w begins one.
+pub record Ready (os : List ℕ) (s n w : ℕ) (rows : List ℕ) : Type 0 where
+  pub full : length rows ≡ 16
+  pub have : 0 < w % 64 → Have (cellsAt os s n (w / 64)) n rows
+
+-- Filled for w they are those of its batch, and ready for the next word.
+pub filled : (os : List ℕ) (s n w : ℕ) (rows : List ℕ) → Ready os s n w rows → Have (cellsAt os s n (w / 64)) n (filledOf os s n w rows)
+unfolding filledOf
+filled os s n w rows z = go (w % 64) refl
+  where
+    go : (x : ℕ) → w % 64 ≡ x → Have (cellsAt os s n (w / 64)) n (cond (eqb (w % 64) 0) (fills (rowOf (cellsAt os s n (w / 64)) n) 16 rows) rows)
+    go zero e = rw (eq-eqb (w % 64) 0 e) (λ r h. fills-at (rowOf (cellsAt os s n (w / 64)) n) 16 r rows (let f = z .full in omega arith) h)
+    go (suc x) e = rw (ne-eqb (w % 64) 0 (λ q. omega arith)) (z .have (omega arith))
+
+pub filled-full : (os : List ℕ) (s n w : ℕ) (rows : List ℕ) → length rows ≡ 16 → length (filledOf os s n w rows) ≡ 16
+unfolding filledOf
+filled-full os s n w rows h = go (eqb (w % 64) 0)
+  where
+    go : (b : Bool) → length (cond b (fills (rowOf (cellsAt os s n (w / 64)) n) 16 rows) rows) ≡ 16
+    go true = fills-length (rowOf (cellsAt os s n (w / 64)) n) 16 rows ∙ h
+    go false = h
+
+pub ready-next : (os : List ℕ) (s n w : ℕ) (rows after : List ℕ) → after ≡ filledOf os s n w rows → Ready os s n w rows → Ready os s n (w + 1) after
+ready-next os s n w rows after e z =
+    rw e
+    (record {
+      full = filled-full os s n w rows (z .full);
+      have = λ h. let q : w / 64 ≡ (w + 1) / 64 = omega arith in subst (λ (b : ℕ). Have (cellsAt os s n b) n (filledOf os s n w rows)) q (filled os s n w rows z);
+    })
+
+pub ready-first : (os : List ℕ) (s n : ℕ) → Ready os s n 0 (replicate 16 0)
+ready-first os s n = record { full = refl; have = λ h. absurd (omega arith) }
+
+-- A word that begins a batch, and one that does not.
+pub filled-new : (os : List ℕ) (s n w : ℕ) (rows cells r : List ℕ) → w % 64 ≡ 0
+    → cells ≡ cellsAt os s n (w / 64) → r ≡ fills (rowOf cells n) 16 rows → r ≡ filledOf os s n w rows
+unfolding filledOf
+filled-new os s n w rows cells r h e q = rw (eq-eqb (w % 64) 0 h) (q ∙ ap (λ (c : List ℕ). fills (rowOf c n) 16 rows) e)
+
+pub filled-old : (os : List ℕ) (s n w : ℕ) (rows : List ℕ) → (w % 64 ≡ 0 → ⊥) → rows ≡ filledOf os s n w rows
+unfolding filledOf
+filled-old os s n w rows h = rw (ne-eqb (w % 64) 0 h)
+
+-- What is picked for w from the filled rows is the state that the one-word machine leaves with w.
+pub picked : (os : List ℕ) (s n w : ℕ) (rows after : List ℕ) → n ≤ 16 → s < 2 ^ n → after ≡ filledOf os s n w rows → Ready os s n w rows
+    → pickOf after (w % 64) ≡ afterOf os s n w
+unfolding cellsAt afterOf
+picked os s n w rows after hn hs e z =
+    ap (λ (r : List ℕ). pickOf r (w % 64)) e
+    ∙ picked-right os (filledOf os s n w rows) (w / 64) s n (w % 64) hn hs (omega arith) (filled os s n w rows z)
+    ∙ ap (λ (v : ℕ). runOf os v (startOf s) .state % 2 ^ n) (whole w)
+  where
+    whole : (w : ℕ) → 64 * (w / 64) + w % 64 ≡ w
+    whole w = omega arith

@@ -1,0 +1,26 @@
+-- `fill` meets its contract: a word that begins a batch fills the rows, and any other leaves them.
+-- Assumes nothing.
+use Rattle.evaluation.proofs.Batches.{filled-new, filled-old}
+use lib.Seq.{slice}
+use borrow.Author.Needs.{needs}
+use Rattle.evaluation.proofs.lanes.fill.Statement.{statement}
+use Rattle.evaluation.proofs.lanes.fill.Tie as tie
+
+batch-requires : tie.Need-batch-requires
+batch-requires c κs = search needs
+
+rows-of-requires : tie.Need-rows-of-requires
+rows-of-requires c κs = search needs
+
+returns : tie.Need-returns
+returns c =
+    let a = c .before .before .before .before .before .before .args in
+    filled-new (slice (a .from) (a .to) (a .ops .now)) (a .state) (a .n) (a .w) (a .rows .now) _ _ (c .before .before .before .before .if1 .taken) (c .before .before .before .batch .ensures) (c .rows-of .ensures)
+
+returns-2 : tie.Need-returns-2
+returns-2 c =
+    let a = c .before .before .args in
+    filled-old (slice (a .from) (a .to) (a .ops .now)) (a .state) (a .n) (a .w) (a .rows .now) (c .if1 .left)
+
+pub fill-spec : {M : Type 1} → statement M
+fill-spec = tie.close (tie.spec batch-requires rows-of-requires returns returns-2)

@@ -1,0 +1,6 @@
+-- Definitions that only describe how a program goes about it. Nothing here has to be believed: theorems tie it to the definitions of the crate `meaning`.
+pub mod CodeMachine
+pub mod Cells
+pub mod Ends
+pub mod Batches
+pub mod CodeSystem
