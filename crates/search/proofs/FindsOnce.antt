@@ -1,0 +1,127 @@
+-- Of each model one thing only is found: of two runs that differ one comes first, and no model has both a map and a run that goes wrong.
+-- Assumes nothing.
+use mathlib.Core.Path.{_≡_, refl, sym, ap, _∙_, subst}
+use mathlib.Core.Logic.{_⊎_, inl, inr, ⊎-elim}
+use mathlib.Core.Bool.{true}
+use mathlib.Core.List.{List, [], _∷_}
+use Prim.Native.Nat.{ℕ, _<_, _≤_}
+use native.Mathlib.Omega.{arith}
+use lib.ListN.{length}
+use lib.Dec.{eqb}
+use borrow.Author.Tests.{eqb-true}
+use Rattle.notation.specs.Model.{Model}
+use Rattle.meaning.specs.OneRow.{next, TraceStep}
+use Rattle.meaning.specs.Evidence.{safe, trace, TracePasses}
+use Rattle.meaning.specs.working.Conditions.{testE}
+use Rattle.meaning.proofs.OneRow.{and-split}
+use Rattle.meaning.proofs.Accept.{all-tests-tell}
+use Rattle.search.specs.Order.{StepBefore, StepsBefore, RunBefore}
+use Rattle.search.specs.Findings.{FirstBreak, FindsOnce}
+use Rattle.search.proofs.Order.{lt-or-ge}
+use Rattle.search.proofs.MapsAlike.{maps-alike}
+
+trichotomy : (a b : ℕ) → (a < b) ⊎ ((a ≡ b) ⊎ (b < a))
+trichotomy a b =
+    ⊎-elim
+    (λ (h : a < b). inl h)
+    (λ (h : b ≤ a). ⊎-elim (λ (k : b < a). inr (inr k)) (λ (k : a ≤ b). let e : a ≡ b = omega arith in inr (inl e)) (lt-or-ge b a))
+    (lt-or-ge a b)
+
+step-total : (x y : TraceStep) → StepBefore x y ⊎ (((x .command ≡ y .command) × (x .word ≡ y .word)) ⊎ StepBefore y x)
+step-total x y =
+    ⊎-elim
+    (λ h. inl (inl h))
+    (λ h.
+    ⊎-elim
+    (λ e.
+    ⊎-elim
+    (λ k. inl (inr (e, k)))
+    (λ k. ⊎-elim (λ f. inr (inl (e, f))) (λ l. inr (inr (inr (sym e, l)))) k)
+    (trichotomy (x .word) (y .word)))
+    (λ k. inr (inr (inl k)))
+    h)
+    (trichotomy (x .command) (y .command))
+
+-- Two lists of as many steps, taken from one state where each step leads: they are one list, or one of them comes first.
+module _ (step : ℕ → ℕ → ℕ → ℕ) where
+  leads : (s : ℕ) (x : TraceStep) (xs : List TraceStep) → testE step s (x ∷ xs) ≡ true
+      → (x .after ≡ step s (x .command) (x .word)) × (testE step (x .after) xs ≡ true)
+  unfolding testE
+  leads s x xs e =
+      let t = and-split (eqb (x .after) (step s (x .command) (x .word))) (testE step (x .after) xs) e in
+      (eqb-true _ _ (t .0), t .1)
+
+  same-after : (s : ℕ) (x y : TraceStep) → x .after ≡ step s (x .command) (x .word) → y .after ≡ step s (y .command) (y .word)
+      → x .command ≡ y .command → x .word ≡ y .word → x .after ≡ y .after
+  same-after s x y p q e f = p ∙ ap (λ (k : ℕ). step s k (x .word)) e ∙ ap (step s (y .command)) f ∙ sym q
+
+  steps-total : (s : ℕ) (xs ys : List TraceStep) → length xs ≡ length ys → testE step s xs ≡ true → testE step s ys ≡ true
+      → StepsBefore xs ys ⊎ ((xs ≡ ys) ⊎ StepsBefore ys xs)
+  steps-total s [] [] e p q = inr (inl refl)
+  steps-total s [] (y ∷ ys) e p q = absurd (omega arith)
+  steps-total s (x ∷ xs) [] e p q = absurd (omega arith)
+  steps-total s (x ∷ xs) (y ∷ ys) e p q =
+      let a = leads s x xs p in
+      let b = leads s y ys q in
+      ⊎-elim
+      (λ h. inl (inl h))
+      (λ h.
+      ⊎-elim
+      (λ (c : (x .command ≡ y .command) × (x .word ≡ y .word)).
+      let f : x .after ≡ y .after = same-after s x y (a .0) (b .0) (c .0) (c .1) in
+      ⊎-elim
+      (λ k. inl (inr (c .0, c .1, k)))
+      (λ k.
+      ⊎-elim
+      (λ (l : xs ≡ ys). inr (inl (λ i. record { command = c .0 i; word = c .1 i; after = f i } ∷ l i)))
+      (λ l. inr (inr (inr (sym (c .0), sym (c .1), l))))
+      k)
+      (steps-total (x .after) xs ys (omega arith) (a .1) (subst (λ (t : ℕ). testE step t ys ≡ true) (sym f) (b .1))))
+      (λ k. inr (inr (inl k)))
+      h)
+      (step-total x y)
+
+module _ (m : Model) where
+  tested : (s : ℕ) (xs : List TraceStep) → TracePasses m s xs → testE (next m) s xs ≡ true
+  tested s xs p = all-tests-tell m .tellsE s xs (p .stepsFit) .1 (p .steps)
+
+  runs-total : (s : ℕ) (xs : List TraceStep) (t : ℕ) (ys : List TraceStep) → TracePasses m s xs → TracePasses m t ys
+      → RunBefore s xs t ys ⊎ ((trace s xs ≡ trace t ys) ⊎ RunBefore t ys s xs)
+  runs-total s xs t ys p q =
+      ⊎-elim
+      (λ h. inl (inl h))
+      (λ h.
+      ⊎-elim
+      (λ (e : length xs ≡ length ys).
+      ⊎-elim
+      (λ k. inl (inr (e, inl k)))
+      (λ k.
+      ⊎-elim
+      (λ (f : s ≡ t).
+      ⊎-elim
+      (λ l. inl (inr (e, inr (f, l))))
+      (λ l.
+      ⊎-elim
+      (λ (g : xs ≡ ys). inr (inl (λ i. trace (f i) (g i))))
+      (λ n. inr (inr (inr (sym e, inr (sym f, n)))))
+      l)
+      (steps-total (next m) s xs ys e (tested s xs p) (subst (λ (u : ℕ). testE (next m) u ys ≡ true) (sym f) (tested t ys q))))
+      (λ l. inr (inr (inr (sym e, inl l))))
+      k)
+      (trichotomy s t))
+      (λ k. inr (inr (inl k)))
+      h)
+      (trichotomy (length xs) (length ys))
+
+  first-alike : (s : ℕ) (xs : List TraceStep) (t : ℕ) (ys : List TraceStep) → FirstBreak m s xs → FirstBreak m t ys → trace s xs ≡ trace t ys
+  first-alike s xs t ys F G =
+      ⊎-elim
+      (λ h. absurd (G .first s xs (F .breaks) h))
+      (λ h. ⊎-elim (λ e. e) (λ k. absurd (F .first t ys (G .breaks) k)) h)
+      (runs-total s xs t ys (F .breaks) (G .breaks))
+
+pub finds-once : FindsOnce
+finds-once m (safe a) (safe b) p q = ap safe (maps-alike m a b (p .1) (q .1))
+finds-once m (safe a) (trace t ys) p q = let (s, xs, r, b) = q .0 in absurd (p .0 s xs r b)
+finds-once m (trace s xs) (safe b) p q = let (t, ys, r, h) = p .0 in absurd (q .0 t ys r h)
+finds-once m (trace s xs) (trace t ys) p q = first-alike m s xs t ys (p .1) (q .1)

@@ -1,0 +1,89 @@
+-- The sheet that the search finds is what there is to find of the model.
+-- Assumes nothing.
+use mathlib.Core.Path.{_≡_, sym, ap, _∙_, subst}
+use mathlib.Core.Logic.{_↔_}
+use mathlib.Core.Bool.{Bool, true, false, false≢true}
+use mathlib.Core.List.{List, map}
+use Prim.Native.Nat.{ℕ, _+_, _*_, _^_, _<_, _≤_}
+use native.Mathlib.Omega.{arith}
+use lib.ListN.{getD}
+use Rattle.notation.specs.Model.{Model}
+use Rattle.notation.specs.Regular.{Regular}
+use Rattle.meaning.specs.Meaning.{Safe, Unsafe}
+use Rattle.meaning.specs.OneRow.{One, stateCount, spread, TraceStep, spreadStep}
+use Rattle.meaning.specs.Evidence.{inMap, TracePasses}
+use Rattle.acceptance.specs.Sheets.{mapLength}
+use Rattle.acceptance.specs.SheetTexts.{unusedClear}
+use Rattle.acceptance.proofs.SheetOpened.{eighths}
+use Rattle.search.specs.Findings.{Reaches, ExactMap, FirstBreak, Finds}
+use Rattle.search.specs.Promises.{FoundIsRight}
+use Rattle.search.specs.working.Transitions.{Transitions}
+use Rattle.search.specs.working.Runs.{Run, startsAt, First, startOf}
+use Rattle.search.specs.working.Verdicts.{Verdict, firstRun, reached, verdict, AllReached, Right}
+use Rattle.search.specs.working.Written.{mapFrom}
+use Rattle.search.specs.working.Found.{stepsOf, sheetFor, foundIn, Agrees}
+use Rattle.search.proofs.Right.{verdict-right}
+use Rattle.search.proofs.Map.{map-length}
+use Rattle.search.proofs.RunsOfModels.{onBy, lawful, trace-passes, run-reaches, trace-valid, trace-breaks, run-told, reaches-run, break-told}
+use Rattle.search.proofs.TracesInOrder.{run-before}
+use Rattle.search.proofs.MapsFound.{map-bytes, map-has, map-clear}
+
+-- A trace that passes is a run of the table of one row that goes wrong.
+pub trace-unsafe : (m : Model) (s : ℕ) (xs : List TraceStep) → TracePasses m s xs → Unsafe m One
+trace-unsafe m s xs p = (spread m One s, map (spreadStep m One) xs, record { start = p .starts; steps = p .steps }, p .breaks)
+
+some-byte : (states : ℕ) → 0 < mapLength states
+unfolding mapLength
+some-byte states = omega arith
+
+module _ (T : Transitions) (m : Model) (A : Agrees T m) where
+  first-break : (r : Run) → First T r → FirstBreak m (startOf r) (stepsOf T r)
+  first-break r F =
+      record {
+        breaks = trace-passes T m A r (F .valid) (F .breaking);
+        first = λ t ys p h.
+            false≢true
+            (sym (F .first (onBy (startsAt t) ys) (trace-valid T m A t ys p) (run-before T t ys r h)) ∙ trace-breaks T m A t ys p);
+      }
+
+  module _ (g : Regular m) (b : List Bool) (R : AllReached T b) where
+    all-safe : Safe m One
+    all-safe s xs r h =
+        let q = run-told T m A g s xs r in
+        false≢true (sym (R .keeps (q .run) (q .valid)) ∙ break-told T m A g s xs r h)
+
+    found : List ℕ
+    found = mapFrom b 0 (mapLength (T .size))
+
+    found-has : (t : ℕ) → t < stateCount m → inMap found t ≡ getD b t false
+    unfolding found
+    found-has t h =
+        let e : 2 ^ (m .sharedNames + m .rowNames) ≤ 8 * mapLength (2 ^ (m .sharedNames + m .rowNames)) = eighths (m .sharedNames + m .rowNames) in
+        let l : t < 8 * mapLength (stateCount m) = omega arith in
+        map-has b (mapLength (T .size)) t (subst (λ (n : ℕ). t < 8 * mapLength n) (sym (A .size)) l)
+
+    exactly : (t : ℕ) → t < stateCount m → (inMap found t ≡ true) ↔ Reaches m t
+    exactly t h =
+        let x = R .exact t (subst (λ (n : ℕ). t < n) (sym (A .size)) h) in (
+          λ e. let q = x .0 (sym (found-has t h) ∙ e) in subst (Reaches m) (q .ends) (run-reaches T m A (q .run) (q .valid)),
+          λ q. found-has t h ∙ x .1 (reaches-run T m A g t q),
+        )
+
+    exact-map : ExactMap m found
+    unfolding found
+    exact-map =
+        record {
+          long = map-length b 0 (mapLength (T .size)) ∙ ap mapLength (A .size);
+          bytes = map-bytes b (mapLength (T .size));
+          clear = subst (λ (n : ℕ). unusedClear n (getD found 0 0) ≡ true) (R .sized ∙ A .size) (map-clear b (mapLength (T .size)) (some-byte (T .size)));
+          exact = exactly;
+        }
+
+  finds-for : Regular m → (v : Verdict) → Right T v → Finds m (sheetFor T v)
+  unfolding sheetFor found
+  finds-for g (firstRun r) F = let f = first-break r F in (trace-unsafe m (startOf r) (stepsOf T r) (f .breaks), f)
+  finds-for g (reached b) R = (all-safe g b R, exact-map g b R)
+
+pub finds-right : FoundIsRight
+unfolding foundIn
+finds-right T m A g = finds-for T m A g (verdict T) (verdict-right T (lawful T m A))

@@ -1,0 +1,352 @@
+-- What one turn of the search's loops does to the tables and to what they say.
+-- Assumes nothing.
+use Prim.Native.Nat.{ℕ, suc, zero, _+_, _-_, _<_, _≤_}
+use mathlib.Core.Path.{_≡_, refl, sym, ap, _∙_, fun-ext}
+use mathlib.Core.Bool.{Bool, true, false, cond}
+use mathlib.Core.List.{List, [], _∷_, _++_}
+use native.Mathlib.Omega.{arith}
+use native.Mathlib.Numerals.{add-one}
+use lib.ListN.{length, getD, set, take, drop, length-set, length-append, length-drop, length-replicate, replicate}
+use lib.Seq.{length-take-le, take-suc-set, take-set-lt, drop-set-lt, getD-take, getD-set-same, getD-set-other, take-at, drop-at}
+use borrow.Author.Count.{below-more}
+use lib.Dec.{ltb}
+use borrow.Author.Tests.{eq-eqb, ne-eqb, lt-ltb, le-ltb, ltb-false}
+use Rattle.search.specs.working.Transitions.{Transitions, Move, moveOf, wordsFrom, movesFrom, moves}
+use Rattle.search.specs.working.Exploring.{Seen, Progress, broke, through, andThen, progress, meet, tryMoves, takeIn, explore, search}
+use Rattle.search.specs.working.Runs.{firstMove}
+use Rattle.search.specs.working.Tables.{seen, marked, Ready, Kept, Explored, Meets, Took, Ran}
+
+-- Entries that are not 0.
+
+pub marked-set : (l : List ℕ) (t v : ℕ) → t < length l → getD l t 0 ≡ 0 → 0 < v → marked (set l t v) ≡ suc (marked l)
+unfolding marked
+marked-set [] t v h e p = omega arith
+marked-set (zero ∷ l) zero zero h e p = omega arith
+marked-set (zero ∷ l) zero (suc v) h e p = refl
+marked-set (zero ∷ l) (suc t) v h e p = marked-set l t v (omega arith) e p
+marked-set (suc u ∷ l) zero v h e p = omega arith
+marked-set (suc u ∷ l) (suc t) v h e p = ap suc (marked-set l t v (omega arith) e p)
+
+pub marked-le : (l : List ℕ) → marked l ≤ length l
+unfolding marked
+marked-le [] = omega arith
+marked-le (zero ∷ l) = omega (arith, marked-le l)
+marked-le (suc u ∷ l) = omega (arith, marked-le l)
+
+pub marked-lt : (l : List ℕ) (t : ℕ) → t < length l → getD l t 0 ≡ 0 → marked l < length l
+marked-lt l t h e = omega (arith, marked-set l t 1 h e (omega arith), marked-le (set l t 1), length-set l t 1)
+
+pub count-le : (M : Transitions) (q : List ℕ) (n : ℕ) (p : List ℕ) → Ready M q n p → n ≤ M .size
+count-le M q n p R = omega (arith, R .counted, marked-le (take (M .size) p), length-take-le (M .size) p (R .parent-room))
+
+-- The frame: tables that are ready, as long as they were, and unchanged from `size` on.
+
+pub kept-refl : (M : Transitions) (q : List ℕ) (n : ℕ) (p : List ℕ) → Ready M q n p → Kept M q p q n p
+kept-refl M q n p R = record { ready = R; few = count-le M q n p R; queue-rest = refl; parent-rest = refl; queue-length = refl; parent-length = refl }
+
+pub kept-trans : {M : Transitions} {q₀ p₀ q₁ p₁ q₂ p₂ : List ℕ} {n₁ n₂ : ℕ} → Kept M q₀ p₀ q₁ n₁ p₁ → Kept M q₁ p₁ q₂ n₂ p₂ → Kept M q₀ p₀ q₂ n₂ p₂
+kept-trans a b =
+    record {
+      ready = b .ready;
+      few = b .few;
+      queue-rest = b .queue-rest ∙ a .queue-rest;
+      parent-rest = b .parent-rest ∙ a .parent-rest;
+      queue-length = b .queue-length ∙ a .queue-length;
+      parent-length = b .parent-length ∙ a .parent-length;
+    }
+
+-- A state met.
+
+module _ (M : Transitions) (q : List ℕ) (n : ℕ) (p : List ℕ) (R : Ready M q n p) (s t : ℕ) (ht : t < M .size) where
+  at-parent : getD (take (M .size) p) t 0 ≡ getD p t 0
+  at-parent = getD-take (M .size) p t 0 ht
+
+  pub meet-old : (getD p t 0 ≡ 0 → ⊥) → meet M s t (seen M q n p) ≡ through (seen M q n p)
+  meet-old old = rw (at-parent, ne-eqb (getD p t 0) 0 old)
+
+  module _ (new : getD p t 0 ≡ 0) where
+    pub room : n < M .size
+    room = omega (arith, R .counted, marked-lt (take (M .size) p) t (rw (length-take-le (M .size) p (R .parent-room)) ht) (at-parent ∙ new), length-take-le (M .size) p (R .parent-room))
+
+    queue-pushed : take (n + 1) (set q n t) ≡ take n q ++ (t ∷ [])
+    queue-pushed = rw (add-one, take-suc-set q n t (omega (arith, room, R .queue-room)))
+
+    parent-pushed : take (M .size) (set p t (s + 1)) ≡ set (take (M .size) p) t (s + 1)
+    parent-pushed = take-set-lt (M .size) p t (s + 1) ht
+
+    pub meet-new : meet M s t (seen M q n p) ≡ progress (M .breaks t) (seen M (set q n t) (n + 1) (set p t (s + 1)))
+    meet-new = rw (at-parent, eq-eqb (getD p t 0) 0 new, queue-pushed, parent-pushed)
+
+    below-pushed : (i : ℕ) → i < n + 1 → getD (set q n t) i 0 < M .size
+    below-pushed = below-more (λ (i : ℕ). getD (set q n t) i 0 < M .size) n (λ k h. rw (getD-set-other q n k t 0 (omega arith)) (R .below k h)) (rw (getD-set-same q n t 0 (omega (arith, room, R .queue-room))) ht)
+
+    pub kept-pushed : Kept M q p (set q n t) (n + 1) (set p t (s + 1))
+    kept-pushed =
+        record {
+          ready =
+              record {
+                queue-room = rw length-set (R .queue-room);
+                parent-room = rw length-set (R .parent-room);
+                counted = rw (parent-pushed, marked-set (take (M .size) p) t (s + 1) (rw (length-take-le (M .size) p (R .parent-room)) ht) (at-parent ∙ new) (omega arith), ← R .counted) (add-one n);
+                below = below-pushed;
+              };
+          few = omega (arith, room);
+          queue-rest = drop-set-lt (M .size) q n t room;
+          parent-rest = drop-set-lt (M .size) p t (s + 1) ht;
+          queue-length = length-set q n t;
+          parent-length = length-set p t (s + 1);
+        }
+
+-- What the function `meet` promises.
+
+pub meets-old : {M : Transitions} {q : List ℕ} {n : ℕ} {p : List ℕ} {s t : ℕ} → Ready M q n p → t < M .size → (getD p t 0 ≡ 0 → ⊥) → Meets M s t q n p q n p false
+meets-old {M} {q} {n} {p} {s} {t} R ht old = record { kept = kept-refl M q n p R; what = sym (meet-old M q n p R s t ht old) }
+
+pub meets-new : {M : Transitions} {q : List ℕ} {n : ℕ} {p : List ℕ} {s t : ℕ} {b : Bool} → Ready M q n p → t < M .size → getD p t 0 ≡ 0 → b ≡ M .breaks t → Meets M s t q n p (set q n t) (n + 1) (set p t (s + 1)) b
+meets-new {M} {q} {n} {p} {s} {t} {b} R ht new e =
+    record { kept = kept-pushed M q n p R s t ht new; what = rw e (sym (meet-new M q n p R s t ht new)) }
+
+-- Moves left to try.
+
+pub words-next : (c w n : ℕ) → w < n → wordsFrom c w (n - w) ≡ record { command = c; word = w } ∷ wordsFrom c (w + 1) (n - (w + 1))
+unfolding wordsFrom
+words-next c w n h = let e : n - w ≡ suc (n - (w + 1)) = omega arith in rw e
+
+pub words-none : (c n : ℕ) → wordsFrom c n (n - n) ≡ []
+unfolding wordsFrom
+words-none c n = let e : n - n ≡ 0 = omega arith in rw e
+
+pub moves-next : (M : Transitions) (c n : ℕ) → c < n → movesFrom M c (n - c) ≡ wordsFrom c 0 (M .words c) ++ movesFrom M (c + 1) (n - (c + 1))
+unfolding movesFrom
+moves-next M c n h = let e : n - c ≡ suc (n - (c + 1)) = omega arith in rw e
+
+pub moves-none : (M : Transitions) (n : ℕ) → movesFrom M n (n - n) ≡ []
+unfolding movesFrom
+moves-none M n = let e : n - n ≡ 0 = omega arith in rw e
+
+andThen-assoc : (o : Progress) (f g : Seen → Progress) → andThen (andThen o f) g ≡ andThen o (λ x. andThen (f x) g)
+andThen-assoc (broke x) f g = refl
+andThen-assoc (through x) f g = refl
+
+andThen-through : (o : Progress) → andThen o (λ x. through x) ≡ o
+andThen-through (broke x) = refl
+andThen-through (through x) = refl
+
+tryMoves-append : (M : Transitions) (s : ℕ) (a b : List Move) (x : Seen) → tryMoves M s (a ++ b) x ≡ andThen (tryMoves M s a x) (tryMoves M s b)
+unfolding tryMoves
+tryMoves-append M s [] b x = refl
+tryMoves-append M s (m ∷ a) b x =
+    let o : Progress = meet M s (M .step s (m .command) (m .word)) x in
+    ap (andThen o) (fun-ext (λ y. tryMoves-append M s a b y)) ∙ sym (andThen-assoc o (tryMoves M s a) (tryMoves M s b))
+
+-- What is left to try, ms, at the tables now gives what ms₀ gave at the tables then.
+pub record Tried (M : Transitions) (s : ℕ) (ms₀ : List Move) (q₀ : List ℕ) (n₀ : ℕ) (p₀ : List ℕ) (ms : List Move) (q : List ℕ) (n : ℕ) (p : List ℕ) : Type 0 where
+  pub kept : Kept M q₀ p₀ q n p
+  pub same : tryMoves M s ms (seen M q n p) ≡ tryMoves M s ms₀ (seen M q₀ n₀ p₀)
+
+-- The moves ms₀ from the tables then broke, and left the tables as they are now.
+pub record Broke (M : Transitions) (s : ℕ) (ms₀ : List Move) (q₀ : List ℕ) (n₀ : ℕ) (p₀ : List ℕ) (q : List ℕ) (n : ℕ) (p : List ℕ) : Type 0 where
+  pub kept : Kept M q₀ p₀ q n p
+  pub same : broke (seen M q n p) ≡ tryMoves M s ms₀ (seen M q₀ n₀ p₀)
+
+pub tried-refl : (M : Transitions) (s : ℕ) (ms : List Move) (q : List ℕ) (n : ℕ) (p : List ℕ) → Ready M q n p → Tried M s ms q n p ms q n p
+tried-refl M s ms q n p R = record { kept = kept-refl M q n p R; same = refl }
+
+module _ {M : Transitions} {s : ℕ} {ms₀ : List Move} {q₀ : List ℕ} {n₀ : ℕ} {p₀ : List ℕ} (c w k : ℕ) {q : List ℕ} {n : ℕ} {p : List ℕ} (T : Tried M s ms₀ q₀ n₀ p₀ (wordsFrom c w (k - w)) q n p) (h : w < k) (t : ℕ) (e : t ≡ M .step s c w) (ht : t < M .size) where
+  -- What the move does first.
+  head-move : andThen (meet M s t (seen M q n p)) (tryMoves M s (wordsFrom c (w + 1) (k - (w + 1)))) ≡ tryMoves M s ms₀ (seen M q₀ n₀ p₀)
+  unfolding tryMoves
+  head-move = rw (e, ← T .same, words-next c w k h)
+
+  pub tried-old : (getD p t 0 ≡ 0 → ⊥) → Tried M s ms₀ q₀ n₀ p₀ (wordsFrom c (w + 1) (k - (w + 1))) q n p
+  tried-old old = record { kept = T .kept; same = rw (meet-old M q n p (T .kept .ready) s t ht old) at head-move }
+
+  module _ (new : getD p t 0 ≡ 0) where
+    kept-new : Kept M q₀ p₀ (set q n t) (n + 1) (set p t (s + 1))
+    kept-new = kept-trans (T .kept) (kept-pushed M q n p (T .kept .ready) s t ht new)
+
+    met-new : andThen (progress (M .breaks t) (seen M (set q n t) (n + 1) (set p t (s + 1)))) (tryMoves M s (wordsFrom c (w + 1) (k - (w + 1)))) ≡ tryMoves M s ms₀ (seen M q₀ n₀ p₀)
+    met-new = rw (meet-new M q n p (T .kept .ready) s t ht new) at head-move
+
+    pub tried-new : M .breaks t ≡ false → Tried M s ms₀ q₀ n₀ p₀ (wordsFrom c (w + 1) (k - (w + 1))) (set q n t) (n + 1) (set p t (s + 1))
+    tried-new b = record { kept = kept-new; same = rw b at met-new }
+
+    pub tried-broke : M .breaks t ≡ true → Broke M s ms₀ q₀ n₀ p₀ (set q n t) (n + 1) (set p t (s + 1))
+    tried-broke b = record { kept = kept-new; same = rw b at met-new }
+
+-- The same by what `meet` promises.
+module _ {M : Transitions} {s : ℕ} {ms₀ : List Move} {q₀ : List ℕ} {n₀ : ℕ} {p₀ : List ℕ} (a b : List Move) {q₁ : List ℕ} {n₁ : ℕ} {p₁ : List ℕ} (T : Tried M s ms₀ q₀ n₀ p₀ (a ++ b) q₁ n₁ p₁) where
+  parted : andThen (tryMoves M s a (seen M q₁ n₁ p₁)) (tryMoves M s b) ≡ tryMoves M s ms₀ (seen M q₀ n₀ p₀)
+  parted = sym (tryMoves-append M s a b (seen M q₁ n₁ p₁)) ∙ T .same
+
+  -- The moves a were tried whole: b is left.
+  pub tried-all : {q₂ : List ℕ} {n₂ : ℕ} {p₂ : List ℕ} → Tried M s a q₁ n₁ p₁ [] q₂ n₂ p₂ → Tried M s ms₀ q₀ n₀ p₀ b q₂ n₂ p₂
+  unfolding tryMoves
+  tried-all U = record { kept = kept-trans (T .kept) (U .kept); same = rw (← U .same) at parted }
+
+  -- The moves a broke.
+  pub broke-all : {q₂ : List ℕ} {n₂ : ℕ} {p₂ : List ℕ} → Broke M s a q₁ n₁ p₁ q₂ n₂ p₂ → Broke M s ms₀ q₀ n₀ p₀ q₂ n₂ p₂
+  broke-all U = record { kept = kept-trans (T .kept) (U .kept); same = rw (← U .same) at parted }
+
+-- The queue.
+
+pub explore-end : (M : Transitions) (f head : ℕ) (x : Seen) → length (x .queue) ≤ head → explore M f head x ≡ through x
+unfolding explore
+explore-end M zero head x h = refl
+explore-end M (suc f) head x h = rw (le-ltb head (length (x .queue)) h)
+
+pub record Gone (M : Transitions) (q₀ : List ℕ) (n₀ : ℕ) (p₀ : List ℕ) (head : ℕ) (q : List ℕ) (n : ℕ) (p : List ℕ) : Type 0 where
+  pub kept : Kept M q₀ p₀ q n p
+  pub same : explore M (M .size - head) head (seen M q n p) ≡ explore M (M .size) 0 (seen M q₀ n₀ p₀)
+
+pub gone-refl : (M : Transitions) (q : List ℕ) (n : ℕ) (p : List ℕ) → Ready M q n p → Gone M q n p 0 q n p
+gone-refl M q n p R = record { kept = kept-refl M q n p R; same = let e : M .size - 0 ≡ M .size = omega arith in rw e }
+
+module _ {M : Transitions} {q₀ : List ℕ} {n₀ : ℕ} {p₀ : List ℕ} {head : ℕ} {q : List ℕ} {n : ℕ} {p : List ℕ} (G : Gone M q₀ n₀ p₀ head q n p) where
+  queue-count : length (take n q) ≡ n
+  queue-count = length-take-le n q (omega (arith, count-le M q n p (G .kept .ready), G .kept .ready .queue-room))
+
+  module _ (h : head < n) where
+    -- What the search does with the state at `head`.
+    expanded : andThen (tryMoves M (getD q head 0) (moves M) (seen M q n p)) (explore M (M .size - (head + 1)) (head + 1)) ≡ explore M (M .size) 0 (seen M q₀ n₀ p₀)
+    unfolding explore
+    expanded =
+        let e : M .size - head ≡ suc (M .size - (head + 1)) = omega (arith, count-le M q n p (G .kept .ready)) in
+        rw (e, queue-count, lt-ltb head n h, getD-take n q head 0 h) at (G .same)
+
+    pub gone-next : {q₁ : List ℕ} {n₁ : ℕ} {p₁ : List ℕ} → Tried M (getD q head 0) (moves M) q n p [] q₁ n₁ p₁ → Gone M q₀ n₀ p₀ (head + 1) q₁ n₁ p₁
+    unfolding tryMoves
+    gone-next U = record { kept = kept-trans (G .kept) (U .kept); same = rw (← U .same) at expanded }
+
+    pub gone-broke : {q₁ : List ℕ} {n₁ : ℕ} {p₁ : List ℕ} → Broke M (getD q head 0) (moves M) q n p q₁ n₁ p₁ → Explored M q₀ n₀ p₀ q₁ n₁ p₁ true
+    gone-broke U = record { kept = kept-trans (G .kept) (U .kept); what = rw (← U .same) at expanded }
+
+  pub gone-end : n ≤ head → Explored M q₀ n₀ p₀ q n p false
+  gone-end h = record { kept = G .kept; what = sym (explore-end M (M .size - head) head (seen M q n p) (rw queue-count h)) ∙ G .same }
+
+-- The loops' own steps.
+
+pub words-start : {M : Transitions} {s : ℕ} (c n : ℕ) {q : List ℕ} {k : ℕ} {p : List ℕ} → Ready M q k p → Tried M s (wordsFrom c 0 n) q k p (wordsFrom c 0 (n - 0)) q k p
+words-start {M} {s} c n {q} {k} {p} R = let e : n - 0 ≡ n = omega arith in rw e (tried-refl M s (wordsFrom c 0 n) q k p R)
+
+-- After the last word of a command, the next command.
+pub command-done : {M : Transitions} {s : ℕ} {ms₀ : List Move} {q₀ : List ℕ} {n₀ : ℕ} {p₀ : List ℕ} (c n k w : ℕ) {q₁ : List ℕ} {n₁ : ℕ} {p₁ : List ℕ} {q₂ : List ℕ} {n₂ : ℕ} {p₂ : List ℕ}
+    → k ≡ M .words c → c < n → w ≤ k → k ≤ w
+    → Tried M s ms₀ q₀ n₀ p₀ (movesFrom M c (n - c)) q₁ n₁ p₁ → Tried M s (wordsFrom c 0 k) q₁ n₁ p₁ (wordsFrom c w (k - w)) q₂ n₂ p₂ → Tried M s ms₀ q₀ n₀ p₀ (movesFrom M (c + 1) (n - (c + 1))) q₂ n₂ p₂
+command-done {M} c n k w e h le ge T U =
+    let f : w ≡ k = omega arith in
+    tried-all (wordsFrom c 0 (M .words c)) (movesFrom M (c + 1) (n - (c + 1))) (rw (moves-next M c n h) at T) (rw (f, words-none, e) at U)
+
+pub command-broke : {M : Transitions} {s : ℕ} {ms₀ : List Move} {q₀ : List ℕ} {n₀ : ℕ} {p₀ : List ℕ} (c n k : ℕ) {q₁ : List ℕ} {n₁ : ℕ} {p₁ : List ℕ} {q₂ : List ℕ} {n₂ : ℕ} {p₂ : List ℕ}
+    → k ≡ M .words c → c < n
+    → Tried M s ms₀ q₀ n₀ p₀ (movesFrom M c (n - c)) q₁ n₁ p₁ → Broke M s (wordsFrom c 0 k) q₁ n₁ p₁ q₂ n₂ p₂ → Broke M s ms₀ q₀ n₀ p₀ q₂ n₂ p₂
+command-broke {M} c n k e h T U = broke-all (wordsFrom c 0 (M .words c)) (movesFrom M (c + 1) (n - (c + 1))) (rw (moves-next M c n h) at T) (rw e at U)
+
+-- After the last command.
+pub commands-done : {M : Transitions} {s : ℕ} {ms₀ : List Move} {q₀ : List ℕ} {n₀ : ℕ} {p₀ : List ℕ} (c n : ℕ) {q : List ℕ} {k : ℕ} {p : List ℕ}
+    → c ≤ n → n ≤ c → Tried M s ms₀ q₀ n₀ p₀ (movesFrom M c (n - c)) q k p → Tried M s ms₀ q₀ n₀ p₀ [] q k p
+commands-done {M} c n le ge T = let f : c ≡ n = omega arith in rw (f, moves-none) at T
+
+-- The start states.
+
+pub record Taking (M : Transitions) (q₀ p₀ : List ℕ) (s : ℕ) (q : List ℕ) (n : ℕ) (p : List ℕ) : Type 0 where
+  pub kept : Kept M q₀ p₀ q n p
+  pub same : takeIn M (M .size - s) s (seen M q n p) ≡ takeIn M (M .size) 0 (seen M q₀ 0 p₀)
+
+pub taking-refl : (M : Transitions) (q p : List ℕ) → Ready M q 0 p → Taking M q p 0 q 0 p
+taking-refl M q p R = record { kept = kept-refl M q 0 p R; same = let e : M .size - 0 ≡ M .size = omega arith in ap (λ (f : ℕ). takeIn M f 0 (seen M q 0 p)) e }
+
+module _ {M : Transitions} {q₀ p₀ : List ℕ} {s : ℕ} {q : List ℕ} {n : ℕ} {p : List ℕ} (T : Taking M q₀ p₀ s q n p) where
+  pub taking-end : M .size ≤ s → Took M q₀ p₀ q n p false
+  unfolding takeIn
+  taking-end h = record { kept = T .kept; what = let e : M .size - s ≡ 0 = omega arith in rw e at (T .same) }
+
+  module _ (h : s < M .size) where
+    taking-one : andThen (cond (M .starts s) (meet M s s (seen M q n p)) (through (seen M q n p))) (takeIn M (M .size - (s + 1)) (s + 1)) ≡ takeIn M (M .size) 0 (seen M q₀ 0 p₀)
+    unfolding takeIn
+    taking-one = let e : M .size - s ≡ suc (M .size - (s + 1)) = omega arith in rw e at (T .same)
+
+    pub taking-skip : M .starts s ≡ false → Taking M q₀ p₀ (s + 1) q n p
+    taking-skip f = record { kept = T .kept; same = rw f at taking-one }
+
+    module _ {q₁ : List ℕ} {n₁ : ℕ} {p₁ : List ℕ} {b : Bool} (st : M .starts s ≡ true) (U : Meets M s s q n p q₁ n₁ p₁ b) where
+      taking-met : andThen (progress b (seen M q₁ n₁ p₁)) (takeIn M (M .size - (s + 1)) (s + 1)) ≡ takeIn M (M .size) 0 (seen M q₀ 0 p₀)
+      taking-met = rw (st, ← U .what) at taking-one
+
+      pub taking-next : b ≡ false → Taking M q₀ p₀ (s + 1) q₁ n₁ p₁
+      taking-next f = record { kept = kept-trans (T .kept) (U .kept); same = rw f at taking-met }
+
+      pub taking-broke : b ≡ true → Took M q₀ p₀ q₁ n₁ p₁ true
+      taking-broke f = record { kept = kept-trans (T .kept) (U .kept); what = rw f at taking-met }
+
+-- The whole search.
+
+pub marked-none : (n : ℕ) → marked (replicate n 0) ≡ 0
+unfolding marked
+marked-none zero = refl
+marked-none (suc n) = marked-none n
+
+module _ (M : Transitions) (q p₀ p : List ℕ) (e : p ≡ replicate (M .size) 0 ++ drop (M .size) p₀) (hq : M .size ≤ length q) (hp : M .size ≤ length p₀) where
+  cleared-front : take (M .size) p ≡ replicate (M .size) 0
+  cleared-front = ap (take (M .size)) e ∙ take-at (replicate (M .size) 0) (drop (M .size) p₀) (M .size) (length-replicate (M .size) 0)
+
+  cleared-length : length p ≡ length p₀
+  cleared-length = ap length e ∙ length-append (replicate (M .size) 0) (drop (M .size) p₀) ∙ ap (λ (k : ℕ). k + length (drop (M .size) p₀)) (length-replicate (M .size) 0) ∙ omega (arith, length-drop (M .size) p₀)
+
+  pub cleared : Kept M q p₀ q 0 p
+  cleared =
+      record {
+        ready =
+            record {
+              queue-room = hq;
+              parent-room = omega (arith, cleared-length);
+              counted = sym (ap marked cleared-front ∙ marked-none (M .size));
+              below = λ i h. omega arith;
+            };
+        few = omega arith;
+        queue-rest = refl;
+        parent-rest = ap (drop (M .size)) e ∙ drop-at (replicate (M .size) 0) (drop (M .size) p₀) (M .size) (length-replicate (M .size) 0);
+        queue-length = refl;
+        parent-length = cleared-length;
+      }
+
+  taken-in : {q₁ : List ℕ} {n₁ : ℕ} {p₁ : List ℕ} {b : Bool} → Took M q p q₁ n₁ p₁ b → andThen (progress b (seen M q₁ n₁ p₁)) (explore M (M .size) 0) ≡ search M
+  unfolding search
+  taken-in T = rw (T .what, cleared-front)
+
+  pub ran-broke : {q₁ : List ℕ} {n₁ : ℕ} {p₁ : List ℕ} {b : Bool} → Took M q p q₁ n₁ p₁ b → b ≡ true → Ran M q p₀ q₁ n₁ p₁ b
+  ran-broke T f = record { kept = kept-trans cleared (T .kept); what = rw f (rw f at (taken-in T)) }
+
+  pub ran-on : {q₁ : List ℕ} {n₁ : ℕ} {p₁ : List ℕ} {b : Bool} → Took M q p q₁ n₁ p₁ b → b ≡ false → {q₂ : List ℕ} {n₂ : ℕ} {p₂ : List ℕ} {d : Bool} → Explored M q₁ n₁ p₁ q₂ n₂ p₂ d → Ran M q p₀ q₂ n₂ p₂ d
+  ran-on T f E = record { kept = kept-trans (kept-trans cleared (T .kept)) (E .kept); what = E .what ∙ (rw f at (taken-in T)) }
+
+-- A search in portions: a portion of a states, then one of b, is one of a + b.
+explore-add-next : (M : Transitions) (a b head : ℕ) (x : Seen) → ((y : Seen) → explore M (a + b) (head + 1) y ≡ andThen (explore M a (head + 1) y) (explore M b (head + suc a)))
+    → (t : Bool) → ltb head (length (x .queue)) ≡ t
+    → cond t (andThen (tryMoves M (getD (x .queue) head 0) (moves M) x) (explore M (a + b) (head + 1))) (through x)
+    ≡ andThen (cond t (andThen (tryMoves M (getD (x .queue) head 0) (moves M) x) (explore M a (head + 1))) (through x)) (explore M b (head + suc a))
+explore-add-next M a b head x rec true e =
+    let o : Progress = tryMoves M (getD (x .queue) head 0) (moves M) x in
+    ap (andThen o) (fun-ext rec) ∙ sym (andThen-assoc o (explore M a (head + 1)) (explore M b (head + suc a)))
+explore-add-next M a b head x rec false e = sym (explore-end M b (head + suc a) x (omega (arith, ltb-false head (length (x .queue)) e)))
+
+-- The first move from s to t.
+
+module _ (M : Transitions) (s t : ℕ) {X : Move} where
+  pub look-start : (c n k : ℕ) → k ≡ M .words c → c < n → firstMove M s t (movesFrom M c (n - c)) ≡ X → firstMove M s t (wordsFrom c 0 (k - 0) ++ movesFrom M (c + 1) (n - (c + 1))) ≡ X
+  look-start c n k e h x = let f : k - 0 ≡ k = omega arith in rw (f, e) (rw (moves-next M c n h) at x)
+
+  pub look-next : (c w k : ℕ) (r : List Move) → w < k → (M .step s c w ≡ t → ⊥) → firstMove M s t (wordsFrom c w (k - w) ++ r) ≡ X → firstMove M s t (wordsFrom c (w + 1) (k - (w + 1)) ++ r) ≡ X
+  unfolding firstMove
+  look-next c w k r h n x = rw (words-next c w k h, ne-eqb (M .step s c w) t n) at x
+
+  pub look-found : (c w k : ℕ) (r : List Move) → w < k → M .step s c w ≡ t → firstMove M s t (wordsFrom c w (k - w) ++ r) ≡ X → moveOf c w ≡ X
+  unfolding firstMove
+  look-found c w k r h e x = rw (words-next c w k h, eq-eqb (M .step s c w) t e) at x
+
+  pub look-end : (c w k : ℕ) (r : List Move) → w ≤ k → k ≤ w → firstMove M s t (wordsFrom c w (k - w) ++ r) ≡ X → firstMove M s t r ≡ X
+  look-end c w k r a b x = let f : w ≡ k = omega arith in rw (f, words-none) at x
+
+  pub look-last : (c n : ℕ) → c ≤ n → n ≤ c → firstMove M s t (movesFrom M c (n - c)) ≡ X → moveOf 0 0 ≡ X
+  unfolding firstMove
+  look-last c n a b x = let f : c ≡ n = omega arith in rw (f, moves-none) at x

@@ -1,0 +1,121 @@
+-- The search's verdict is right, and the first breaking run is one run.
+-- Assumes nothing.
+use Prim.Native.Nat.{ℕ, _+_, _-_, _<_, _≤_}
+use mathlib.Core.Path.{_≡_, sym, ap, _∙_}
+use mathlib.Core.Logic.{_⊎_, inl, inr, ⊎-elim}
+use mathlib.Core.Bool.{true, false, false≢true}
+use mathlib.Core.List.{List, [], _∷_, _++_, map, map-append}
+use native.Mathlib.Omega.{arith}
+use lib.ListN.{length, getD, length-append, length-map, List·getD-map}
+use lib.Seq.{getD-at}
+use lib.Dec.{ltb}
+use borrow.Author.Tests.{lt-ltb, ltb-true}
+use Rattle.search.specs.working.Transitions.{Transitions, Lawful, Move}
+use Rattle.search.specs.working.Exploring.{Seen, Progress, broke, through, search}
+use Rattle.search.specs.working.Runs.{Run, startsAt, goesOn, final, Valid, MoveBefore, Before, First, runTo}
+use Rattle.search.specs.working.Verdicts.{reached, verdictOf, verdict, Reached, AllReached, Right}
+use Rattle.search.proofs.Order.{lt-or-ge}
+use Rattle.search.proofs.First.{at, Ended, Closed, Searched, searched, traced-met, run-to}
+
+last-of : (l : List ℕ) (v : ℕ) → getD (l ++ v ∷ []) (length (l ++ v ∷ []) - 1) 0 ≡ v
+last-of l v = getD-at l v [] 0 (length (l ++ v ∷ []) - 1) (omega (arith, length-append l (v ∷ [])))
+
+pub queue-last : (M : Transitions) (x : Seen) (E : Ended M x) → getD (x .queue) (length (x .queue) - 1) 0 ≡ final M (E .last)
+queue-last M x E = rw (E .queue-is, map-append) (last-of (map (final M) (E .runs)) (final M (E .last)))
+
+run-read : (M : Transitions) (x : Seen) (E : Ended M x) → runTo M (x .parent) (M .size) (getD (x .queue) (length (x .queue) - 1) 0) ≡ E .last
+run-read M x E = rw (queue-last M x E) (run-to M (x .parent) (E .last) (E .traced) (M .size) (omega (arith, E .short)))
+
+closed-safe : (M : Transitions) (x : Seen) → Closed M x → AllReached M (map (ltb 0) (x .parent))
+closed-safe M x C =
+    record {
+      sized = length-map (x .parent) (ltb 0) ∙ C .good .sized;
+      exact = λ t h. (reached t h, marked t);
+      keeps = λ r v. let c = C .reached r v in ap (M .breaks) (sym (c .2)) ∙ C .good .reached (c .0) (c .1);
+    }
+  where
+    entry : (t : ℕ) → getD (map (ltb 0) (x .parent)) t false ≡ ltb 0 (getD (x .parent) t 0)
+    entry t = List·getD-map (ltb 0) (x .parent) t 0
+
+    reached : (t : ℕ) → t < M .size → getD (map (ltb 0) (x .parent)) t false ≡ true → Reached M t
+    reached t h e =
+        let p : 0 < getD (x .parent) t 0 = ltb-true 0 (getD (x .parent) t 0) (sym (entry t) ∙ e) in
+        let g = C .good .met t h (λ z. omega arith) in
+        record { run = at (C .runs) (g .0); valid = C .good .valid (g .0) (g .1); ends = g .2 }
+
+    marked : (t : ℕ) → Reached M t → getD (map (ltb 0) (x .parent)) t false ≡ true
+    marked t r =
+        let c = C .reached (r .run) (r .valid) in
+        let p : 0 < getD (x .parent) t 0 = positive (getD (x .parent) t 0) (λ z. traced-met M (x .parent) (at (C .runs) (c .0)) (C .good .traced (c .0) (c .1)) (ap (λ (u : ℕ). getD (x .parent) u 0) (c .2 ∙ r .ends) ∙ z)) in
+        entry t ∙ lt-ltb 0 (getD (x .parent) t 0) p
+      where
+        positive : (n : ℕ) → (n ≡ 0 → ⊥) → 0 < n
+        positive n h = omega arith
+
+right-of : (M : Transitions) (o : Progress) → Searched M o → Right M (verdictOf M o)
+right-of M (broke x) E = rw (run-read M x E) (E .first)
+right-of M (through x) C = closed-safe M x C
+
+pub verdict-right : (M : Transitions) → Lawful M → Right M (verdict M)
+unfolding verdict
+verdict-right M law = right-of M (search M) (searched M law)
+
+-- The order is total.
+
+move-total : (a b : Move) → MoveBefore a b ⊎ ((a ≡ b) ⊎ MoveBefore b a)
+move-total a b =
+    ⊎-elim
+    (λ (h : a .command < b .command). inl (inl h))
+    (λ (h : b .command ≤ a .command).
+    ⊎-elim
+    (λ (k : b .command < a .command). inr (inr (inl k)))
+    (λ (k : a .command ≤ b .command).
+    let e : a .command ≡ b .command = omega arith in
+    ⊎-elim
+    (λ (u : a .word < b .word). inl (inr (e, u)))
+    (λ (u : b .word ≤ a .word).
+    ⊎-elim
+    (λ (v : b .word < a .word). inr (inr (inr (sym e, v))))
+    (λ (v : a .word ≤ b .word). let f : a .word ≡ b .word = omega arith in inr (inl (λ i. record { command = e i; word = f i })))
+    (lt-or-ge (b .word) (a .word)))
+    (lt-or-ge (a .word) (b .word)))
+    (lt-or-ge (b .command) (a .command)))
+    (lt-or-ge (a .command) (b .command))
+
+pub before-total : (a b : Run) → Before a b ⊎ ((a ≡ b) ⊎ Before b a)
+before-total (startsAt s) (startsAt t) =
+    ⊎-elim
+    (λ (h : s < t). inl h)
+    (λ (h : t ≤ s). ⊎-elim (λ (k : t < s). inr (inr k)) (λ (k : s ≤ t). let e : s ≡ t = omega arith in inr (inl (ap startsAt e))) (lt-or-ge t s))
+    (lt-or-ge s t)
+before-total (startsAt s) (goesOn r m) = inl tt
+before-total (goesOn q l) (startsAt t) = inr (inr tt)
+before-total (goesOn q l) (goesOn r m) =
+    ⊎-elim
+    (λ h. inl (inl h))
+    (λ h.
+    ⊎-elim
+    (λ e.
+    ⊎-elim
+    (λ k. inl (inr (e, k)))
+    (λ k. ⊎-elim (λ f. inr (inl (ap (λ (x : Run). goesOn x l) e ∙ ap (λ (x : Move). goesOn r x) f))) (λ b. inr (inr (inr (sym e, b)))) k)
+    (move-total l m))
+    (λ k. inr (inr (inl k)))
+    h)
+    (before-total q r)
+
+-- So there is one first breaking run.
+pub first-unique : (M : Transitions) (a b : Run) → First M a → First M b → a ≡ b
+first-unique M a b F G =
+    ⊎-elim
+    (λ h. absurd (false≢true (sym (G .first a (F .valid) h) ∙ F .breaking)))
+    (λ h. ⊎-elim (λ e. e) (λ k. absurd (false≢true (sym (F .first b (G .valid) k) ∙ G .breaking))) h)
+    (before-total a b)
+
+-- A set of states with the start states in it that no step leaves holds every state that a run reaches.
+pub least : (M : Transitions) (In : ℕ → Type 0)
+    → ((s : ℕ) → s < M .size → M .starts s ≡ true → In s)
+    → ((s c w : ℕ) → In s → c < M .commands → w < M .words c → In (M .step s c w))
+    → (r : Run) → Valid M r → In (final M r)
+least M In st cl (startsAt s) v = st s (v .0) (v .1)
+least M In st cl (goesOn r m) v = cl (final M r) (m .command) (m .word) (least M In st cl r (v .0)) (v .1 .0) (v .1 .1)

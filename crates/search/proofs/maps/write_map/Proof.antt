@@ -1,0 +1,62 @@
+-- `write_map` meets its contract: what is left of the map, stored behind what is there, gives the whole.
+-- Assumes nothing.
+use Prim.Native.Nat.{_+_, _-_, _≤_}
+use mathlib.Core.Path.{_≡_, refl, _∙_}
+use mathlib.Core.List.{map}
+use native.Mathlib.Omega.{arith}
+use lib.ListN.{length, take, length-set}
+use lib.Seq.{sets}
+use lib.Dec.{ltb}
+use Rattle.search.specs.working.Written.{mapFrom}
+use Rattle.search.proofs.Map.{map-start, map-next, map-done}
+use Rattle.search.proofs.maps.write_map.Statement.{statement}
+use Rattle.search.proofs.maps.write_map.Tie as tie
+
+abbrev Inv-loop : tie.InvT-loop
+Inv-loop m parent n out₀ i₀ out i = (i ≤ n) × (sets out (15 + i) (mapFrom (map (ltb 0) (take m parent)) i (n - i)) ≡ sets out₀ 15 (mapFrom (map (ltb 0) (take m parent)) 0 n)) × (length out ≡ length out₀)
+
+abbrev μ-loop : tie.MeasureT-loop
+μ-loop m parent n out₀ i₀ out i = n - i
+
+loop-holds : tie.Need-loop-holds Inv-loop μ-loop
+loop-holds c = (omega arith, map-start _ _ _, refl)
+
+map-byte-requires : tie.Need-map-byte-requires Inv-loop μ-loop
+map-byte-requires c κs = omega arith
+
+add-out : tie.Need-add-out Inv-loop μ-loop
+add-out c = omega arith
+
+slice-write-out : tie.Need-slice-write-out Inv-loop μ-loop
+slice-write-out c = omega arith
+
+add-i : tie.Need-add-i Inv-loop μ-loop
+add-i c = omega arith
+
+loop-less : tie.Need-loop-less Inv-loop μ-loop
+loop-less c = omega arith
+
+loop-again : tie.Need-loop-again Inv-loop μ-loop
+loop-again c = (omega arith, map-next _ _ _ _ _ (c .before .loop-test .taken) (c .map-byte .ensures) (c .before .before .loop .inv .1), length-set (c .before .before .loop .out) (15 + c .before .before .loop .i) (c .map-byte .result) ∙ c .before .before .loop .inv .2)
+
+same-length : tie.Need-same-length Inv-loop μ-loop
+same-length c = c .before .loop .inv .2
+
+returns : tie.Need-returns Inv-loop μ-loop
+returns c = map-done _ _ _ _ (c .loop-test .left) (c .before .loop .inv .1)
+
+pub write-map-spec : {M : Type 1} → statement M
+write-map-spec =
+    tie.close
+    (tie.spec
+    Inv-loop
+    μ-loop
+    loop-holds
+    map-byte-requires
+    add-out
+    slice-write-out
+    add-i
+    loop-less
+    loop-again
+    same-length
+    returns)

@@ -1,0 +1,40 @@
+-- What the search finds of a model: its first breaking run, or the map of exactly the states that runs reach.
+-- Assumes nothing.
+use mathlib.Core.Path.{_≡_}
+use mathlib.Core.Logic.{_↔_}
+use mathlib.Core.Bool.{true}
+use mathlib.Core.List.{List}
+use Prim.Native.Nat.{ℕ, _<_}
+use lib.ListN.{length, getD}
+use Rattle.notation.specs.Model.{Model}
+use Rattle.meaning.specs.Meaning.{State, Move, IsRun, last, Safe, Unsafe}
+use Rattle.meaning.specs.OneRow.{One, stateNumber, stateCount, TraceStep}
+use Rattle.meaning.specs.Evidence.{Sheet, safe, trace, inMap, TracePasses}
+use Rattle.acceptance.specs.Sheets.{mapLength}
+use Rattle.acceptance.specs.SheetTexts.{AreBytes, unusedClear}
+use Rattle.search.specs.Order.{RunBefore}
+
+-- Some run of the table of one row leads to the state numbered t.
+abbrev pub Reaches : Model → ℕ → Type 0
+Reaches m t = (s : State One) × (xs : List (Move One)) × IsRun m s xs × (stateNumber (last s xs) ≡ t)
+
+-- The map has exactly those states. It has its length, its numbers are bytes, and bits that no state uses are 0.
+pub record ExactMap (m : Model) (map : List ℕ) : Type 0 where
+  pub long : length map ≡ mapLength (stateCount m)
+  pub bytes : AreBytes map
+  pub clear : unusedClear (stateCount m) (getD map 0 0) ≡ true
+  pub exact : (t : ℕ) → t < stateCount m → (inMap map t ≡ true) ↔ Reaches m t
+
+-- The trace is a run to a state that violates `keep`, and no other such run comes before it.
+pub record FirstBreak (m : Model) (s : ℕ) (xs : List TraceStep) : Type 0 where
+  pub breaks : TracePasses m s xs
+  pub first : (t : ℕ) (ys : List TraceStep) → TracePasses m t ys → ¬ (RunBefore t ys s xs)
+
+-- What the search finds: a map where no run goes wrong, the first run that goes wrong where one does.
+abbrev pub Finds : Model → Sheet → Type 0
+Finds m (safe map) = Safe m One × ExactMap m map
+Finds m (trace s xs) = Unsafe m One × FirstBreak m s xs
+
+-- It finds one thing only.
+abbrev pub FindsOnce : Type 0
+FindsOnce = (m : Model) (x y : Sheet) → Finds m x → Finds m y → x ≡ y

@@ -1,0 +1,5 @@
+-- What the search finds, and in `working` how it goes about it.
+pub mod Order
+pub mod Findings
+pub mod working
+pub mod Promises

@@ -1,0 +1,43 @@
+-- The sheet that a verdict gives, the transitions of a system, and when transitions are those of a model's table of one row.
+-- Assumes nothing.
+use mathlib.Core.Path.{_≡_}
+use mathlib.Core.List.{List, [], _∷_, _++_}
+use Prim.Native.Nat.{ℕ, _^_, _<_}
+use lib.ListN.{length}
+use Rattle.notation.specs.Model.{Model}
+use Rattle.meaning.specs.Meaning.{commandAt}
+use Rattle.meaning.specs.OneRow.{stateCount, wordCount, starts, breaks, next, TraceStep}
+use Rattle.meaning.specs.Evidence.{Sheet, safe, trace}
+use Rattle.acceptance.specs.Sheets.{System, size, mapLength}
+use Rattle.search.specs.working.Transitions.{Transitions}
+use Rattle.search.specs.working.Runs.{Run, startsAt, goesOn, final, startOf}
+use Rattle.search.specs.working.Verdicts.{Verdict, firstRun, reached, verdict}
+use Rattle.search.specs.working.Written.{mapFrom}
+
+-- The steps of a run, each with the state after it.
+unfoldable pub stepsOf : Transitions → Run → List TraceStep
+stepsOf T (startsAt s) = []
+stepsOf T (goesOn r k) = stepsOf T r ++ (record { command = k .command; word = k .word; after = final T (goesOn r k) } ∷ [])
+
+-- The sheet of a verdict.
+unfoldable pub sheetFor : Transitions → Verdict → Sheet
+sheetFor T (firstRun r) = trace (startOf r) (stepsOf T r)
+sheetFor T (reached b) = safe (mapFrom b 0 (mapLength (T .size)))
+
+-- The sheet that the search finds.
+unfoldable pub foundIn : Transitions → Sheet
+foundIn T = sheetFor T (verdict T)
+
+-- What the search sees of a system.
+abbrev pub transitionsOf : System → Transitions
+transitionsOf M =
+    record { size = size M; commands = M .commands; words = λ k. 2 ^ M .stars k; starts = M .starts; breaks = M .breaks; step = M .step }
+
+-- The transitions agree with the model's table of one row on all numbers in range.
+pub record Agrees (T : Transitions) (m : Model) : Type 0 where
+  pub size : T .size ≡ stateCount m
+  pub commands : T .commands ≡ length (m .commands)
+  pub words : (k : ℕ) → k < length (m .commands) → T .words k ≡ wordCount (commandAt m k)
+  pub starts : (s : ℕ) → s < stateCount m → T .starts s ≡ starts m s
+  pub breaks : (s : ℕ) → s < stateCount m → T .breaks s ≡ breaks m s
+  pub step : (s k w : ℕ) → s < stateCount m → k < length (m .commands) → T .step s k w ≡ next m s k w

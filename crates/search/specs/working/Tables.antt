@@ -1,0 +1,55 @@
+-- The lent tables and what they hold of the search.
+-- Assumes nothing.
+use Prim.Native.Nat.{ℕ, suc, zero, _<_, _≤_}
+use mathlib.Core.Path.{_≡_}
+use mathlib.Core.Bool.{Bool}
+use mathlib.Core.List.{List, [], _∷_}
+use lib.ListN.{length, getD, take, drop}
+use Rattle.search.specs.working.Transitions.{Transitions}
+use Rattle.search.specs.working.Exploring.{Seen, progress, meet, takeIn, explore, search}
+
+-- What the tables say: the first n entries of one are the queue, the first `size` of the other the parents.
+abbrev pub seen : Transitions → List ℕ → ℕ → List ℕ → Seen
+seen M q n p = record { queue = take n q; parent = take (M .size) p }
+
+-- How many entries are not 0.
+unfoldable pub marked : List ℕ → ℕ
+marked [] = 0
+marked (zero ∷ l) = marked l
+marked (suc v ∷ l) = suc (marked l)
+
+-- Tables with room, whose queue has as many places as states are met.
+pub record Ready (M : Transitions) (q : List ℕ) (n : ℕ) (p : List ℕ) : Type 0 where
+  pub queue-room : M .size ≤ length q
+  pub parent-room : M .size ≤ length p
+  pub counted : n ≡ marked (take (M .size) p)
+  pub below : (i : ℕ) → i < n → getD q i 0 < M .size
+
+-- Tables that are ready, as long as they were, and unchanged from `size` on.
+pub record Kept (M : Transitions) (q₀ p₀ q : List ℕ) (n : ℕ) (p : List ℕ) : Type 0 where
+  pub ready : Ready M q n p
+  pub few : n ≤ M .size
+  pub queue-rest : drop (M .size) q ≡ drop (M .size) q₀
+  pub parent-rest : drop (M .size) p ≡ drop (M .size) p₀
+  pub queue-length : length q ≡ length q₀
+  pub parent-length : length p ≡ length p₀
+
+-- After the queue was gone through from (q₀, n₀, p₀).
+pub record Explored (M : Transitions) (q₀ : List ℕ) (n₀ : ℕ) (p₀ q : List ℕ) (n : ℕ) (p : List ℕ) (found : Bool) : Type 0 where
+  pub kept : Kept M q₀ p₀ q n p
+  pub what : progress found (seen M q n p) ≡ explore M (M .size) 0 (seen M q₀ n₀ p₀)
+
+-- After t was met from s.
+pub record Meets (M : Transitions) (s t : ℕ) (q₀ : List ℕ) (n₀ : ℕ) (p₀ q : List ℕ) (n : ℕ) (p : List ℕ) (found : Bool) : Type 0 where
+  pub kept : Kept M q₀ p₀ q n p
+  pub what : progress found (seen M q n p) ≡ meet M s t (seen M q₀ n₀ p₀)
+
+-- After the start states were taken in.
+pub record Took (M : Transitions) (q₀ p₀ q : List ℕ) (n : ℕ) (p : List ℕ) (found : Bool) : Type 0 where
+  pub kept : Kept M q₀ p₀ q n p
+  pub what : progress found (seen M q n p) ≡ takeIn M (M .size) 0 (seen M q₀ 0 p₀)
+
+-- After the whole search, on tables that held anything before.
+pub record Ran (M : Transitions) (q₀ p₀ q : List ℕ) (n : ℕ) (p : List ℕ) (found : Bool) : Type 0 where
+  pub kept : Kept M q₀ p₀ q n p
+  pub what : progress found (seen M q n p) ≡ search M
