@@ -7,12 +7,13 @@ from collections import Counter
 
 from acceptance import answer
 from cases import G, G_SHEET, H, map_for, table_of
+from copied_runs import copied_run_holds
 from phrases import model
 from searching import search
 from sheets import (Map, Trace, contents, header, map_sheet, record,
                     step_record, trace_sheet)
 from small_models import small_text
-from tables import goes_wrong, is_broken, is_start, run, outer_stars
+from tables import goes_wrong
 
 
 def by_map(text, *members):
@@ -134,28 +135,6 @@ class Sheets(unittest.TestCase):
         self.assertEqual(contents(map_sheet(table, {1, 3}), table),
                          Map(frozenset({1, 3})))
         self.assertEqual(contents(G_SHEET, table), Trace(1, ((0, 3, 7),)))
-
-
-def spread(table, state, rows):
-    """The state of so many rows, each a copy of the one-row state's row."""
-    bits = tuple(state >> j & 1 == 1 for j in range(table.names))
-    return bits[:table.shared], (bits[table.shared:],) * rows
-
-
-def copied_run_holds(table, start, steps, rows):
-    state = spread(table, start, rows)
-    if not is_start(table.model, state):
-        return False
-    for number, word, after in steps:
-        command = table.model.commands[number]
-        chosen = {j: word >> j & 1 == 1 for j in range(command.stars)}
-        outside = set(outer_stars(command))
-        outer = {j: bit for j, bit in chosen.items() if j in outside}
-        inner = {j: bit for j, bit in chosen.items() if j not in outside}
-        state = run(command, outer, [inner] * rows, state)
-        if state != spread(table, after, rows):
-            return False
-    return is_broken(table.model, state)
 
 
 class ManyRows(unittest.TestCase):

@@ -49,13 +49,13 @@ pub record Flat (c : Code) (m : Model) : Type 0 where
   pub same : (b : List ℕ) → outcomeOf (systemIn (c .shared) (c .row) (c .commands) (c .ops) (c .ends) (c .stars)) b ≡ outcomeOf (systemOf m) b
 
 module _ (m : Model) (g : Regular m) (ns : List Name) where
-  abbrev counts : List ℕ
+  abbrev pub counts : List ℕ
   counts = map (λ k. length (stars k)) (m .commands)
 
   counts-length : length counts ≡ length (m .commands)
   counts-length = length-map (m .commands) (λ k. length (stars k))
 
-  star-count : (k : ℕ) → k < length (m .commands) → starsIn (filled 16 counts) k ≡ length (stars (commandAt m k))
+  pub star-count : (k : ℕ) → k < length (m .commands) → starsIn (filled 16 counts) k ≡ length (stars (commandAt m k))
   unfolding starsIn
   star-count k h =
       ap (λ (l : List ℕ). getD l k 0) (filled-front 16 counts (omega (arith, counts-length, g .fewCommands)))
@@ -65,7 +65,7 @@ module _ (m : Model) (g : Regular m) (ns : List Name) where
   ends-length : length (layoutOf m .ends) ≡ 4 + length (m .commands)
   ends-length = ends-counted m
 
-  flat-code : Computes m (filled 2048 (layoutOf m .code)) (filled 20 (layoutOf m .ends))
+  pub flat-code : Computes m (filled 2048 (layoutOf m .code)) (filled 20 (layoutOf m .ends))
   flat-code =
       let code = layoutOf m .code in
       let ends = layoutOf m .ends in

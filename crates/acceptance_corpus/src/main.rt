@@ -3,14 +3,14 @@
 // An answer is `safe holds`, `trace holds`, the letter of the condition that fails, or `refused NUMBER PLACE`.
 use acceptance::outcome::Outcome;
 use acceptance::test;
-use corpus_io::bounds::fitting;
-use corpus_io::input::Head;
-use corpus_io::input::Rest;
-use corpus_io::input::whole_text;
-use corpus_io::output::flush;
-use corpus_io::output::put;
-use corpus_io::output::put_bytes;
-use corpus_io::output::put_refusal;
+use streams::bounds::fitting;
+use streams::input::Head;
+use streams::input::Rest;
+use streams::input::whole_text;
+use streams::output::flush;
+use streams::output::put;
+use streams::output::put_bytes;
+use streams::output::put_refusal;
 
 // What is read or written at once.
 type Block = [u8; 65536];

@@ -1,3 +1,2 @@
--- What the program writes, and what its reads leave.
+-- What the program writes.
 pub mod Lines
-pub mod Reads

@@ -4,47 +4,13 @@
 // A program ends with status 0 whatever it found, so the line is the whole answer.
 mod line;
 
-ghost use Rattle.admit.specs.Reads.{Within};
+ghost use Rattle.streams.specs.Reads.{Within};
 use acceptance::test;
 use libc::STDERR_FILENO;
 use libc::STDOUT_FILENO;
 use line::put_line;
-
-// How many bytes came, none of them at the file's end, or that the read failed.
-enum Got {
-    Bytes(usize),
-    Failed,
-}
-
-// One read into the front of the room.
-fn read_some(fd: i32, room: &mut [u8]) -> Got
-    ensures { λ r. ⌜ Within r (now (room .exit)) ⌝ }
-{
-    let got = libc::read(fd, room);
-    if got < 0 {
-        return Got::Failed;
-    }
-    Got::Bytes(io::count(got, room))
-}
-
-// Reads until the file ends or the room is full.
-fn read_file(fd: i32, room: &mut [u8]) -> Got
-    ensures { λ r. ⌜ Within r (now (room .exit)) ⌝ }
-{
-    let size = room.len();
-    let mut at: usize = 0;
-    'parts: while at < size {
-        let got = read_some(fd, &mut room[at..]);
-        let Got::Bytes(n) = got else {
-            return Got::Failed;
-        };
-        if n == 0 {
-            return Got::Bytes(at);
-        }
-        at += n;
-    }
-    Got::Bytes(at)
-}
+use streams::whole::Got;
+use streams::whole::read_file;
 
 // Says on standard error that a file can't be read, and why.
 fn say_unread(path: &[u8]) {

@@ -1,19 +1,19 @@
 // Reads texts from standard input, and writes an answer line for each.
 // A text comes as its length in digits, a newline, its bytes and a newline. At anything else the input ends.
 // An answer is `refused NUMBER PLACE`, or `model` and the whole flat form.
-use corpus_io::bounds::at_most;
-use corpus_io::bounds::fitting;
-use corpus_io::input::Head;
-use corpus_io::input::Rest;
-use corpus_io::input::whole_text;
-use corpus_io::output::flush;
-use corpus_io::output::put;
-use corpus_io::output::put_bytes;
-use corpus_io::output::put_number;
-use corpus_io::output::put_refusal;
 use reader::Answer;
 use reader::Code;
 use reader::read;
+use streams::bounds::at_most;
+use streams::bounds::fitting;
+use streams::input::Head;
+use streams::input::Rest;
+use streams::input::whole_text;
+use streams::output::flush;
+use streams::output::put;
+use streams::output::put_bytes;
+use streams::output::put_number;
+use streams::output::put_refusal;
 
 // What is read or written at once.
 type Block = [u8; 65536];

@@ -16,3 +16,12 @@ pub mod TracesInOrder
 pub mod FindsRight
 pub mod MapsAlike
 pub mod FindsOnce
+pub mod SheetsFound
+pub mod SearchesLeft
+pub mod SearchTexts
+pub mod FoundShort
+pub mod SearchTells
+pub mod SheetBytes
+pub mod SheetsPass
+pub mod WholeClaim
+pub mod SearchCases

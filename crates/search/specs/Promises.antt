@@ -1,11 +1,95 @@
--- What is promised of the sheet that the search finds.
+-- What is promised of the search, of the sheets that it writes, and of sheets and tables in the whole claim.
 -- Assumes nothing.
+use mathlib.Core.Path.{_≡_}
+use mathlib.Core.Logic.{_↔_}
+use mathlib.Core.Bool.{true}
+use mathlib.Core.List.{List}
+use Prim.Native.Nat.{ℕ, _+_, _*_, _≤_}
+use lib.ListN.{length, take}
+use lib.Seq.{sets}
 use Rattle.notation.specs.Model.{Model}
 use Rattle.notation.specs.Regular.{Regular}
+use Rattle.notation.specs.Texts.{TextSays, TextRefused}
+use Rattle.meaning.specs.Meaning.{Safe, Unsafe}
+use Rattle.meaning.specs.OneRow.{One, stateCount}
+use Rattle.meaning.specs.Evidence.{Sheet}
+use Rattle.acceptance.specs.Sheets.{systemOf, sheetBytes}
+use Rattle.acceptance.specs.SheetTexts.{AreBytes}
+use Rattle.acceptance.specs.Outcomes.{words}
+use Rattle.acceptance.specs.Promises.{answerTo, TestPromise}
 use Rattle.search.specs.Findings.{Finds}
+use Rattle.search.specs.Answers.{Wording, verdict, returned, wordingOf}
 use Rattle.search.specs.working.Transitions.{Transitions}
 use Rattle.search.specs.working.Found.{foundIn, Agrees}
+use Rattle.search.specs.working.Searching.{Left, roomy, zeroed, searchOf}
 
 -- Where the transitions are those of a model's table of one row, the sheet that the search finds is what there is to find of the model.
 abbrev pub FoundIsRight : Type 0
 FoundIsRight = (T : Transitions) (m : Model) → Agrees T m → Regular m → Finds m (foundIn T)
+
+-- The two lent tables have an entry for each state, and the lent sheet buffer has ten bytes for each state and seven more.
+abbrev pub Room : Model → List ℕ → List ℕ → List ℕ → Type 0
+Room m first second sheet = (stateCount m ≤ length first) × (stateCount m ≤ length second) × (7 + 10 * stateCount m ≤ length sheet)
+
+-- The computed test of the room says just that.
+abbrev pub RoomTells : Type 0
+RoomTells = (m : Model) (first second sheet : List ℕ) → (roomy (stateCount m) first second sheet ≡ true) ↔ Room m first second sheet
+
+-- The answer of a call, in words.
+abbrev pub answerOf : Left → Wording
+answerOf left = wordingOf (left .answer)
+
+-- The call has searched: it found a sheet of the model, put its bytes at the front of the buffer, gave the verdict
+-- with their number, and left the tables cleared as far as there are states. All else in the buffers is as it was.
+pub record SearchDone (m : Model) (first second sheet : List ℕ) (left : Left) : Type 0 where
+  pub contents : Sheet
+  pub found : Finds m contents
+  pub fits : length (sheetBytes (systemOf m) contents) ≤ length sheet
+  pub written : left .sheet ≡ sets sheet 0 (sheetBytes (systemOf m) contents)
+  pub safely : (answerOf left ≡ verdict "safe" (length (sheetBytes (systemOf m) contents))) ↔ Safe m One
+  pub unsafely : (answerOf left ≡ verdict "unsafe" (length (sheetBytes (systemOf m) contents))) ↔ Unsafe m One
+  pub firstCleared : left .first ≡ zeroed (stateCount m) first
+  pub secondCleared : left .second ≡ zeroed (stateCount m) second
+
+-- The call was refused with this number and place, and every buffer is as it was.
+pub record SearchRefused (n p : ℕ) (first second sheet : List ℕ) (left : Left) : Type 0 where
+  pub answered : answerOf left ≡ returned n p
+  pub firstKept : left .first ≡ first
+  pub secondKept : left .second ≡ second
+  pub sheetKept : left .sheet ≡ sheet
+
+-- Where there is room the call has searched, and where there is none it was refused with 8.
+pub record SearchMeans (m : Model) (first second sheet : List ℕ) (left : Left) : Type 0 where
+  pub roomThere : Room m first second sheet → SearchDone m first second sheet left
+  pub roomMissing : ¬ (Room m first second sheet) → SearchRefused 8 0 first second sheet left
+
+-- For every text that says a model, and all lent buffers, whatever they hold.
+abbrev pub SearchTells : Type 0
+SearchTells =
+    (text : List ℕ) (m : Model) → TextSays text m → (first second sheet : List ℕ) → SearchMeans m first second sheet (searchOf text first second sheet)
+
+-- A text that says no model gets its own first refusal, whatever the buffers are.
+abbrev pub TextRefusedFirst : Type 0
+TextRefusedFirst =
+    (text : List ℕ) (n i : ℕ) → TextRefused text n i → (first second sheet : List ℕ) → SearchRefused n i first second sheet (searchOf text first second sheet)
+
+-- The front of the sheet buffer, as long as the answer says, passes the test for the same text: as a map after safe, as a trace after unsafe.
+pub record FrontPasses (text : List ℕ) (left : Left) : Type 0 where
+  pub afterSafe : (n : ℕ) → answerOf left ≡ verdict "safe" n → answerTo text (take n (left .sheet)) ≡ words "safe holds"
+  pub afterUnsafe : (n : ℕ) → answerOf left ≡ verdict "unsafe" n → answerTo text (take n (left .sheet)) ≡ words "trace holds"
+
+-- For every text and all lent buffers, whatever they hold.
+abbrev pub SheetsPass : Type 0
+SheetsPass = (text first second sheet : List ℕ) → FrontPasses text (searchOf text first second sheet)
+
+-- All that is claimed of a text, its model, the bytes of a sheet, and tables of n₁ and of n₂ rows: the test keeps its promise,
+-- and with all lent buffers that have room the search finds a sheet that the test lets pass.
+pub record WholePromise (text : List ℕ) (m : Model) (b : List ℕ) (n₁ n₂ : ℕ) : Type 0 where
+  pub tested : TestPromise text m b n₁ n₂
+  pub searched : (first second sheet : List ℕ) → Room m first second sheet → SearchDone m first second sheet (searchOf text first second sheet)
+  pub written : (first second sheet : List ℕ) → FrontPasses text (searchOf text first second sheet)
+
+-- THE WHOLE CLAIM: for every text, the model that it says, all bytes, and all pairs of tables of one row or more.
+abbrev pub WholeClaim : Type 0
+WholeClaim =
+    (text : List ℕ) (m : Model) → TextSays text m → (b : List ℕ) → AreBytes b → (n₁ n₂ : ℕ) → 1 ≤ n₁ → 1 ≤ n₂ → WholePromise text m b n₁ n₂

@@ -1,6 +1,138 @@
 // The search: the first breaking run of a model's table of one row, or the map of the states that its runs reach.
 mod exploring;
+pub mod finding;
 mod maps;
 mod records;
 mod tables;
 mod traces;
+
+ghost use mathlib.Core.Path.{_≡_};
+ghost use Prim.Native.Nat.{_+_, _*_, _^_, _≤_};
+ghost use Rattle.evaluation.specs.working.CodeSystem.{Parted};
+ghost use Rattle.acceptance.specs.Sheets.{mapLength};
+ghost use Rattle.acceptance.specs.working.Shapes.{Few};
+ghost use Rattle.acceptance.specs.working.Test.{systemIn};
+ghost use Rattle.search.specs.working.Found.{foundIn, transitionsOf};
+ghost use Rattle.search.specs.working.Searching.{leftWith, Leaves, searchFor, searchOf};
+use evaluation::numbers::power;
+use exploring::run;
+use finding::Finding;
+use maps::write_map;
+use reader::Answer;
+use reader::read;
+use records::put_head;
+use records::put_header;
+use tables::clear;
+use traces::write_trace;
+
+// How many bytes a map has.
+fn map_length(states: usize) -> usize
+    ensures { λ r. ⌜ r ≡ mapLength states ⌝ }
+{
+    let n = states / 8;
+    if n == 0 {
+        return 1;
+    }
+    n
+}
+
+// The search over the flat form of a model, where every lent buffer has room.
+fn search_roomy(
+    ops: &[u16; 2048],
+    ends: &[u16; 20],
+    stars: &[u16; 16],
+    shared: usize,
+    row: usize,
+    commands: usize,
+    states: usize,
+    first: &mut [u16],
+    second: &mut [u16],
+    sheet: &mut [u8],
+) -> Finding
+    requires { do ⌜ (shared + row ≤ 12) × Few commands (now stars) × Parted commands (now ends) × (states ≡ 2 ^ (shared + row)) × (states ≤ (← ⟦first.len()⟧)) × (states ≤ (← ⟦second.len()⟧)) × (7 + 10 * states ≤ (← ⟦sheet.len()⟧)) ⌝ }
+    ensures { λ r. ⌜ Leaves (leftWith (systemIn shared row commands (now (ops .entry)) (now (ends .entry)) (now (stars .entry))) (foundIn (transitionsOf (systemIn shared row commands (now (ops .entry)) (now (ends .entry)) (now (stars .entry))))) (now (first .entry)) (now (second .entry)) (now (sheet .entry))) r (now (first .exit)) (now (second .exit)) (now (sheet .exit)) ⌝ }
+{
+    let bits = shared + row;
+    put_header(sheet, shared, row, commands);
+    let x = run(ops, ends, stars, commands, bits, states, first, second);
+    if x.found {
+        let t = first[x.count - 1];
+        let len = write_trace(ops, ends, stars, commands, bits, second, t, sheet);
+        clear(first, states);
+        clear(second, states);
+        return Finding::Unsafe(len);
+    }
+    let n = map_length(states);
+    put_head(sheet, 9, n, 2);
+    write_map(states, second, n, sheet);
+    clear(first, states);
+    clear(second, states);
+    Finding::Safe(15 + n)
+}
+
+// The search over the flat form of a model. A call whose buffers have no room is refused and leaves them as they are.
+fn search_code(
+    ops: &[u16; 2048],
+    ends: &[u16; 20],
+    stars: &[u16; 16],
+    shared: usize,
+    row: usize,
+    commands: usize,
+    first: &mut [u16],
+    second: &mut [u16],
+    sheet: &mut [u8],
+) -> Finding
+    requires { ⌜ (shared + row ≤ 12) × Few commands (now stars) × Parted commands (now ends) ⌝ }
+    ensures { λ r. ⌜ Leaves (searchFor (systemIn shared row commands (now (ops .entry)) (now (ends .entry)) (now (stars .entry))) (now (first .entry)) (now (second .entry)) (now (sheet .entry))) r (now (first .exit)) (now (second .exit)) (now (sheet .exit)) ⌝ }
+{
+    let states = power(shared + row);
+    if first.len() < states {
+        return Finding::Refused(8, 0);
+    }
+    if second.len() < states {
+        return Finding::Refused(8, 0);
+    }
+    if sheet.len() < 7 + 10 * states {
+        return Finding::Refused(8, 0);
+    }
+    search_roomy(
+        ops,
+        ends,
+        stars,
+        shared,
+        row,
+        commands,
+        states,
+        first,
+        second,
+        sheet,
+    )
+}
+
+// What the search answers for a text, with what it leaves in the lent buffers.
+pub fn search(text: &[u8], first: &mut [u16], second: &mut [u16], sheet: &mut [u8]) -> Finding
+    ensures { λ r. ⌜ Leaves (searchOf (now (text .entry)) (now (first .entry)) (now (second .entry)) (now (sheet .entry))) r (now (first .exit)) (now (second .exit)) (now (sheet .exit)) ⌝ }
+{
+    let reading = read(text);
+    let answer = reading.answer;
+    match answer {
+        Answer::Refused(n, p) => Finding::Refused(n, p),
+        Answer::Read => {
+            let code = reading.code;
+            let ops = code.ops;
+            let ends = code.ends;
+            let stars = code.stars;
+            search_code(
+                &ops,
+                &ends,
+                &stars,
+                code.shared,
+                code.row,
+                code.commands,
+                first,
+                second,
+                sheet,
+            )
+        }
+    }
+}

@@ -1,7 +1,7 @@
 -- `admit_into` is safe: what came into a room is no longer than the room.
 -- Assumes nothing.
 use borrow.Author.Needs.{needs}
-use Rattle.admit.proofs.Reading.{came}
+use Rattle.streams.proofs.Reading.{came}
 use Rattle.admit.proofs.admit_into.Statement.{statement}
 use Rattle.admit.proofs.admit_into.Tie as tie
 

@@ -1,7 +1,7 @@
 -- `read_path` meets its contract, by that of `read_file`.
 -- Assumes nothing.
 use borrow.Author.Needs.{needs}
-use Rattle.admit.proofs.Reading.{came}
+use Rattle.streams.proofs.Reading.{came}
 use Rattle.admit.proofs.read_path.Statement.{statement}
 use Rattle.admit.proofs.read_path.Tie as tie
 

@@ -6,6 +6,7 @@ use mathlib.Core.Bool.{Bool, true, false}
 use mathlib.Core.List.{List, [], _∷_, _++_}
 use lib.ListN.{length, getD, drop, replicate}
 use lib.Seq.{sets}
+use Rattle.acceptance.specs.Sheets as S
 use Rattle.search.specs.working.Transitions.{Transitions, Move}
 use Rattle.search.specs.working.Runs.{Run, startsAt, goesOn, final, Valid, steps, Traced}
 use Rattle.search.specs.working.Verdicts.{Verdict, firstRun, reached, verdict}
@@ -46,7 +47,7 @@ mapFrom b i zero = []
 mapFrom b i (suc n) = mapByte b i ∷ mapFrom b (i + 1) n
 
 abbrev pub mapLength : Transitions → ℕ
-mapLength M = (M .size + 7) / 8
+mapLength M = S.mapLength (M .size)
 
 -- The records after the header.
 abbrev pub verdictBytes : Transitions → Verdict → List ℕ

@@ -1,0 +1,162 @@
+"""Texts of models to measure on, the same ones each time."""
+
+import random
+import re
+
+SHARED = "abcd"
+ROW = "pqrstuvw"
+COMMANDS = 16
+STARS = 8
+STATES = 1 << len(SHARED + ROW)
+LONGEST_TEXT = 16384
+
+# A command's items: an upper-case letter stands for a name, `@` for an
+# expression; S is a shared name, R a row name.
+SHORT_ITEMS = ("S := @; for @ do R := @; R := @ else R := @ end",
+               "S := @")
+LONG_ITEMS = ("S := @; S := @; for @ do R := @; R := @ else R := @; skip end; "
+              "for @ do R := @ else R := @ end",
+              "S := @; skip; for @ do R := @; skip else R := @ end")
+
+G = ("shared m. row w x.\nstart m each not x.\nkeep 1 each not (w and x).\n"
+     "command grant if m do\n"
+     "for 1 do w := *; x := * else skip end else skip.")
+H = G.replace("x := *", "x := not w and *")
+
+EVERYWHERE = "1 each 1"
+AT_ZERO = f"not ({' or '.join(SHARED)}) each not ({' or '.join(ROW)})"
+
+
+def shares(rng, total, count):
+    """Splits the total into that many parts of at least one."""
+    parts = [1] * count
+    for _ in range(total - count):
+        parts[rng.randrange(count)] += 1
+    return parts
+
+
+def expression(rng, names, nodes):
+    """As many nodes as asked for."""
+    if nodes == 1:
+        return rng.choice(names)
+    if nodes == 2:
+        return "not " + rng.choice(names)
+    left = rng.randint(1, nodes - 2)
+    parts = [expression(rng, names, left),
+             expression(rng, names, nodes - 1 - left)]
+    joint = rng.choice([" and ", " or "])
+    return joint.join(f"({part})" if len(part) > 5 else part
+                      for part in parts)
+
+
+def with_stars(rng, expressions):
+    """The expressions with so many operands of them turned into stars."""
+    places = [(i, j) for i, text in enumerate(expressions)
+              for j, byte in enumerate(text)
+              if byte in SHARED + ROW and not in_word(text, j)]
+    starred = [list(text) for text in expressions]
+    for i, j in rng.sample(places, STARS):
+        starred[i][j] = "*"
+    return ["".join(text) for text in starred]
+
+
+def in_word(text, j):
+    return text[j - 1:j].isalpha() or text[j + 1:j + 2].isalpha()
+
+
+def command(rng, name, items, nodes):
+    """A command of so many expression nodes, and its count of code words."""
+    whole = f"command {name} if @ do {items[0]} else {items[1]}."
+    kinds = scopes(whole)
+    sizes = shares(rng, nodes, len(kinds))
+    made = with_stars(rng, [expression(rng, names, size)
+                            for names, size in zip(kinds, sizes)])
+    words = (nodes + 3 + whole.count(":=") + whole.count("skip")
+             + 3 * whole.count("for"))
+    pieces = whole.split("@")
+    text = "".join(piece + filled for piece, filled
+                   in zip(pieces, made + [""]))
+    chosen = "".join({"S": rng.choice(SHARED), "R": rng.choice(ROW)}
+                     .get(byte, byte) for byte in text)
+    return chosen, words
+
+
+def scopes(whole):
+    """The names that each expression may read: a row's too inside `for`."""
+    kinds = []
+    inside = False
+    for word in whole.replace("@", " @ ").split():
+        if word == "for":
+            inside = True
+        elif word.rstrip(";.") == "end":
+            inside = False
+        elif word == "@":
+            kinds.append(SHARED + ROW if inside else SHARED)
+    return kinds
+
+
+def model(start, keep, commands):
+    return (f"shared {' '.join(SHARED)}. row {' '.join(ROW)}.\n"
+            f"start {start}.\nkeep {keep}.\n" + "\n".join(commands))
+
+
+def wide(start, keep, items, nodes, seed):
+    """12 names and 16 commands of 8 stars, with the code words of each."""
+    rng = random.Random(seed)
+    made = [command(rng, f"k{j}", items, nodes) for j in range(COMMANDS)]
+    text = model(start, keep, [spelled for spelled, _ in made])
+    words = {count for _, count in made}
+    assert len(words) == 1 and len(text) <= LONGEST_TEXT
+    return text, words.pop()
+
+
+def long_text():
+    """As many bytes as a text may have: the longest names, alike up to their
+    last letter, and blanks. The one start state breaks the property."""
+    text, _ = wide(AT_ZERO, "0 each 1", LONG_ITEMS, 62, 13)
+    text = re.sub(rf"\b([{SHARED + ROW}])\b", r"a_name_so_long_\1", text)
+    while len(text) < LONGEST_TEXT:
+        text = text.replace(" ", "  ", LONGEST_TEXT - len(text))
+    return text
+
+
+def raised(j):
+    """Bit j of the state's number plus 1, from the bits before."""
+    names = SHARED + ROW
+    if j == 0:
+        return f"{names[0]} := not {names[0]}"
+    bit, lower = names[j], " and ".join(names[:j])
+    return f"{bit} := {bit} and not ({lower}) or not {bit} and {lower}"
+
+
+def counter(test):
+    """A command that adds 1 to the state's number where the test holds."""
+    downwards = [raised(j) for j in reversed(range(len(SHARED + ROW)))]
+    row, shared = downwards[:len(ROW)], downwards[len(ROW):]
+    return (f"command tick if {test} do for 1 do {'; '.join(row)}"
+            f" else skip end; {'; '.join(shared)} else skip.")
+
+
+def idle(j):
+    """A command of 8 stars that changes nothing."""
+    s, r = SHARED[j % len(SHARED)], ROW[j % len(ROW)]
+    return (f"command k{j} if * do for * do {r} := {r} and ({r} or *)"
+            f" else {r} := {r} or {r} and * end"
+            f" else {s} := {s} and ({s} or * and * and * and *).")
+
+
+def count_up(commands):
+    """From 0 each step leads on to the next number, and the last breaks."""
+    return model(AT_ZERO, f"1 each not ({' and '.join(SHARED + ROW)})",
+                 commands)
+
+
+def short_count():
+    return count_up([counter("1")])
+
+
+def starry_count():
+    """The counter is the last command and needs its last choice word, so all
+    the others are tried in vain from each state."""
+    return count_up([idle(j) for j in range(COMMANDS - 1)]
+                    + [counter(" and ".join("*" * STARS))])

@@ -1,0 +1,35 @@
+// Reads a text from standard input and writes its report to standard output.
+// Where the input can't be read it writes nothing there, and a line to standard error.
+use libc::STDERR_FILENO;
+use libc::STDIN_FILENO;
+use reporting::put_report;
+use streams::output::flush;
+use streams::whole::Got;
+use streams::whole::read_file;
+
+// The report of a text.
+fn report(text: &[u8]) {
+    let mut first = [0u16; 4096];
+    let mut second = [0u16; 4096];
+    let mut sheet = [0u8; 40967];
+    let mut out = [0u8; 65536];
+    let filled = put_report(&mut out, 0, text, &mut first, &mut second, &mut sheet);
+    flush(&out, filled);
+}
+
+// Reads the text into its room, and reports.
+fn report_into(text: &mut [u8]) {
+    let got = read_file(STDIN_FILENO, text);
+    let Got::Bytes(n) = got else {
+        io::write_all(STDERR_FILENO, b"report: cannot read ");
+        os::fail(b"standard input");
+        return;
+    };
+    report(&text[..n]);
+}
+
+// The room has a byte more than the longest text, so a longer one is refused by the search itself.
+fn main() {
+    let mut text = [0u8; 16385];
+    report_into(&mut text);
+}

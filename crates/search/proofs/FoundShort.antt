@@ -1,0 +1,65 @@
+-- The sheet that the search finds has room in the lent buffer: its run has fewer steps than there are states.
+-- Assumes nothing.
+use mathlib.Core.Path.{_≡_, refl, sym, subst}
+use mathlib.Core.List.{List, [], _∷_}
+use Prim.Native.Nat.{ℕ, _+_, _*_, _<_, _≤_}
+use native.Mathlib.Omega.{arith}
+use lib.ListN.{length, length-append}
+use lib.Pow.{pow-pos}
+use Rattle.notation.specs.Model.{Model}
+use Rattle.meaning.specs.OneRow.{TraceStep}
+use Rattle.meaning.specs.Evidence.{safe, trace}
+use Rattle.acceptance.specs.Sheets.{System, mapLength, little, recordBytes, headerBytes, mapBytes, startBytes, sheetBytes}
+use Rattle.acceptance.proofs.SheetWritten.{steps-length}
+use Rattle.search.specs.working.Transitions.{Transitions}
+use Rattle.search.specs.working.Exploring.{Progress, broke, through, search}
+use Rattle.search.specs.working.Runs.{Run, startsAt, goesOn, final, steps, startOf}
+use Rattle.search.specs.working.Verdicts as D
+use Rattle.search.specs.working.Verdicts.{Verdict, firstRun, reached}
+use Rattle.search.specs.working.Written.{mapFrom}
+use Rattle.search.specs.working.Found.{stepsOf, sheetFor, foundIn, Agrees}
+use Rattle.search.proofs.First.{Searched, searched, run-to}
+use Rattle.search.proofs.Right.{queue-last}
+use Rattle.search.proofs.Map.{map-length}
+use Rattle.search.proofs.RunsOfModels.{lawful}
+
+-- How many bytes a sheet has.
+module _ (M : System) where
+  map-sheet-length : (map : List ℕ) → length (sheetBytes M (safe map)) ≡ 15 + length map
+  unfolding sheetBytes headerBytes mapBytes recordBytes little
+  map-sheet-length map = omega arith
+
+  trace-sheet-length : (s : ℕ) (xs : List TraceStep) → length (sheetBytes M (trace s xs)) ≡ 17 + 10 * length xs
+  unfolding sheetBytes headerBytes startBytes recordBytes little
+  trace-sheet-length s xs = omega (arith, steps-length xs)
+
+-- The run that the search gives has fewer steps than there are states.
+abbrev Short : Transitions → Verdict → Type 0
+Short T (firstRun r) = steps r < T .size
+Short T (reached b) = Unit {0}
+
+short-of : (T : Transitions) (o : Progress) → Searched T o → Short T (D.verdictOf T o)
+short-of T (broke x) E = rw (queue-last T x E, run-to T (x .parent) (E .last) (E .traced) (T .size) (omega (arith, E .short))) (E .short)
+short-of T (through x) C = tt
+
+steps-count : (T : Transitions) (r : Run) → length (stepsOf T r) ≡ steps r
+unfolding stepsOf
+steps-count T (startsAt s) = refl
+steps-count T (goesOn r k) = omega (arith, length-append (stepsOf T r) (record { command = k .command; word = k .word; after = T .step (final T r) (k .command) (k .word) } ∷ []), steps-count T r)
+
+map-room : (n : ℕ) → 1 ≤ n → 15 + mapLength n ≤ 7 + 10 * n
+unfolding mapLength
+map-room n h = omega arith
+
+-- The sheet that is found has its place in the buffer.
+module _ (M : System) (T : Transitions) where
+  short-for : 1 ≤ T .size → (v : Verdict) → Short T v → length (sheetBytes M (sheetFor T v)) ≤ 7 + 10 * T .size
+  unfolding sheetFor
+  short-for h (firstRun r) k = omega (arith, trace-sheet-length M (startOf r) (stepsOf T r), steps-count T r)
+  short-for h (reached b) k = omega (arith, map-sheet-length M (mapFrom b 0 (mapLength (T .size))), map-length b 0 (mapLength (T .size)), map-room (T .size) h)
+
+  pub found-short : (m : Model) → Agrees T m → length (sheetBytes M (foundIn T)) ≤ 7 + 10 * T .size
+  unfolding foundIn D.verdict
+  found-short m A =
+      let h : 1 ≤ T .size = subst (λ (n : ℕ). 1 ≤ n) (sym (A .size)) (pow-pos (m .sharedNames + m .rowNames)) in
+      short-for h (D.verdict T) (short-of T (search T) (searched T (lawful T m A)))

@@ -1,0 +1,133 @@
+-- The search of a text: its refusal, or what the search over the flat form of its model leaves.
+-- Assumes nothing.
+use mathlib.Core.Path.{_≡_, refl, sym, ap, _∙_, subst}
+use mathlib.Core.Bool.{cond}
+use mathlib.Core.List.{List}
+use Prim.Native.Nat.{ℕ, _+_, _^_, _≤_}
+use native.Mathlib.Omega.{arith}
+use lib.ListN.{length}
+use lib.Seq.{sets}
+use Rattle.notation.specs.Tokens.{Name}
+use Rattle.notation.specs.Model.{Model}
+use Rattle.notation.specs.Layout.{layoutOf}
+use Rattle.notation.specs.Regular.{Regular}
+use Rattle.notation.specs.Texts.{modelOf, namesOf}
+use Rattle.notation.specs.working.Machine as N
+use Rattle.notation.specs.working.Answer.{answer}
+use Rattle.notation.proofs.Texts.{says-iff-answer}
+use Rattle.notation.proofs.Regular.{all-regular}
+use Rattle.meaning.specs.Evidence.{Sheet, safe, trace}
+use Rattle.reader.specs.declared.Answer.the-variants as A
+use Rattle.reader.specs.declared.Code.{Code}
+use Rattle.reader.specs.declared.Reading.{Reading}
+use Rattle.reader.specs.Read.{filled, codeOf, readingIn, readingOf}
+use Rattle.evaluation.specs.working.CodeSystem.{Parted}
+use Rattle.acceptance.specs.Sheets.{System, size, systemOf, headerBytes, sheetBytes}
+use Rattle.acceptance.specs.working.Shapes.{Few}
+use Rattle.acceptance.specs.working.Test.{systemIn}
+use Rattle.acceptance.proofs.TestTexts.{counts, star-count, flat-code, flat}
+use Rattle.search.specs.working.Found.{foundIn, transitionsOf, Agrees}
+use Rattle.search.specs.working.Searching.{Left, roomy, zeroed, verdictOf, leftWith, leftAlone, Leaves, searchFor, searchIn, searchOf}
+use Rattle.search.specs.declared.finding.Finding.{Finding}
+use Rattle.search.specs.declared.finding.Finding.the-variants.{Refused}
+use Rattle.search.proofs.FindsRight.{finds-right}
+use Rattle.search.proofs.FindsOnce.{finds-once}
+
+-- The system of a model is its table of one row.
+model-agrees : (m : Model) → Agrees (transitionsOf (systemOf m)) m
+model-agrees m =
+    record {
+      size = refl;
+      commands = refl;
+      words = λ k h. refl;
+      starts = λ s h. refl;
+      breaks = λ s h. refl;
+      step = λ s k w h l. refl;
+    }
+
+-- Code that is ready for the search, over which the search leaves what it should.
+pub record Searchable (c : Code) (should : List ℕ → List ℕ → List ℕ → Left) : Type 0 where
+  pub fewNames : c .shared + c .row ≤ 12
+  pub few : Few (c .commands) (c .stars)
+  pub parted : Parted (c .commands) (c .ends)
+  pub same : (q p o : List ℕ) → searchFor (systemIn (c .shared) (c .row) (c .commands) (c .ops) (c .ends) (c .stars)) q p o ≡ should q p o
+
+module _ (m : Model) (g : Regular m) (ns : List Name) where
+  abbrev C : System
+  C = systemIn (m .sharedNames) (m .rowNames) (length (m .commands)) (filled 2048 (layoutOf m .code)) (filled 20 (layoutOf m .ends)) (filled 16 (counts m g ns))
+
+  code-agrees : Agrees (transitionsOf C) m
+  code-agrees =
+      record {
+        size = refl;
+        commands = refl;
+        words = λ k h. ap (λ (n : ℕ). 2 ^ n) (star-count m g ns k h);
+        starts = flat-code m g ns .starts;
+        breaks = flat-code m g ns .breaks;
+        step = λ s k w h l. flat-code m g ns .next s k w h l;
+      }
+
+  -- Both find the same sheet, and its bytes hang on the counts alone.
+  found-same : foundIn (transitionsOf C) ≡ foundIn (transitionsOf (systemOf m))
+  found-same =
+      finds-once m (foundIn (transitionsOf C)) (foundIn (transitionsOf (systemOf m))) (finds-right (transitionsOf C) m code-agrees g)
+      (finds-right (transitionsOf (systemOf m)) m (model-agrees m) g)
+
+  bytes-same : (x : Sheet) → sheetBytes C x ≡ sheetBytes (systemOf m) x
+  unfolding sheetBytes headerBytes
+  bytes-same (safe map) = refl
+  bytes-same (trace s xs) = refl
+
+  left-same : (x : Sheet) (q p o : List ℕ) → leftWith C x q p o ≡ leftWith (systemOf m) x q p o
+  left-same x q p o =
+      ap
+      (λ (b : List ℕ). record { answer = verdictOf x (length b); first = zeroed (size C) q; second = zeroed (size C) p; sheet = sets o 0 b })
+      (bytes-same x)
+
+  search-same : (q p o : List ℕ) → searchFor C q p o ≡ searchFor (systemOf m) q p o
+  unfolding searchFor
+  search-same q p o =
+      ap (λ (x : Sheet). cond (roomy (size C) q p o) (leftWith C x q p o) (leftAlone 8 0 q p o)) found-same
+      ∙ ap (λ (l : Left). cond (roomy (size C) q p o) l (leftAlone 8 0 q p o)) (left-same (foundIn (transitionsOf (systemOf m))) q p o)
+
+  flat-searchable : Searchable (codeOf (layoutOf m) ns) (searchFor (systemOf m))
+  unfolding codeOf layoutOf
+  flat-searchable = let f = flat m g ns in record { fewNames = f .fewNames; few = f .few; parted = f .parted; same = search-same }
+
+-- The text was read, and the code is that of its model; or it was refused.
+module _ (text : List ℕ) (r : Reading) where
+  told : (o : N.Outcome) → r ≡ readingIn o → answer text ≡ o → A.Read ≡ r .answer → Searchable (r .code) (searchOf text)
+  unfolding readingIn searchIn searchOf
+  told (N.read x) e q h =
+      let s =
+      subst (λ (c : Code). Searchable c (searchFor (systemOf (modelOf x)))) (sym (ap (λ (z : Reading). z .code) e))
+      (flat-searchable (modelOf x) (all-regular text (modelOf x) (record { tree = x; says = says-iff-answer text x .1 q; meant = refl })) (namesOf x))
+      in
+      record {
+        fewNames = s .fewNames;
+        few = s .few;
+        parted = s .parted;
+        same = λ a b o. s .same a b o ∙ sym (ap (λ (u : N.Outcome). searchIn u a b o) q);
+      }
+  told (N.refused n i) e q h = let y : A.Read ≡ A.Refused n i = h ∙ ap (λ (z : Reading). z .answer) e in let z : _≡_ {A = ℕ} 0 1 = cc in absurd (omega arith)
+
+  refused-told : (n i : ℕ) (o : N.Outcome) → r ≡ readingIn o → answer text ≡ o → A.Refused n i ≡ r .answer → (a b c : List ℕ) → leftAlone n i a b c ≡ searchOf text a b c
+  unfolding readingIn searchIn searchOf
+  refused-told n i (N.read x) e q h a b c = let y : A.Refused n i ≡ A.Read = h ∙ ap (λ (z : Reading). z .answer) e in let z : _≡_ {A = ℕ} 0 1 = cc in absurd (omega arith)
+  refused-told n i (N.refused k j) e q h a b c =
+      let y : A.Refused n i ≡ A.Refused k j = h ∙ ap (λ (z : Reading). z .answer) e in
+      let z : leftAlone n i a b c ≡ leftAlone k j a b c = cc in
+      z ∙ sym (ap (λ (o : N.Outcome). searchIn o a b c) q)
+
+  module _ (e : r ≡ readingOf text) where
+    pub was-read : A.Read ≡ r .answer → Searchable (r .code) (searchOf text)
+    was-read h = told (answer text) e refl h
+
+    -- What is left for a text that was read is what is left over its code, and for one that was refused every buffer is as it was.
+    pub search-read : A.Read ≡ r .answer → (a b c : List ℕ) (f : Finding) (a₁ b₁ c₁ : List ℕ)
+        → Leaves (searchFor (systemIn (r .code .shared) (r .code .row) (r .code .commands) (r .code .ops) (r .code .ends) (r .code .stars)) a b c) f a₁ b₁ c₁
+        → Leaves (searchOf text a b c) f a₁ b₁ c₁
+    search-read h a b c f a₁ b₁ c₁ l = subst (λ (L : Left). Leaves L f a₁ b₁ c₁) (was-read h .same a b c) l
+
+    pub search-refused : (n i : ℕ) → A.Refused n i ≡ r .answer → (a b c : List ℕ) → Leaves (searchOf text a b c) (Refused n i) a b c
+    search-refused n i h a b c = subst (λ (L : Left). Leaves L (Refused n i) a b c) (refused-told n i (answer text) e refl h a b c) (refl, refl, refl, refl)

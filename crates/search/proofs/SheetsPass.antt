@@ -1,0 +1,138 @@
+-- The sheet that the search writes passes the test for the same text.
+-- Assumes nothing.
+use mathlib.Core.Path.{_≡_, refl, sym, ap, _∙_, subst}
+use mathlib.Core.Logic.{_⊎_, inl, inr}
+use mathlib.Core.Bool.{Bool, true, false, true≢false}
+use mathlib.Core.List.{List, []}
+use Prim.Native.Nat.{ℕ, _+_, _*_, _≤_}
+use native.Mathlib.Omega.{arith}
+use lib.ListN.{length, take, drop}
+use lib.Seq.{sets, sets-eq, take-append-seam}
+use Rattle.notation.specs.Model.{Model}
+use Rattle.notation.specs.Regular.{Every, Regular}
+use Rattle.notation.specs.Texts.{TextSays, TextRefused}
+use Rattle.notation.proofs.Texts.{one-answer}
+use Rattle.notation.proofs.Regular.{all-regular}
+use Rattle.meaning.specs.Meaning.{Breaks, last, Safe}
+use Rattle.meaning.specs.OneRow.{One, stateCount, spread, next, TraceStep}
+use Rattle.meaning.specs.Evidence.{Sheet, safe, trace, StepFits, MapPasses}
+use Rattle.meaning.proofs.Lists.{weaken}
+use Rattle.meaning.proofs.Number.{spread-stateNumber, stateNumber-spread}
+use Rattle.meaning.proofs.OneRow.{next-stays}
+use Rattle.evaluation.proofs.Powers.{pow-small}
+use Rattle.acceptance.specs.Sheets.{systemOf, sheetBytes}
+use Rattle.acceptance.specs.SheetTexts.{InRange, SheetSays}
+use Rattle.acceptance.specs.Outcomes.{words}
+use Rattle.acceptance.specs.Promises.{answerTo}
+use Rattle.acceptance.proofs.Claims.{pass-tells}
+use Rattle.search.specs.Findings.{Reaches, ExactMap, Finds}
+use Rattle.search.specs.Answers.{Wording, verdict, returned, wordingOf}
+use Rattle.search.specs.Promises.{answerOf, FrontPasses, SheetsPass}
+use Rattle.search.specs.working.Transitions.{moveOf}
+use Rattle.search.specs.working.Runs.{goesOn}
+use Rattle.search.specs.working.Found.{foundIn, transitionsOf}
+use Rattle.search.specs.working.Searching.{Left, roomy, verdictOf, leftWith, searchOf}
+use Rattle.search.proofs.RunsOfModels.{run-told, run-reaches, reaches-run}
+use Rattle.search.proofs.SearchTells.{said, room-tells, not-safe, not-verdict, own, finds, with-room, search-tells, text-refused-first}
+use Rattle.search.proofs.FoundShort.{found-short}
+use Rattle.search.proofs.SheetBytes.{map-sheet-bytes, trace-sheet-bytes}
+
+-- The map of exactly the states that runs reach passes where no run goes wrong.
+module _ (m : Model) (g : Regular m) (map : List ℕ) (E : ExactMap m map) where
+  exact-passes : Safe m One → MapPasses m map
+  exact-passes h =
+      let T = transitionsOf (systemOf m) in
+      record {
+        starts = λ s l p. E .exact s l .1 (spread m One s, [], record { start = p; steps = tt }, stateNumber-spread m s l);
+        keeps = λ s l e b.
+            let (q, xs, r, f) = E .exact s l .0 e in
+            let a : spread m One s ≡ last q xs = ap (spread m One) (sym f) ∙ spread-stateNumber m (last q xs) (run-told T m (own m) g q xs r .fits) in
+            h q xs r (subst (Breaks m) a b);
+        closed = λ s k w l c u e.
+            let r = reaches-run T m (own m) g s (E .exact s l .0 e) in
+            let q = run-reaches T m (own m) (goesOn (r .run) (moveOf k w)) (r .valid, (c, u)) in
+            E .exact (next m s k w) (next-stays m s k w) .1 (subst (λ (t : ℕ). Reaches m (next m t k w)) (r .ends) q);
+      }
+
+-- What was written to the front of a buffer with room stands there.
+front : (l b : List ℕ) → length b ≤ length l → take (length b) (sets l 0 b) ≡ b
+front l b h =
+    let k : 0 + length b ≤ length l = omega arith in
+    ap (take (length b)) (sets-eq b l 0 k) ∙ take-append-seam b (drop (0 + length b) l)
+
+-- The number in a verdict.
+abbrev count : Wording → ℕ
+count (verdict s n) = n
+count (returned n p) = p
+
+module _ (text : List ℕ) (m : Model) (says : TextSays text m) where
+  few : stateCount m ≤ 4096
+  few = pow-small (m .sharedNames + m .rowNames) (stateCount m) (all-regular text m says .fewNames) refl
+
+  -- The bytes of a sheet that is found pass.
+  map-holds : (map : List ℕ) → Finds m (safe map) → length (sheetBytes (systemOf m) (safe map)) ≤ 7 + 10 * stateCount m
+      → answerTo text (sheetBytes (systemOf m) (safe map)) ≡ words "safe holds"
+  map-holds map F h =
+      let g = all-regular text m says in
+      let s : SheetSays (systemOf m) (sheetBytes (systemOf m) (safe map)) (safe map) =
+      record { bytes = refl; short = omega (arith, few); fits = (F .1 .long, F .1 .clear) } in
+      pass-tells text m says (sheetBytes (systemOf m) (safe map)) (map-sheet-bytes m g map (F .1 .bytes)) .safeSheet .1
+      (map, s, exact-passes m g map (F .1) (F .0))
+
+  trace-holds : (s : ℕ) (xs : List TraceStep) → Finds m (trace s xs) → length (sheetBytes (systemOf m) (trace s xs)) ≤ 7 + 10 * stateCount m
+      → answerTo text (sheetBytes (systemOf m) (trace s xs)) ≡ words "trace holds"
+  trace-holds s xs F h =
+      let g = all-regular text m says in
+      let p = F .1 .breaks in
+      let f : Every (InRange (systemOf m)) xs =
+      weaken (StepFits m) (InRange (systemOf m)) (λ x k. record { command = k .command; word = k .word; after = k .after }) xs (p .stepsFit) in
+      let w : SheetSays (systemOf m) (sheetBytes (systemOf m) (trace s xs)) (trace s xs) =
+      record { bytes = refl; short = omega (arith, few); fits = (p .startFits, f) } in
+      pass-tells text m says (sheetBytes (systemOf m) (trace s xs)) (trace-sheet-bytes m g s xs f) .traceSheet .1 (s, xs, w, p)
+
+  module _ (first second sheet : List ℕ) (room : 7 + 10 * stateCount m ≤ length sheet) where
+    -- As long as the answer says.
+    at-front : (x : Sheet) → length (sheetBytes (systemOf m) x) ≤ 7 + 10 * stateCount m → (n : ℕ) → length (sheetBytes (systemOf m) x) ≡ n
+        → take n (sets sheet 0 (sheetBytes (systemOf m) x)) ≡ sheetBytes (systemOf m) x
+    at-front x h n e =
+        subst (λ (k : ℕ). take k (sets sheet 0 (sheetBytes (systemOf m) x)) ≡ sheetBytes (systemOf m) x) e
+        (front sheet (sheetBytes (systemOf m) x) (omega arith))
+
+    front-passes : (x : Sheet) → Finds m x → length (sheetBytes (systemOf m) x) ≤ 7 + 10 * stateCount m
+        → FrontPasses text (leftWith (systemOf m) x first second sheet)
+    unfolding verdictOf wordingOf
+    front-passes (safe map) F h =
+        record {
+          afterSafe = λ n e. ap (answerTo text) (at-front (safe map) h n (ap count e)) ∙ map-holds map F h;
+          afterUnsafe = λ n e. absurd (not-safe _ _ (sym e));
+        }
+    front-passes (trace s xs) F h =
+        record {
+          afterSafe = λ n e. absurd (not-safe _ _ e);
+          afterUnsafe = λ n e. ap (answerTo text) (at-front (trace s xs) h n (ap count e)) ∙ trace-holds s xs F h;
+        }
+
+-- A call that was refused gave no verdict.
+refused-passes : (text : List ℕ) (left : Left) (n p : ℕ) → answerOf left ≡ returned n p → FrontPasses text left
+refused-passes text left n p e =
+    record {
+      afterSafe = λ k f. absurd (not-verdict n p k .0 (sym e ∙ f));
+      afterUnsafe = λ k f. absurd (not-verdict n p k .1 (sym e ∙ f));
+    }
+
+pub sheets-pass : SheetsPass
+sheets-pass text first second sheet = go (one-answer text .some)
+  where
+    with-model : (m : Model) → TextSays text m → (b : Bool) → roomy (stateCount m) first second sheet ≡ b → FrontPasses text (searchOf text first second sheet)
+    with-model m says true e =
+        let r = room-tells m first second sheet .0 e in
+        let M = transitionsOf (systemOf m) in
+        subst (FrontPasses text) (sym (said text m says first second sheet ∙ with-room m first second sheet r))
+        (front-passes text m says first second sheet (r .2) (foundIn M) (finds m (all-regular text m says)) (found-short (systemOf m) M m (own m)))
+    with-model m says false e =
+        refused-passes text _ 8 0
+        (search-tells text m says first second sheet .roomMissing (λ r. true≢false (sym (room-tells m first second sheet .1 r) ∙ e)) .answered)
+
+    go : ((m : Model) × TextSays text m) ⊎ ((n i : ℕ) × TextRefused text n i) → FrontPasses text (searchOf text first second sheet)
+    go (inl (m, says)) = with-model m says (roomy (stateCount m) first second sheet) refl
+    go (inr (n, i, r)) = refused-passes text _ n i (text-refused-first text n i r first second sheet .answered)

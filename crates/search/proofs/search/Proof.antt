@@ -1,0 +1,48 @@
+-- `search` meets its contract: the text's refusal, or what is left over the flat form that was read.
+-- Assumes nothing.
+use Rattle.search.proofs.SearchTexts.{was-read, search-read, search-refused}
+use mathlib.Core.Path.{sym}
+use borrow.Author.Needs.{needs}
+use Rattle.search.proofs.search.Statement.{statement}
+use Rattle.search.proofs.search.Tie as tie
+
+read-requires : tie.Need-read-requires
+read-requires c κs = search needs
+
+enum-known-answer : tie.Need-enum-known-answer
+enum-known-answer c = search needs
+
+enum-told : tie.Need-enum-told
+enum-told c = search needs
+
+search-code-requires : tie.Need-search-code-requires
+search-code-requires c κs = (was-read _ _ (c .before .before .before .before .before .before .before .before .before .before .before .before .read .ensures) (sym (c .before .before .before .before .before .before .before .before .before .before .enum-told .given .1)) .fewNames, was-read _ _ (c .before .before .before .before .before .before .before .before .before .before .before .before .read .ensures) (sym (c .before .before .before .before .before .before .before .before .before .before .enum-told .given .1)) .few, was-read _ _ (c .before .before .before .before .before .before .before .before .before .before .before .before .read .ensures) (sym (c .before .before .before .before .before .before .before .before .before .before .enum-told .given .1)) .parted)
+
+returns : tie.Need-returns
+returns c = search-refused _ _ (c .before .before .before .read .ensures) _ _ (sym (c .before .answer .given .1)) _ _ _
+
+same-length : tie.Need-same-length
+same-length c = search needs
+
+same-length-2 : tie.Need-same-length-2
+same-length-2 c = search needs
+
+same-length-3 : tie.Need-same-length-3
+same-length-3 c = search needs
+
+returns-2 : tie.Need-returns-2
+returns-2 c = search-read _ _ (c .before .before .before .before .before .before .before .before .before .before .before .before .before .before .before .before .before .before .before .read .ensures) (sym (c .before .before .before .before .before .before .before .before .before .before .before .before .before .before .before .before .before .enum-told .given .1)) _ _ _ _ _ _ _ (c .before .before .before .before .before .before .search-code .ensures)
+
+pub search-spec : {M : Type 1} → statement M
+search-spec =
+    tie.close
+    (tie.spec
+    read-requires
+    enum-known-answer
+    enum-told
+    search-code-requires
+    returns
+    same-length
+    same-length-2
+    same-length-3
+    returns-2)

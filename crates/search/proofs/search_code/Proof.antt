@@ -1,0 +1,63 @@
+-- `search_code` meets its contract: the call is refused where a buffer has no room.
+-- Assumes nothing.
+use Rattle.search.proofs.SearchesLeft.{first-short, second-short, sheet-short, room-for}
+use Rattle.evaluation.proofs.Powers.{pow-small}
+use native.Mathlib.Omega.{arith}
+use Prim.Native.Nat.{_+_}
+use Rattle.acceptance.specs.working.Test.{systemIn}
+use borrow.Author.Needs.{needs}
+use Rattle.search.proofs.search_code.Statement.{statement}
+use Rattle.search.proofs.search_code.Tie as tie
+
+add-power : tie.Need-add-power
+add-power c = search needs
+
+power-requires : tie.Need-power-requires
+power-requires c κs = search needs
+
+returns : tie.Need-returns
+returns c = first-short (systemIn _ _ _ _ _ _) _ (c .before .power .ensures) _ _ _ (c .if1 .taken)
+
+returns-2 : tie.Need-returns-2
+returns-2 c = second-short (systemIn _ _ _ _ _ _) _ (c .before .before .power .ensures) _ _ _ (c .before .if1 .left) (c .if2 .taken)
+
+mul-if3 : tie.Need-mul-if3
+mul-if3 c = omega (arith, pow-small (c .before .before .before .before .before .before .args .shared + c .before .before .before .before .before .before .args .row) (c .before .before .power .result) (c .before .before .before .before .before .before .pre .0) (c .before .before .power .ensures))
+
+add-if3 : tie.Need-add-if3
+add-if3 c = omega (arith, pow-small (c .before .before .before .before .before .before .args .shared + c .before .before .before .before .before .before .args .row) (c .before .before .power .result) (c .before .before .before .before .before .before .pre .0) (c .before .before .power .ensures))
+
+returns-3 : tie.Need-returns-3
+returns-3 c = sheet-short (systemIn _ _ _ _ _ _) _ (c .before .before .before .power .ensures) _ _ _ (c .before .before .if1 .left) (c .before .if2 .left) (c .if3 .taken)
+
+search-roomy-requires : tie.Need-search-roomy-requires
+search-roomy-requires c κs = search needs
+
+same-length : tie.Need-same-length
+same-length c = search needs
+
+same-length-2 : tie.Need-same-length-2
+same-length-2 c = search needs
+
+same-length-3 : tie.Need-same-length-3
+same-length-3 c = search needs
+
+returns-4 : tie.Need-returns-4
+returns-4 c = room-for (systemIn _ _ _ _ _ _) _ (c .before .before .before .before .before .before .before .before .before .before .before .before .before .power .ensures) _ _ _ (c .before .before .before .before .before .before .before .before .before .before .before .before .if1 .left) (c .before .before .before .before .before .before .before .before .before .before .before .if2 .left) (c .before .before .before .before .before .before .before .before .before .before .if3 .left) _ _ _ _ (c .before .before .before .before .before .before .search-roomy .ensures)
+
+pub search-code-spec : {M : Type 1} → statement M
+search-code-spec =
+    tie.close
+    (tie.spec
+    add-power
+    power-requires
+    returns
+    returns-2
+    mul-if3
+    add-if3
+    returns-3
+    search-roomy-requires
+    same-length
+    same-length-2
+    same-length-3
+    returns-4)

@@ -1,0 +1,17 @@
+-- What the answers of the search are called.
+-- Assumes nothing.
+use Prim.Native.Nat.{ℕ}
+use Prim.Native.String.{String}
+use Rattle.search.specs.declared.finding.Finding.{Finding}
+use Rattle.search.specs.declared.finding.Finding.the-variants.{Safe, Unsafe, Refused}
+
+-- What the search may answer: a verdict with the sheet's length, or a refusal's number with its place.
+pub data Wording : Type 0 where
+  verdict : String → ℕ → Wording
+  returned : ℕ → ℕ → Wording
+
+-- What each answer stands for.
+unfoldable pub wordingOf : Finding → Wording
+wordingOf (Safe n) = verdict "safe" n
+wordingOf (Unsafe n) = verdict "unsafe" n
+wordingOf (Refused n p) = returned n p

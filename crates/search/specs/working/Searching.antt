@@ -1,0 +1,68 @@
+-- What a call of the search leaves: its answer, and the contents of the lent buffers.
+-- Assumes nothing.
+use mathlib.Core.Path.{_≡_}
+use mathlib.Core.Bool.{Bool, cond, _&&_}
+use mathlib.Core.List.{List, _++_}
+use Prim.Native.Nat.{ℕ, _+_, _*_}
+use lib.Dec.{leb}
+use lib.ListN.{length, drop, replicate}
+use lib.Seq.{sets}
+use Rattle.notation.specs.Texts.{modelOf}
+use Rattle.notation.specs.working.Machine as N
+use Rattle.notation.specs.working.Answer.{answer}
+use Rattle.meaning.specs.Evidence.{Sheet, safe, trace}
+use Rattle.acceptance.specs.Sheets.{System, size, systemOf, sheetBytes}
+use Rattle.search.specs.working.Found.{foundIn, transitionsOf}
+use Rattle.search.specs.declared.finding.Finding.{Finding}
+use Rattle.search.specs.declared.finding.Finding.the-variants.{Safe, Unsafe, Refused}
+
+pub record Left : Type 0 where
+  pub answer : Finding
+  pub first : List ℕ
+  pub second : List ℕ
+  pub sheet : List ℕ
+
+-- Whether the lent tables have an entry for each state, and the lent buffer has room for every sheet.
+unfoldable pub roomy : ℕ → List ℕ → List ℕ → List ℕ → Bool
+roomy states first second sheet = leb states (length first) && (leb states (length second) && leb (7 + 10 * states) (length sheet))
+
+-- The first n entries made 0.
+abbrev pub zeroed : ℕ → List ℕ → List ℕ
+zeroed n l = replicate n 0 ++ drop n l
+
+-- The verdict of a sheet that has so many bytes.
+unfoldable pub verdictOf : Sheet → ℕ → Finding
+verdictOf (safe map) n = Safe n
+verdictOf (trace s xs) n = Unsafe n
+
+-- Where a sheet was found: its bytes at the buffer's front, and both tables cleared.
+abbrev pub leftWith : System → Sheet → List ℕ → List ℕ → List ℕ → Left
+leftWith M x first second sheet =
+    record {
+      answer = verdictOf x (length (sheetBytes M x));
+      first = zeroed (size M) first;
+      second = zeroed (size M) second;
+      sheet = sets sheet 0 (sheetBytes M x);
+    }
+
+-- After a refusal every buffer is as it was.
+abbrev pub leftAlone : ℕ → ℕ → List ℕ → List ℕ → List ℕ → Left
+leftAlone n p first second sheet = record { answer = Refused n p; first = first; second = second; sheet = sheet }
+
+-- A call leaves this answer and these contents.
+abbrev pub Leaves : Left → Finding → List ℕ → List ℕ → List ℕ → Type 0
+Leaves L r first second sheet = (r ≡ L .answer) × (first ≡ L .first) × (second ≡ L .second) × (sheet ≡ L .sheet)
+
+-- For a system.
+unfoldable pub searchFor : System → List ℕ → List ℕ → List ℕ → Left
+searchFor M first second sheet =
+    cond (roomy (size M) first second sheet) (leftWith M (foundIn (transitionsOf M)) first second sheet) (leftAlone 8 0 first second sheet)
+
+-- For a text that was read or refused.
+unfoldable pub searchIn : N.Outcome → List ℕ → List ℕ → List ℕ → Left
+searchIn (N.read x) first second sheet = searchFor (systemOf (modelOf x)) first second sheet
+searchIn (N.refused n p) first second sheet = leftAlone n p first second sheet
+
+-- For a text.
+unfoldable pub searchOf : List ℕ → List ℕ → List ℕ → List ℕ → Left
+searchOf text first second sheet = searchIn (answer text) first second sheet

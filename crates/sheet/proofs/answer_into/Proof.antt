@@ -1,0 +1,71 @@
+-- `answer_into` is safe: what came into the room is no longer than the room.
+-- Assumes nothing.
+use borrow.Author.Needs.{needs}
+use Rattle.streams.proofs.Reading.{came}
+use Rattle.sheet.proofs.answer_into.Statement.{statement}
+use Rattle.sheet.proofs.answer_into.Tie as tie
+
+read-file-requires : tie.Need-read-file-requires
+read-file-requires c κs = search needs
+
+enum-known-got : tie.Need-enum-known-got
+enum-known-got c = search needs
+
+enum-told : tie.Need-enum-told
+enum-told c = search needs
+
+slice-aggregate-write-all : tie.Need-slice-aggregate-write-all
+slice-aggregate-write-all c = search needs
+
+write-all-requires : tie.Need-write-all-requires
+write-all-requires c κs = search needs
+
+slice-aggregate-fail : tie.Need-slice-aggregate-fail
+slice-aggregate-fail c = search needs
+
+fail-requires : tie.Need-fail-requires
+fail-requires c κs = search needs
+
+same-length : tie.Need-same-length
+same-length c = search needs
+
+returns : tie.Need-returns
+returns c = search needs
+
+slice-reshare-prefix-answer : tie.Need-slice-reshare-prefix-answer
+slice-reshare-prefix-answer c =
+    let r = c .before .before .before .before .before .read-file in
+    came (r .result) (r .last .1 .0) (c .before .got .given .0 .0) (r .ensures) (c .before .got .given .1) .0
+
+slice-aggregate-answer : tie.Need-slice-aggregate-answer
+slice-aggregate-answer c =
+    let r = c .before .before .before .before .before .before .read-file in
+    came (r .result) (r .last .1 .0) (c .before .before .got .given .0 .0) (r .ensures) (c .before .before .got .given .1) .1
+
+answer-requires : tie.Need-answer-requires
+answer-requires c κs = search needs
+
+same-length-2 : tie.Need-same-length-2
+same-length-2 c = search needs
+
+returns-2 : tie.Need-returns-2
+returns-2 c = search needs
+
+pub answer-into-spec : {M : Type 1} → statement M
+answer-into-spec =
+    tie.close
+    (tie.spec
+    read-file-requires
+    enum-known-got
+    enum-told
+    slice-aggregate-write-all
+    write-all-requires
+    slice-aggregate-fail
+    fail-requires
+    same-length
+    returns
+    slice-reshare-prefix-answer
+    slice-aggregate-answer
+    answer-requires
+    same-length-2
+    returns-2)
