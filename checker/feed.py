@@ -18,3 +18,17 @@ def answers(program, texts):
     if run.returncode != 0:
         lines.append(f"(ended with status {run.returncode})")
     return lines
+
+
+def gathered(groups):
+    """All (label, text's bytes, ..) of the groups, in a fixed order; what was
+    met before is left out."""
+    seen = set()
+    found = []
+    for group in groups:
+        for detail, text, *rest in group():
+            item = (text.encode("latin-1"), *rest)
+            if item not in seen:
+                seen.add(item)
+                found.append((f"{group.__name__}: {detail}", *item))
+    return found

@@ -10,6 +10,7 @@ import pairs_readings
 import pairs_refused
 import pairs_texts
 import pairs_traces
+from feed import gathered
 
 GROUPS = (pairs_texts.GROUPS + pairs_refused.GROUPS + pairs_maps.GROUPS
           + pairs_traces.GROUPS + pairs_readings.GROUPS
@@ -17,14 +18,5 @@ GROUPS = (pairs_texts.GROUPS + pairs_refused.GROUPS + pairs_maps.GROUPS
 
 
 def corpus():
-    """All (label, text, sheet) in a fixed order; a pair met again is left
-    out."""
-    seen = set()
-    found = []
-    for group in GROUPS:
-        for detail, text, sheet in group():
-            pair = text.encode("latin-1"), sheet
-            if pair not in seen:
-                seen.add(pair)
-                found.append((f"{group.__name__}: {detail}", *pair))
-    return found
+    """All (label, text, sheet)."""
+    return gathered(GROUPS)
