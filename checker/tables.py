@@ -120,5 +120,14 @@ def reachable(model, rows):
     return met
 
 
+def walked(model, rows):
+    """About how many steps a walk over so many rows takes."""
+    choices = 0
+    for command in model.commands:
+        outer = len(outer_stars(command))
+        choices += 1 << outer + rows * (command.stars - outer)
+    return choices << len(model.shared) + rows * len(model.row)
+
+
 def goes_wrong(model, rows):
     return any(is_broken(model, state) for state in reachable(model, rows))

@@ -20,7 +20,7 @@ from report import report, sheet
 from reports import corpus
 from reports_order import ORDER
 from searching import search
-from tables import goes_wrong, outer_stars
+from tables import goes_wrong, walked
 
 MOST_WALKED = 3000
 
@@ -38,15 +38,6 @@ def meant_by(label):
 
 def verdict(lines):
     return lines[min(1, len(lines) - 1)]
-
-
-def walked(model, rows):
-    """About how many steps a walk over so many rows takes."""
-    choices = 0
-    for command in model.commands:
-        outer = len(outer_stars(command))
-        choices += 1 << outer + rows * (command.stars - outer)
-    return choices << len(model.shared) + rows * len(model.row)
 
 
 def found_in(lines, model):
