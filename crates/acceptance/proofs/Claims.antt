@@ -52,7 +52,7 @@ in-words : (o x : Outcome) {P : Type 0} → (o ≡ x) ↔ P → (wordingOf o ≡
 in-words o x h = (λ e. h .0 (sym (called o) ∙ ap calledSo e ∙ called x), λ p. ap wordingOf (h .1 p))
 
 -- The test of a text that says a model is the outcome for the model.
-said : (text : List ℕ) (m : Model) → TextSays text m → (b : List ℕ) → outcomeOf (systemOf m) b ≡ testOf text b
+pub said : (text : List ℕ) (m : Model) → TextSays text m → (b : List ℕ) → outcomeOf (systemOf m) b ≡ testOf text b
 unfolding testOf testIn
 said text m s b =
     sym (ap (λ (o : N.Outcome). testIn o b) (says-answer (s .says)) ∙ ap (λ (n : Model). outcomeOf (systemOf n) b) (s .meant))

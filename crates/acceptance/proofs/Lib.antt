@@ -16,3 +16,4 @@ pub mod TestTexts
 pub mod SheetCases
 pub mod TestCases
 pub mod Claims
+pub mod Places

@@ -87,7 +87,7 @@ module _ (M : System) (b : List ℕ) where
       (trace (twoAt b (p + 6)) (stepsIn b (p + 8) (stepCount b (p + 8))), rw (kinds-apart b p 2 (mapLength (size M)) e, e) (demand-go _ _ _ _ h))
   pass p q s t r (step e) h x = (x, begun p (holds x) (inside p e) ∙ demand-go _ _ _ _ e ∙ demand-go _ _ _ _ h)
 
-  within : (p : ℕ) (s : Stage) → Clean M b p s → p ≤ length b
+  pub within : (p : ℕ) (s : Stage) → Clean M b p s → p ≤ length b
   within p s (begin h) = omega arith
   within p s (next c (header e) h) = omega (arith, record-fits b _ 1 3 e)
   within p s (next c (map e u) h) = record-fits b _ 2 _ e

@@ -146,7 +146,7 @@ module _ (M : System) (b : List ℕ) where
   refused-back n p o (holds (safe map)) e = let z : kind (outcomeOf M b) ≡ 2 = ap kind o in absurd (omega (arith, z, map-kind map e))
   refused-back n p o (holds (trace s xs)) e = let z : kind (outcomeOf M b) ≡ 2 = ap kind o in absurd (omega (arith, z, trace-kind s xs e))
 
-  refusal-means : (n p : ℕ) → (outcomeOf M b ≡ Refused n p) ↔ SheetRefused M b n p
+  pub refusal-means : (n p : ℕ) → (outcomeOf M b ≡ Refused n p) ↔ SheetRefused M b n p
   unfolding judge
   refusal-means n p = (
     λ o. refused-iff-reads M b n p .1 (refused-back n p o (sheetOf M b) refl),

@@ -12,7 +12,7 @@ use Rattle.meaning.specs.OneRow.{TraceStep}
 use Rattle.meaning.specs.Evidence.{Sheet, safe, trace, Passes, Promise, ConditionA, ConditionB, ConditionC, ConditionD, ConditionE, ConditionF}
 use Rattle.acceptance.specs.Sheets.{System, size, systemOf}
 use Rattle.acceptance.specs.Outcomes.{Wording, words, letter, returned, wordingOf}
-use Rattle.acceptance.specs.SheetTexts.{unusedClear, AreBytes, SheetSays, SheetRefused}
+use Rattle.acceptance.specs.SheetTexts.{longest, unusedClear, AreBytes, SheetSays, SheetRefused}
 use Rattle.acceptance.specs.working.SheetReading.{refused, holds, sheetOf}
 use Rattle.acceptance.specs.working.Test.{testOf}
 
@@ -78,6 +78,15 @@ PassTells = (text : List ℕ) (m : Model) → TextSays text m → (b : List ℕ)
 -- A text that says no model gets its own first refusal, whatever the bytes are.
 abbrev pub TextComesFirst : Type 0
 TextComesFirst = (text : List ℕ) (n i : ℕ) → TextRefused text n i → (b : List ℕ) → answerTo text b ≡ returned n i
+
+-- The numbers in an answer: a refusal has a number from 1 to 10, and its place is no further than the longest sheet reaches.
+abbrev pub Bounded : Wording → Type 0
+Bounded (words s) = Unit {0}
+Bounded (letter s) = Unit {0}
+Bounded (returned n p) = (1 ≤ n) × (n ≤ 10) × (p ≤ longest)
+
+abbrev pub AnswersBounded : Type 0
+AnswersBounded = (text b : List ℕ) → Bounded (answerTo text b)
 
 -- The claim, said of the test: where it answers that a sheet holds, what the bytes say holds of both tables,
 -- and for no text of the model and no bytes does it answer that a sheet of the other kind holds.

@@ -22,3 +22,4 @@ pub mod Regular
 pub mod Cases
 pub mod Edges
 pub mod CaseFacts
+pub mod Places

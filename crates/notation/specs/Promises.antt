@@ -3,12 +3,13 @@
 use mathlib.Core.Path.{_≡_}
 use mathlib.Core.List.{List}
 use mathlib.Core.Logic.{_↔_, _⊎_}
-use Prim.Native.Nat.{ℕ}
+use Prim.Native.Nat.{ℕ, _≤_}
+use lib.ListN.{length}
 use Rattle.notation.specs.Notation.{Tree}
 use Rattle.notation.specs.Model.{Model}
 use Rattle.notation.specs.Layout.{layoutOf}
 use Rattle.notation.specs.Regular.{Regular}
-use Rattle.notation.specs.Texts.{TextSaysTree, TextSays, TextRefused}
+use Rattle.notation.specs.Texts.{TextSaysTree, TextSays, TextRefused, longestText}
 use Rattle.notation.specs.working.Machine.{read, refused}
 use Rattle.notation.specs.working.Answer.{answer}
 
@@ -39,3 +40,13 @@ AllRegular = (text : List ℕ) (m : Model) → TextSays text m → Regular m
 -- The flat form tells the model: two models that texts say and that have the same flat form are the same.
 abbrev pub LayoutTells : Type 0
 LayoutTells = (m n : Model) → Regular m → Regular n → layoutOf m ≡ layoutOf n → m ≡ n
+
+-- A first refusal has a number from 1 to 7; its place is in the text or at its end, and no further than the longest text reaches.
+pub record Bounded (text : List ℕ) (n i : ℕ) : Type 0 where
+  pub low : 1 ≤ n
+  pub high : n ≤ 7
+  pub inText : i ≤ length text
+  pub near : i ≤ longestText
+
+abbrev pub RefusalsBounded : Type 0
+RefusalsBounded = (text : List ℕ) (n i : ℕ) → TextRefused text n i → Bounded text n i

@@ -23,5 +23,6 @@ pub mod FoundShort
 pub mod SearchTells
 pub mod SheetBytes
 pub mod SheetsPass
+pub mod Places
 pub mod WholeClaim
 pub mod SearchCases

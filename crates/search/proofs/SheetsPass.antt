@@ -66,7 +66,7 @@ count (verdict s n) = n
 count (returned n p) = p
 
 module _ (text : List ℕ) (m : Model) (says : TextSays text m) where
-  few : stateCount m ≤ 4096
+  pub few : stateCount m ≤ 4096
   few = pow-small (m .sharedNames + m .rowNames) (stateCount m) (all-regular text m says .fewNames) refl
 
   -- The bytes of a sheet that is found pass.

@@ -9,7 +9,7 @@ use lib.ListN.{length, take}
 use lib.Seq.{sets}
 use Rattle.notation.specs.Model.{Model}
 use Rattle.notation.specs.Regular.{Regular}
-use Rattle.notation.specs.Texts.{TextSays, TextRefused}
+use Rattle.notation.specs.Texts.{longestText, TextSays, TextRefused}
 use Rattle.meaning.specs.Meaning.{Safe, Unsafe}
 use Rattle.meaning.specs.OneRow.{One, stateCount}
 use Rattle.meaning.specs.Evidence.{Sheet}
@@ -72,6 +72,15 @@ SearchTells =
 abbrev pub TextRefusedFirst : Type 0
 TextRefusedFirst =
     (text : List ℕ) (n i : ℕ) → TextRefused text n i → (first second sheet : List ℕ) → SearchRefused n i first second sheet (searchOf text first second sheet)
+
+-- The numbers in an answer: no sheet has more bytes than the largest model takes, a refusal has a number from 1 to 8,
+-- and its place is no further than the longest text reaches.
+abbrev pub Bounded : Wording → Type 0
+Bounded (verdict s n) = n ≤ 7 + 10 * 4096
+Bounded (returned n p) = (1 ≤ n) × (n ≤ 8) × (p ≤ longestText)
+
+abbrev pub AnswersBounded : Type 0
+AnswersBounded = (text first second sheet : List ℕ) → Bounded (answerOf (searchOf text first second sheet))
 
 -- The front of the sheet buffer, as long as the answer says, passes the test for the same text: as a map after safe, as a trace after unsafe.
 pub record FrontPasses (text : List ℕ) (left : Left) : Type 0 where

@@ -1,0 +1,61 @@
+"""The functions of the libraries for C, called in this process."""
+
+import ctypes
+
+LETTERS = {"s": "safe holds", "t": "trace holds"}
+
+
+class Library:
+    """A shared object that has `nutseason_read`, `nutseason_test` and
+    `nutseason_search`. Answers are put in the words of the checker."""
+
+    def __init__(self, path):
+        loaded = ctypes.CDLL(path)
+        text = [ctypes.c_char_p, ctypes.c_size_t]
+        table = [ctypes.POINTER(ctypes.c_uint16), ctypes.c_size_t]
+        buffer = [ctypes.POINTER(ctypes.c_uint8), ctypes.c_size_t]
+        self._read = typed(loaded.nutseason_read, text)
+        self._test = typed(loaded.nutseason_test, text * 2)
+        self._search = typed(loaded.nutseason_search,
+                             text + table * 2 + buffer)
+
+    def read(self, text):
+        said = self._read(text, len(text))
+        if said & 255 != ord("m"):
+            return refusal(said)
+        counts = [said >> shift & 255 for shift in (8, 16, 24)]
+        assert said >> 32 == 0, said
+        return "model {} {} {}".format(*counts)
+
+    def test(self, text, sheet):
+        said = self._test(text, len(text), sheet, len(sheet))
+        low = chr(said & 255)
+        if low.isalpha():
+            assert said >> 8 == 0, said
+            return LETTERS.get(low, low)
+        return refusal(said)
+
+    def search(self, text, first, second, sheet):
+        """The verdict and the sheet's length, or a refusal. The lists `first`
+        and `second` and the bytearray `sheet` are lent, and hold afterwards
+        what the search left there."""
+        lent = [(ctypes.c_uint16 * len(first))(*first),
+                (ctypes.c_uint16 * len(second))(*second),
+                (ctypes.c_uint8 * len(sheet))(*sheet)]
+        said = self._search(text, len(text), *(part for buffer in lent
+                                               for part in (buffer, len(buffer))))
+        first[:], second[:], sheet[:] = lent
+        verdicts = {ord("s"): "safe", ord("u"): "unsafe"}
+        if said & 255 in verdicts:
+            return f"{verdicts[said & 255]} {said >> 8}"
+        return refusal(said)
+
+
+def typed(function, arguments):
+    function.argtypes = arguments
+    function.restype = ctypes.c_uint64
+    return function
+
+
+def refusal(said):
+    return f"refused {said & 255} {said >> 8}"

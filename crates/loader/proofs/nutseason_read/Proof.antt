@@ -1,0 +1,37 @@
+-- `nutseason_read` meets its contract: the number of the reader's answer.
+-- Assumes nothing.
+use mathlib.Core.Path.{sym}
+use Rattle.reader.specs.declared.Answer.the-variants.{Read, Refused}
+use Rattle.loader.specs.Numbers.{answerNumber}
+use Rattle.loader.proofs.Told.{near, answered, counts-fit}
+use borrow.Author.Needs.{needs}
+use Rattle.loader.proofs.nutseason_read.Statement.{statement}
+use Rattle.loader.proofs.nutseason_read.Tie as tie
+
+read-requires : tie.Need-read-requires
+read-requires c κs = search needs
+
+enum-known-answer : tie.Need-enum-known-answer
+enum-known-answer c = search needs
+
+pack-requires : tie.Need-pack-requires
+pack-requires c κs = near _ _ (c .before .before .before .read .ensures) _ _ (sym (c .before .answer .given .1))
+
+enum-told : tie.Need-enum-told
+enum-told c = search needs
+
+model-number-requires : tie.Need-model-number-requires
+model-number-requires c κs = counts-fit _ _ (c .before .before .before .read .ensures) (sym (c .before .enum-told .given .1))
+
+returns : tie.Need-returns
+unfolding answerNumber
+returns c = answered _ _ (c .before .before .before .before .read .ensures) (Refused _ _) _ (sym (c .before .before .answer .given .1)) (c .pack .ensures)
+
+returns-2 : tie.Need-returns-2
+unfolding answerNumber
+returns-2 c = answered _ _ (c .before .before .before .before .read .ensures) Read _ (sym (c .before .before .enum-told .given .1)) (c .model-number .ensures)
+
+pub nutseason-read-spec : {M : Type 1} → statement M
+nutseason-read-spec =
+    tie.close
+    (tie.spec read-requires enum-known-answer pack-requires enum-told model-number-requires returns returns-2)

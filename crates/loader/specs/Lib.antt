@@ -1,0 +1,3 @@
+-- What C is told.
+pub mod Numbers
+pub mod Promises

@@ -1,0 +1,23 @@
+-- What is promised of the numbers that C is given, each promise a type that a theorem of proofs/ inhabits.
+-- Assumes nothing.
+use mathlib.Core.Path.{_≡_}
+use mathlib.Core.List.{List}
+use Prim.Native.Nat.{ℕ}
+use lib.ListN.{length}
+use Rattle.notation.specs.Model.{Model}
+use Rattle.notation.specs.Texts.{TextSays, TextRefused}
+use Rattle.acceptance.specs.Promises.{answerTo}
+use Rattle.packing.specs.Packed.{packed}
+use Rattle.loader.specs.Numbers.{testNumber, modelNumber, readNumber, wordingFor}
+
+-- The number of an answer of the test tells the answer.
+abbrev pub TestNumbersTell : Type 0
+TestNumbersTell = (text b : List ℕ) → wordingFor (testNumber (answerTo text b)) ≡ answerTo text b
+
+-- The number for a text has the counts of the model that it says, or its first refusal.
+pub record ReadTold (text : List ℕ) : Type 0 where
+  pub model : (m : Model) → TextSays text m → readNumber text ≡ modelNumber (m .sharedNames) (m .rowNames) (length (m .commands))
+  pub refusal : (n i : ℕ) → TextRefused text n i → readNumber text ≡ packed n i
+
+abbrev pub ReadNumbersTell : Type 0
+ReadNumbersTell = (text : List ℕ) → ReadTold text

@@ -1,0 +1,2 @@
+-- Laws of the numbers that stand for the search's answers.
+pub mod Told

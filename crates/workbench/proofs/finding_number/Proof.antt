@@ -1,0 +1,55 @@
+-- `finding_number` meets its contract: the letter of each verdict with the length, and a refusal with its place.
+-- Assumes nothing.
+use mathlib.Core.Path.{refl}
+use Rattle.notation.specs.Bytes.{bytes}
+use Rattle.search.specs.declared.finding.Finding.the-variants.{Safe, Unsafe, Refused}
+use Rattle.search.specs.Answers.{wordingOf}
+use Rattle.workbench.specs.Numbers.{searchNumber}
+use Rattle.workbench.proofs.Told.{safe-fits, unsafe-fits, place-fits, number-of}
+use borrow.Author.Needs.{needs}
+use Rattle.workbench.proofs.finding_number.Statement.{statement}
+use Rattle.workbench.proofs.finding_number.Tie as tie
+
+enum-known-finding : tie.Need-enum-known-finding
+enum-known-finding c = search needs
+
+pack-requires : tie.Need-pack-requires
+pack-requires c κs = safe-fits _ (c .before .before .before .pre) _ (c .before .finding .given .1)
+
+enum-known-finding-2 : tie.Need-enum-known-finding-2
+enum-known-finding-2 c = search needs
+
+pack-requires-2 : tie.Need-pack-requires-2
+pack-requires-2 c κs = unsafe-fits _ (c .before .before .before .pre) _ (c .before .finding2 .given .1)
+
+enum-known-finding-3 : tie.Need-enum-known-finding-3
+enum-known-finding-3 c = search needs
+
+pack-requires-3 : tie.Need-pack-requires-3
+pack-requires-3 c κs = place-fits _ (c .before .before .before .pre) _ _ (c .before .finding3 .given .1)
+
+returns : tie.Need-returns
+unfolding searchNumber wordingOf bytes
+returns c = number-of _ (Safe _) _ _ (c .before .before .finding .given .1) (c .pack .ensures) refl
+
+returns-2 : tie.Need-returns-2
+unfolding searchNumber wordingOf bytes
+returns-2 c = number-of _ (Unsafe _) _ _ (c .before .before .finding2 .given .1) (c .pack2 .ensures) refl
+
+returns-3 : tie.Need-returns-3
+unfolding searchNumber wordingOf
+returns-3 c = number-of _ (Refused _ _) _ _ (c .before .before .finding3 .given .1) (c .pack3 .ensures) refl
+
+pub finding-number-spec : {M : Type 1} → statement M
+finding-number-spec =
+    tie.close
+    (tie.spec
+    enum-known-finding
+    pack-requires
+    enum-known-finding-2
+    pack-requires-2
+    enum-known-finding-3
+    pack-requires-3
+    returns
+    returns-2
+    returns-3)

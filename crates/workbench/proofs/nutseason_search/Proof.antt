@@ -1,0 +1,37 @@
+-- `nutseason_search` meets its contract: the number of the search's answer, and what the search leaves.
+-- Assumes nothing.
+use mathlib.Core.Path.{sym, ap, _∙_, subst}
+use Rattle.search.specs.declared.finding.Finding.{Finding}
+use Rattle.search.specs.Answers.{wordingOf}
+use Rattle.search.specs.Promises.{Bounded}
+use Rattle.search.proofs.Places.{answers-bounded}
+use Rattle.workbench.specs.Numbers.{searchNumber}
+use borrow.Author.Needs.{needs}
+use Rattle.workbench.proofs.nutseason_search.Statement.{statement}
+use Rattle.workbench.proofs.nutseason_search.Tie as tie
+
+search-requires : tie.Need-search-requires
+search-requires c κs = search needs
+
+finding-number-requires : tie.Need-finding-number-requires
+finding-number-requires c κs =
+    subst (λ (f : Finding). Bounded (wordingOf f)) (sym (c .before .before .before .before .before .before .search .ensures .0)) (answers-bounded _ _ _ _)
+
+same-length : tie.Need-same-length
+same-length c = search needs
+
+same-length-2 : tie.Need-same-length-2
+same-length-2 c = search needs
+
+same-length-3 : tie.Need-same-length-3
+same-length-3 c = search needs
+
+returns : tie.Need-returns
+returns c =
+    let left = c .before .before .before .before .before .before .before .search .ensures in
+    (c .finding-number .ensures ∙ ap (λ (f : Finding). searchNumber (wordingOf f)) (left .0), left .1, left .2, left .3)
+
+pub nutseason-search-spec : {M : Type 1} → statement M
+nutseason-search-spec =
+    tie.close
+    (tie.spec search-requires finding-number-requires same-length same-length-2 same-length-3 returns)

@@ -1,0 +1,2 @@
+-- What C and Python are told of a search.
+pub mod Numbers

@@ -1,0 +1,76 @@
+/* Nutseason for programs in C: the reader and the acceptance test (libloader.a), and the search (libworkbench.a).
+ *
+ * Every function is proved: it ends on all inputs, touches nothing but what it is handed, keeps nothing between
+ * calls, and needs no heap. It answers with one number. The low byte says which answer it is, and the rest,
+ * number / 256, is a place, a length or three counts; it is 0 where there is nothing to say.
+ *
+ * What a caller owes: a pointer with its length is memory that the call may read, and write where it is not const;
+ * a table is aligned as its type asks; no two of the arguments overlap where one of them is written; and nothing
+ * else writes them during the call. A pointer whose length is 0 is not followed.
+ *
+ * The refusals, with what their place says. Places count bytes from 0.
+ *
+ *    1  the text has more than 16,384 bytes                          16384
+ *    2  a byte that is not allowed, or a word over 16 bytes          the byte, or the word's first byte
+ *    3  not what the notation allows here                            the token, or the text's length at its end
+ *    4  a name that was declared before                              the name
+ *    5  a name that is undeclared, or of a kind not allowed here     the name
+ *    6  a star in `start` or `keep`                                  the star
+ *    7  a count or the depth goes over its limit                     the token that goes over
+ *    8  a lent table or the sheet buffer is too short                0
+ *    9  the sheet is not in form                                     the record in the sheet, or 65536
+ *   10  a number in the sheet does not fit the model                 the record in the sheet
+ */
+#ifndef NUTSEASON_H
+#define NUTSEASON_H
+
+#include <stddef.h>
+#include <stdint.h>
+
+#ifdef __cplusplus
+extern "C" {
+#endif
+
+/* The largest that can be asked for: a longer text or sheet is refused by its length alone, and no search needs more room. */
+enum {
+    NUTSEASON_LONGEST_TEXT = 16384,
+    NUTSEASON_LONGEST_SHEET = 65536,
+    NUTSEASON_MOST_STATES = 4096,
+    NUTSEASON_SHEET_ROOM = 7 + 10 * NUTSEASON_MOST_STATES
+};
+
+/* Which answer it is: a letter, or the number of a refusal. */
+static inline unsigned nutseason_answer(uint64_t said)
+{
+    return (unsigned)(said & 255);
+}
+
+/* The place, the length or the counts that come with it. */
+static inline uint64_t nutseason_rest(uint64_t said)
+{
+    return said >> 8;
+}
+
+/* Reads a text. 'm': it says a model, and the next three bytes of the answer are its counts of shared names
+ * (bits 8 to 15), row names (16 to 23) and commands (24 to 31). 1 to 7: the text's first refusal, and its place. */
+uint64_t nutseason_read(const uint8_t *text, size_t text_len);
+
+/* Tests a sheet for the model that a text says. 's': the sheet is a map, and safe holds: no run of any length, over
+ * a table of any number of rows from 1, breaks the property. 't': it is a trace, and it holds: over every such table
+ * it is a run that ends in a broken property. 'A' to 'F': the first condition that fails. 1 to 7: the refusal of
+ * the text, which comes first; 9 and 10: that of the sheet. */
+uint64_t nutseason_test(const uint8_t *text, size_t text_len, const uint8_t *sheet, size_t sheet_len);
+
+/* Searches the table of one row. With k names there are 2^k states: each table needs that many entries, and the
+ * sheet buffer 7 + 10 * 2^k bytes. 's' or 'u': the model is safe or unsafe, the buffer begins with its sheet,
+ * of the length that comes with the answer, and the first 2^k entries of both tables are 0; all else is as it was,
+ * and nutseason_test then answers 's' or 't' to the same text and that sheet. 1 to 8: the call is refused, with
+ * the place, and every buffer is as it was. What the buffers hold beforehand does not matter. */
+uint64_t nutseason_search(const uint8_t *text, size_t text_len, uint16_t *first, size_t first_len,
+                          uint16_t *second, size_t second_len, uint8_t *sheet, size_t sheet_len);
+
+#ifdef __cplusplus
+}
+#endif
+
+#endif
