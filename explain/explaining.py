@@ -1,0 +1,101 @@
+"""From a text to its explanation: runs the report program, and prints what
+its report means or writes it as a page."""
+
+import os
+import subprocess
+import sys
+import traceback
+
+import page
+import plain
+from refusals import LONGEST_TEXT
+from texts import model_of
+from traces import Refused, Safe, Unreadable, report_of
+
+SAFE, UNSAFE, REFUSED = 0, 1, 2
+
+
+class Stopped(Exception):
+    """Why no page could be written."""
+
+
+def shown(path):
+    """A path of any bytes as characters that can be printed."""
+    name = os.fsencode(path).decode("utf-8", "backslashreplace")
+    return "".join(c if c.isprintable() else ascii(c)[1:-1] for c in name)
+
+
+def explained_by(form, file, text, report):
+    """What a form of output, plain or page, says of a report."""
+    if isinstance(report, Refused):
+        return form.refused(file, text, report)
+    model = model_of(text)
+    if report.counts != model.counts:
+        raise Unreadable
+    say = form.safe if isinstance(report, Safe) else form.unsafe
+    return say(file, text, report, model)
+
+
+def status(report):
+    if isinstance(report, Refused):
+        return REFUSED
+    return SAFE if isinstance(report, Safe) else UNSAFE
+
+
+def read(path):
+    """A byte more than the longest text, so that the program refuses it."""
+    with open(path, "rb") as file:
+        return file.read(LONGEST_TEXT + 1)
+
+
+def reported(program, text):
+    run = subprocess.run([program], input=text, stdout=subprocess.PIPE,
+                         check=False)
+    return report_of(run.stdout)
+
+
+def show(lines):
+    """A reader that has seen enough closes the pipe, which is no fault."""
+    said = "".join(f"{line}\n" for line in lines)
+    try:
+        sys.stdout.buffer.write(said.encode())
+        sys.stdout.buffer.flush()
+    except BrokenPipeError:
+        os.dup2(os.open(os.devnull, os.O_WRONLY), sys.stdout.fileno())
+
+
+def explain(program, path, out):
+    file, text = shown(path), read(path)
+    report = reported(program, text)
+    lines = explained_by(plain, file, text, report)
+    if out is None:
+        show(lines)
+    else:
+        write(out, path, explained_by(page, file, text, report))
+        show(lines[:1])
+    return status(report)
+
+
+def write(out, path, said):
+    if os.path.exists(out) and os.path.samefile(out, path):
+        raise Stopped(f"{shown(out)} is the model's own file")
+    try:
+        with open(out, "w", encoding="utf-8") as file:
+            file.write(said)
+    except OSError as fault:
+        why = f"cannot write {shown(out)}: {fault.strerror}"
+        raise Stopped(why) from fault
+
+
+def main(program, path, out=None):
+    try:
+        return explain(program, path, out)
+    except Stopped as stop:
+        fault = str(stop)
+    except Unreadable:
+        fault = "the report program gave no report of this text"
+    except Exception:
+        # Python's own status for this is 1, which would say unsafe.
+        fault = f"explain went wrong\n{traceback.format_exc()}"
+    print(f"nutseason: {fault}", file=sys.stderr)
+    return REFUSED

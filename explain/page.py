@@ -1,0 +1,113 @@
+"""An explanation as one page that needs no other file and no network."""
+
+import re
+from html import escape
+from pathlib import Path
+from string import Template
+
+import sentences
+from page_text import command_marks, text_section
+from refusals import explained
+from runs import judged, lines_of
+from tokens import quoted
+
+FOLDER = Path(__file__).resolve().parent
+CHANGE = "→"
+
+
+def refused(file, text, report):
+    said = explained(text, report)
+    main = f"<p>{coded(said.rule)}</p>"
+    if said.excerpt:
+        lines = f"{said.excerpt.line}\n{said.excerpt.carets}"
+        mark = (said.place, said.place + said.length, "mark", "")
+        # A newline that begins a `pre` is not shown, so one is given away.
+        main = (f"<section>\n<pre>\n{escape(lines)}</pre>\n{main}\n"
+                "</section>\n" + text_section(text, [mark]))
+    return whole(f"{file}: refused {report.number}",
+                 sentences.refused(file, report.number, said), main)
+
+
+def safe(file, text, report, model):
+    main = (f"<p>{escape(sentences.evidence(file))}</p>\n"
+            + text_section(text, command_marks(model)))
+    return whole(sentences.verdict(file, "safe", report.counts),
+                 sentences.SAFE, main)
+
+
+def unsafe(file, text, report, model):
+    lines = lines_of(report, model)
+    main = [player(text, lines, model), steps_section(lines, model),
+            breaks_section(report, model),
+            f"<script>\n{part('page.js')}</script>"]
+    return whole(sentences.verdict(file, "unsafe", report.counts),
+                 sentences.unsafe(report.steps), "\n".join(main))
+
+
+def part(name):
+    return (FOLDER / name).read_text(encoding="utf-8")
+
+
+def whole(title, summary, main):
+    return Template(part("page.html")).substitute(
+        title=escape(title), style=part("page.css"), summary=coded(summary),
+        main=main)
+
+
+def coded(sentence):
+    """A sentence in which what stands between backticks is code."""
+    return re.sub("`([^`]+)`", r"<code>\1</code>", escape(sentence))
+
+
+def kinds(model):
+    return ["shared"] * len(model.shared) + ["row"] * len(model.row)
+
+
+def player(text, lines, model):
+    """The text, and around it what stays hidden without the script."""
+    names = "\n".join(
+        f"<tr><th>{name}</th><td>{kind}</td><td></td><td></td><td></td></tr>"
+        for name, kind in zip(model.names, kinds(model)))
+    return Template(part("player.html")).substitute(
+        last=len(lines) - 1, names=names,
+        text=text_section(text, command_marks(model)))
+
+
+def steps_section(lines, model):
+    groups = "".join(
+        f'<th colspan="{len(names)}" scope="colgroup">{kind}</th>'
+        for kind, names in (("shared", model.shared), ("row", model.row))
+        if names)
+    names = "".join(f'<th scope="col">{name}</th>' for name in model.names)
+    return Template(part("steps.html")).substitute(
+        groups=groups, names=names, rows="\n".join(map(step_row, lines)),
+        notes=notes(lines))
+
+
+def notes(lines):
+    """How changes are marked and stars numbered, where there are any."""
+    said = [sentences.CHANGES.format(CHANGE)] if lines[1:] else []
+    said += [sentences.STARS] if any(line.choices for line in lines) else []
+    return "\n".join(f"<p>{note}</p>" for note in said)
+
+
+def step_row(line):
+    cells = "".join(map(cell, line.before, line.after))
+    return (f"<tr><th>{line.number}</th><td>{line.command}</td>"
+            f"<td>{line.choices}</td>{cells}</tr>")
+
+
+def cell(before, after):
+    if before == after:
+        return f"<td>{after}</td>"
+    return f"<td><b>{before}{CHANGE}{after}</b></td>"
+
+
+def breaks_section(report, model):
+    rows = "\n".join(
+        f"<tr><th>{side.part}</th><td>{side.quote}</td>"
+        f"<td>{sentences.held(side)}</td></tr>"
+        for side in judged(report, model))
+    return Template(part("breaks.html")).substitute(
+        title=sentences.BREAKS, keep=quoted(model.keep.whole), rows=rows,
+        copies=sentences.COPIES)

@@ -1,0 +1,86 @@
+"""An explanation as plain text, in lines."""
+
+import sentences
+from places import position
+from refusals import explained
+from runs import judged, lines_of
+from tokens import quoted
+
+CHANGE = ">"
+
+
+def refused(file, text, report):
+    said = explained(text, report)
+    lines = [sentences.refused(file, report.number, said)]
+    if said.excerpt:
+        lines += [said.excerpt.line, said.excerpt.carets]
+    return lines + [said.rule]
+
+
+def safe(file, text, report, model):
+    return [f"{sentences.verdict(file, 'safe', report.counts)}. "
+            f"{sentences.SAFE} {sentences.evidence(file)}"]
+
+
+def unsafe(file, text, report, model):
+    lines = lines_of(report, model)
+    return [f"{sentences.verdict(file, 'unsafe', report.counts)}. "
+            f"{sentences.unsafe(report.steps)}",
+            "", *table(lines, model), *notes(text, lines, model),
+            "", sentences.BREAKS, *breaks(report, model),
+            "", sentences.COPIES]
+
+
+def table(lines, model):
+    """Three blocks side by side: what ran, shared names, row names."""
+    wide = max(len("step"), len(str(len(lines) - 1)))
+    ran = [["step", "command", "choices"]]
+    ran += [[str(line.number).rjust(wide), line.command, line.choices]
+            for line in lines]
+    cells = [list(model.names)] + [list(map(cell, line.before, line.after))
+                                   for line in lines]
+    end = len(model.shared)
+    blocks = [block("", ran)]
+    if model.shared:
+        blocks.append(block("shared", [row[:end] for row in cells]))
+    if model.row:
+        blocks.append(block("row", [row[end:] for row in cells]))
+    return [" | ".join(row).rstrip() for row in zip(*blocks)]
+
+
+def cell(before, after):
+    return str(after) if before == after else f"{before}{CHANGE}{after}"
+
+
+def block(title, rows):
+    """Equally wide lines: the title, and the rows in columns."""
+    lines = [title] + columns(rows)
+    width = max(map(len, lines))
+    return [line.ljust(width) for line in lines]
+
+
+def columns(rows):
+    widths = [max(map(len, column)) for column in zip(*rows)]
+    return ["  ".join(map(str.ljust, row, widths)).rstrip() for row in rows]
+
+
+def notes(text, lines, model):
+    """How changes are marked, and which star is which, where there are any."""
+    said = ["", sentences.CHANGES.format(CHANGE)] if lines[1:] else []
+    legend = stars(text, lines, model)
+    return said + (["", sentences.STARS] + legend if legend else [])
+
+
+def stars(text, lines, model):
+    """The stars of the commands that run, each with what it stands in."""
+    names = {line.command for line in lines}
+    return columns([[f"  {command.name}", f"*{star.number}",
+                     position(text, star.place), star.within]
+                    for command in model.commands if command.name in names
+                    for star in command.stars])
+
+
+def breaks(report, model):
+    parts = [[f"  {part.part}", part.quote, sentences.held(part)]
+             for part in judged(report, model)]
+    return [f"  {quoted(model.keep.whole)}", *columns(parts)]

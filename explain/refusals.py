@@ -1,0 +1,119 @@
+"""What a refusal means: its number in words, the token at its place, and the
+rule that the token goes against."""
+
+from dataclasses import dataclass
+
+from limits import MOST, all_limits, gone_over
+from notation import TEXT_END, in_roles, walk
+from places import Excerpt, excerpt, line_and_column, position, visible
+from tokens import LONGEST_WORD, NAME, cut
+
+LONGEST_TEXT = 16384
+MEANINGS = {
+    1: f"the text is over {LONGEST_TEXT:,} bytes",
+    2: f"a byte that is not allowed, or a word over {LONGEST_WORD} bytes",
+    3: "not what the notation allows here",
+    4: "a name that is declared before",
+    5: "a name that is not declared, or of a kind not allowed here",
+    6: "a star in `start` or `keep`",
+    7: "over a limit",
+}
+KINDS = {"shared name": "a shared name", "row name": "a row name",
+         "title": "a command"}
+BYTES = {9: "tab", 13: "carriage return"}
+
+
+@dataclass(frozen=True)
+class Explained:
+    """A refusal for a person. A text that is too long has no line."""
+
+    meaning: str
+    rule: str
+    place: int
+    length: int
+    line: int
+    column: int
+    excerpt: Excerpt
+
+
+def explained(text, refused):
+    meaning = MEANINGS[refused.number]
+    if refused.number == 1:
+        rule = f"A text has at most {LONGEST_TEXT:,} bytes, blanks included."
+        return Explained(meaning, rule, refused.place, 0, 0, 0, None)
+    tokens = cut(text)
+    before = [token for token in tokens if token.place < refused.place]
+    here = [token for token in tokens if token.place == refused.place]
+    length = len(here[0].word) if here else 0
+    rule = TELLING[refused.number](text, before, here[0] if here else None)
+    line, column = line_and_column(text, refused.place)
+    return Explained(meaning, rule, refused.place, length, line, column,
+                     excerpt(text, refused.place, length))
+
+
+def bad_bytes(text, before, token):
+    if token.is_word:
+        return (f"This word has {len(token.word)} bytes; "
+                f"a word has at most {LONGEST_WORD}.")
+    byte = text[token.place]
+    called = BYTES.get(byte, visible(bytes([byte])))
+    return (f"This is the byte {byte} ({called}); a text has only letters, "
+            "digits, underscores, spaces, newlines and . ; : = ( ) *")
+
+
+def not_allowed(text, before, token):
+    parts, kinds = walk(before)
+    if not in_roles(parts, "commands"):
+        # Before the first command a star would be refused at once.
+        kinds = [kind for kind in kinds if kind != "*"]
+    said = [kind if kind in (NAME, TEXT_END) else f"`{kind}`"
+            for kind in kinds]
+    due = " or ".join(filter(None, [", ".join(said[:-1]), said[-1]]))
+    found = "" if token else "The text ends too early. "
+    return f"{found}What may stand here: {due}."
+
+
+def declared_before(text, before, token):
+    first = declarations(before)[token.word]
+    return (f"`{token.word}` is declared at "
+            f"{position(text, first.token.place)} as {KINDS[first.role]}; "
+            "no name is declared twice, commands included.")
+
+
+def misused(text, before, token):
+    declared = declarations(before)
+    if token.word not in declared:
+        return (f"`{token.word}` is not declared; a name in an expression or "
+                "before `:=` is declared after `shared` or `row`.")
+    role = declared[token.word].role
+    return f"`{token.word}` is {KINDS[role]}; {USES[role]}"
+
+
+USES = {
+    "shared name": "inside a `for` only row names are assigned.",
+    "row name": "outside a `for` and an `each` part only shared names stand.",
+    "title": "only shared names and row names have a value.",
+}
+
+
+def forbidden_star(text, before, token):
+    clause = "keep" if any(seen.word == "keep" for seen in before) else "start"
+    return (f"This star stands in `{clause}`; a star is a choice of a step, "
+            "and `start` and `keep` speak of a state alone.")
+
+
+def over_limit(text, before, token):
+    over = gone_over(walk(before + [token])[0])
+    said = " and ".join(f"{MOST[what]:,} {what}" for what in over)
+    one = f"With this token there are more than {said}. " if over else ""
+    return f"{one}The limits of a text: {all_limits()}."
+
+
+def declarations(tokens):
+    """The part that declares each name, by the name."""
+    return {part.token.word: part
+            for part in in_roles(walk(tokens)[0], *KINDS)}
+
+
+TELLING = {2: bad_bytes, 3: not_allowed, 4: declared_before, 5: misused,
+           6: forbidden_star, 7: over_limit}

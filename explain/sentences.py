@@ -1,0 +1,49 @@
+"""The sentences that plain text and page have in common."""
+
+from shlex import quote
+
+SAFE = ("No run of any length, over a table of one row or more, breaks the "
+        "property.")
+COPIES = ("The same run, with its row copied into every row and the same "
+          "choices in every row, is a run over any table of one row or more.")
+BREAKS = "The last state breaks the property:"
+CHANGES = "A value that a step changes is shown as before{0}after."
+STARS = ("A star has its number within its command; where the step does not "
+         "come to it, its choice has no effect.")
+
+
+def refused(file, number, said):
+    place = f":{said.line}:{said.column}" if said.excerpt else ""
+    return f"{file}{place}: refused {number}: {said.meaning}"
+
+
+def counted(count, thing):
+    return f"{count:,} {thing}{'' if count == 1 else 's'}"
+
+
+def model(counts):
+    shared, row, commands = counts
+    return ", ".join([counted(shared, "shared name"),
+                      counted(row, "row name"),
+                      counted(commands, "command")])
+
+
+def verdict(file, word, counts):
+    return f"{file}: {word} ({model(counts)})"
+
+
+def evidence(file):
+    return f"Its sheet of evidence: ./nutseason sheet {quote(file)} > OUT"
+
+
+def unsafe(steps):
+    if not steps:
+        return "A start state breaks the property."
+    return (f"A run of {counted(len(steps), 'step')} breaks the property, and "
+            "no shorter run does.")
+
+
+def held(part):
+    """How a part of `keep` stands, with the values that it looks at."""
+    values = " ".join(f"{name}={bit}" for name, bit in part.values.items())
+    return ("true" if part.holds else "false") + (values and f" with {values}")

@@ -1,0 +1,87 @@
+"""Statuses, the file of a page, and what happens where there is no report,
+with a stand-in for the report program that prints a stored report."""
+
+import contextlib
+import io
+import os
+import tempfile
+import unittest
+from pathlib import Path
+from unittest import mock
+
+from explaining import main, shown
+from stored import cases
+
+CASES = {case.name: case for case in cases()}
+
+
+class Explaining(unittest.TestCase):
+    def setUp(self):
+        made = tempfile.TemporaryDirectory()
+        self.addCleanup(made.cleanup)
+        self.folder = Path(made.name)
+        self.text = self.folder / "model.text"
+        self.out = self.folder / "page.html"
+
+    def run_on(self, case, report=None, out=None):
+        """Status, standard output and standard error. The stand-in gives its
+        report only to a text that it is handed whole."""
+        self.text.write_bytes(case.text)
+        said = self.folder / "said"
+        said.write_bytes(case.report if report is None else report)
+        program = self.folder / "program"
+        program.write_text(f"#!/bin/sh\ncmp -s - '{self.text}' && "
+                           f"cat '{said}'\n")
+        program.chmod(0o755)
+        output = io.TextIOWrapper(io.BytesIO())
+        with (mock.patch("sys.stdout", output),
+              contextlib.redirect_stderr(io.StringIO()) as error):
+            status = main(str(program), str(self.text), out)
+        return status, output.buffer.getvalue().decode(), error.getvalue()
+
+    def test_statuses(self):
+        for name, status in (("safe", 0), ("several_steps", 1), ("tab", 2)):
+            plain = CASES[name].plain.replace("FILE", str(self.text))
+            self.assertEqual(self.run_on(CASES[name]), (status, plain, ""))
+
+    def test_page(self):
+        for name, status in (("safe", 0), ("several_steps", 1), ("tab", 2)):
+            first = CASES[name].plain.replace("FILE", str(self.text))
+            first = first.splitlines(keepends=True)[0]
+            self.assertEqual(self.run_on(CASES[name], out=str(self.out)),
+                             (status, first, ""))
+            page = self.out.read_text(encoding="utf-8")
+            self.assertIn(f"<h1>{self.text}: ", page)
+
+    def test_no_report(self):
+        for report in (b"", b"safe\n", b"model 1 1\nsafe\n",
+                       b"model 2 2 4\nunsafe 2\nstart 0\nstep 1 lock 0 2\n",
+                       b"model 2 2 4\nunsafe 1\nstart 0\nstep 1 none 0 2\n",
+                       b"model 2 1 4\nunsafe 0\nstart 0\n"):
+            status, said, error = self.run_on(CASES["several_steps"], report)
+            self.assertEqual((status, said), (2, ""), report)
+            self.assertIn("gave no report of this text", error)
+
+    def test_no_page(self):
+        for out, why in ((self.folder, "cannot write"),
+                         (self.folder / "none" / "page", "cannot write"),
+                         (self.text, "is the model's own file")):
+            status, said, error = self.run_on(CASES["safe"], out=str(out))
+            self.assertEqual((status, said), (2, ""))
+            self.assertIn(why, error)
+        self.assertEqual(self.text.read_bytes(), CASES["safe"].text)
+
+    def test_a_fault_is_not_unsafe(self):
+        with mock.patch("explaining.model_of", side_effect=KeyError):
+            status, _, error = self.run_on(CASES["several_steps"])
+        self.assertEqual(status, 2)
+        self.assertIn("KeyError", error)
+
+    def test_paths(self):
+        self.assertEqual(shown("né.text"), "né.text")
+        self.assertEqual(shown(os.fsdecode(b"\xff\n.text")),
+                         "\\xff\\n.text")
+
+
+if __name__ == "__main__":
+    unittest.main()

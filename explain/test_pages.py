@@ -1,0 +1,199 @@
+"""Pages: that they are well formed, self-contained, escape what a text holds,
+and have the steps of the report as their data."""
+
+import re
+import unittest
+from html.parser import HTMLParser
+
+import page
+from explaining import explained_by
+from sentences import BREAKS
+from stored import cases, counter
+from traces import Unsafe, report_of
+
+EMPTY = {"meta", "input"}
+ENDS = "(the text ends here)"
+LOADING = {"src", "href", "action", "data", "srcset", "poster"}
+
+
+class Page(HTMLParser):
+    """The tags with their attributes, what is read outside scripts and
+    styles, the lines of the text, its spans, and the rows of the steps."""
+
+    def __init__(self, said):
+        super().__init__()
+        self.open, self.tags = [], []
+        self.read, self.lines, self.rows, self.spans = "", [], [], []
+        self.feed(said)
+        self.close()
+        assert not self.open, self.open
+
+    def inside(self, what):
+        return any(what in pair for pair in self.open)
+
+    def handle_starttag(self, tag, attributes):
+        attributes = dict(attributes)
+        self.tags.append((tag, attributes))
+        if tag not in EMPTY:
+            self.open.append((tag, attributes.get("class")))
+        if tag == "li":
+            self.lines.append("")
+        if tag == "span":
+            self.spans.append((attributes, ""))
+        if self.inside("scroll steps"):
+            if tag == "tr":
+                self.rows.append([])
+            elif tag in ("th", "td"):
+                self.rows[-1].append("")
+
+    def handle_endtag(self, tag):
+        assert self.open.pop()[0] == tag, tag
+
+    def handle_data(self, data):
+        if self.inside("script") or self.inside("style"):
+            return
+        self.read += data
+        if self.inside("li"):
+            self.lines[-1] += data
+        if self.inside("span"):
+            self.spans[-1] = (self.spans[-1][0], self.spans[-1][1] + data)
+        if self.inside("scroll steps") and self.inside("tr"):
+            self.rows[-1][-1] += data
+
+
+def page_of(text, report):
+    return explained_by(page, "FILE", text, report_of(report))
+
+
+def steps_of(rows):
+    """Number, command, choice word and state after of each row."""
+    for number, name, choices, *cells in rows:
+        chosen = [choice.split("=") for choice in choices.split()]
+        assert [star for star, _ in chosen] == [
+            f"*{j}" for j in range(1, len(chosen) + 1)]
+        yield (int(number), name,
+               sum(int(bit) << j for j, (_, bit) in enumerate(chosen)),
+               sum(int(cell[-1]) << j for j, cell in enumerate(cells)))
+
+
+class Pages(unittest.TestCase):
+    def test_every_case(self):
+        for case in cases():
+            with self.subTest(case.name):
+                said = page_of(case.text, case.report)
+                self.stands_alone(said)
+                self.says(Page(said), case)
+
+    def stands_alone(self, said):
+        found = Page(said)
+        names = [name for _, attributes in found.tags for name in attributes]
+        self.assertFalse(LOADING & set(names))
+        self.assertFalse([name for name in names if name.startswith("on")])
+        for outside in ("://", "@import", "url(", "fetch(", "import("):
+            self.assertNotIn(outside, said)
+
+    def says(self, found, case):
+        """The page has the sentences of the plain explanation, and a script
+        only where there is something to step through."""
+        first, *rest = case.plain.replace("`", "").splitlines()
+        unsafe = isinstance(report_of(case.report), Unsafe)
+        if unsafe:
+            rest = rest[rest.index(BREAKS):]
+        for line in first.split(". ") + rest:
+            for piece in line.strip().split("  "):
+                self.assertIn(piece.strip(), found.read)
+        tags = [tag for tag, _ in found.tags]
+        self.assertEqual(tags.count("script"), 1 if unsafe else 0)
+        self.assertEqual(dict(found.tags)["html"], {"lang": "en"})
+
+    def test_text_is_shown_whole(self):
+        """What ends the last line begins no other, unless the place of a
+        refusal is there."""
+        for case in cases():
+            with self.subTest(case.name):
+                lines = Page(page_of(case.text, case.report)).lines
+                shown = "\n".join(lines)
+                for byte, escape in (("\t", "\\t"), ("\r", "\\r"),
+                                     ("\xe9", "\\xc3\\xa9")):
+                    shown = shown.replace(escape, byte)
+                text = case.text.decode()
+                if lines[-1] == ENDS:
+                    self.assertEqual(shown.removesuffix(ENDS), text)
+                else:
+                    self.assertEqual(shown, text.removesuffix("\n"))
+
+    def test_text_too_long(self):
+        found = Page(page_of(b" " * 16385, b"refused 1 16384\n"))
+        self.assertIn("refused 1: the text is over 16,384 bytes", found.read)
+
+    def test_steps(self):
+        runs = [(case.text, case.report) for case in cases()
+                if b"unsafe" in case.report]
+        self.assertEqual(len(runs), 3)
+        for text, report in [*runs, counter()]:
+            heads, names, *rows = Page(page_of(text, report)).rows
+            self.assertEqual(heads[:3], ["step", "command", "choices"])
+            meant = report_of(report)
+            steps = [(number, step.command, step.word, step.after)
+                     for number, step in enumerate(meant.steps, 1)]
+            self.assertEqual(list(steps_of(rows)),
+                             [(0, "start", 0, meant.start)] + steps)
+            self.assertEqual(len(names), sum(meant.counts[:2]))
+
+    def test_changes_are_marked(self):
+        text, report = counter()
+        _, _, *rows = Page(page_of(text, report)).rows
+        for before, after in zip(rows, rows[1:]):
+            for was, now in zip(before[3:], after[3:]):
+                self.assertEqual(now, now[-1] if was[-1] == now[-1]
+                                 else f"{was[-1]}→{now[-1]}")
+
+    def test_commands_and_stars_can_be_found(self):
+        """By what the script looks for: each command's pieces are the whole
+        command, and its stars are numbered in text order."""
+        case = next(case for case in cases() if case.name == "several_steps")
+        pieces, stars = {}, {}
+        found = Page(page_of(case.text, case.report))
+        for attributes, said in found.spans:
+            name = attributes["data-command"]
+            pieces[name] = pieces.get(name, "") + said
+            if attributes.get("class") == "star":
+                stars[name] = stars.get(name, "") + attributes["data-star"]
+                self.assertEqual(said, "*")
+        _, *commands = case.text.decode().split("command ")
+        self.assertEqual(
+            [piece.removeprefix("command ") for piece in pieces.values()],
+            [command.replace("\n", "") for command in commands])
+        self.assertEqual(stars, {"lend": "123", "expose": "12",
+                                 "release": "1"})
+
+    def test_script_finds_its_parts(self):
+        case = next(case for case in cases() if case.name == "several_steps")
+        said = page_of(case.text, case.report)
+        ids = {attributes.get("id") for _, attributes in Page(said).tags}
+        sought = re.findall(r'part\("(\w+)"\)', said)
+        sought += re.findall(r"^    (\w+): \(\) => show", said, re.MULTILINE)
+        self.assertEqual(set(sought), {"first", "back", "forward", "last",
+                                       "slider", "said"})
+        self.assertLessEqual(set(sought), ids)
+
+    def test_longest_page(self):
+        self.assertLess(len(page_of(*counter()).encode()), 1 << 20)
+
+    def test_markup_in_a_text(self):
+        hostile = b'shared </ol><script>alert(1)</script>&amp;"\''
+        found = Page(page_of(hostile, b"refused 2 7\n"))
+        self.assertNotIn("script", [tag for tag, _ in found.tags])
+        self.assertEqual(found.lines, [hostile.decode()])
+
+    def test_markup_in_a_path(self):
+        case = next(case for case in cases() if case.name == "safe")
+        said = explained_by(page, "<b>&.text", case.text,
+                            report_of(case.report))
+        found = Page(said)
+        self.assertNotIn("b", [tag for tag, _ in found.tags])
+        self.assertIn("<b>&.text: safe", found.read)
+
+
+if __name__ == "__main__":
+    unittest.main()

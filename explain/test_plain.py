@@ -1,0 +1,49 @@
+"""Plain explanations against stored ones and against what reports say."""
+
+import unittest
+
+import plain
+from explaining import explained_by
+from stored import MOST_STEPS, cases, counter
+from traces import report_of
+
+
+def said(text, report):
+    return explained_by(plain, "FILE", text, report_of(report))
+
+
+class Stored(unittest.TestCase):
+    def test_every_case(self):
+        numbers = set()
+        for case in cases():
+            with self.subTest(case.name):
+                lines = said(case.text, case.report)
+                self.assertEqual("\n".join(lines) + "\n", case.plain)
+            numbers.add(case.report.split()[1] if b"refused" in case.report
+                        else case.report.split()[4])
+        self.assertEqual(numbers, {b"safe", b"unsafe", b"2", b"3", b"4", b"5",
+                                   b"6", b"7"})
+
+    def test_text_too_long(self):
+        lines = said(b" " * 16385, b"refused 1 16384\n")
+        self.assertEqual(lines, [
+            "FILE: refused 1: the text is over 16,384 bytes",
+            "A text has at most 16,384 bytes, blanks included."])
+
+    def test_longest_run(self):
+        """The rows say each value of a counter's states, and each change."""
+        lines = said(*counter())[4:]
+        for number in range(MOST_STEPS + 1):
+            _, low, high = lines[number].split("|")
+            shown = (low + high).split()
+            before = max(0, number - 1)
+            for j, cell in enumerate(shown):
+                was, now = before >> j & 1, number >> j & 1
+                self.assertEqual(cell, str(now) if was == now
+                                 else f"{was}>{now}")
+            self.assertEqual(len(shown), 12)
+        self.assertEqual(lines[MOST_STEPS + 1], "")
+
+
+if __name__ == "__main__":
+    unittest.main()
