@@ -14,11 +14,11 @@ use Rattle.evaluation.specs.working.CodeSystem.{beginOf, segmentOf, nextIn}
 use Rattle.evaluation.proofs.OneRowCode.{cut}
 use Rattle.acceptance.specs.working.Shapes.{starsIn, Few}
 use Rattle.acceptance.proofs.SheetLaws.{words-few}
-use Rattle.search.specs.working.Transitions.{Transitions, Lawful, moves, movesFrom}
-use Rattle.search.specs.working.Runs.{firstMove}
+use Rattle.exploration.specs.working.Transitions.{Transitions, Lawful, moves, movesFrom}
+use Rattle.exploration.specs.working.Runs.{firstMove}
 use Rattle.search.specs.working.CodeTransitions.{transitionsIn}
-use Rattle.search.specs.working.Tables.{Ready, marked}
-use Rattle.search.proofs.Laws.{Tried, tried-refl}
+use Rattle.exploration.specs.working.Tables.{Ready, marked}
+use Rattle.exploration.proofs.Laws.{Tried, tried-refl}
 
 pub step-picked : (ops ends : List ℕ) (bits s k w from to x : ℕ) → from ≡ beginOf ends (4 + k) → to ≡ getD ends (4 + k) 0
     → x ≡ afterOf (slice from to ops) s bits w → x ≡ nextIn ops ends bits s k w

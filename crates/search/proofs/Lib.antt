@@ -1,25 +1,9 @@
--- Laws of the search, by subject.
-pub mod Laws
+-- Laws of the search in code, of what it leaves and of its sheets, by subject.
 pub mod CodeSteps
 pub mod WholeRuns
-pub mod Order
-pub mod First
-pub mod Right
-pub mod Trace
-pub mod Whole
-pub mod OrderSaid
-pub mod Map
-pub mod TraceSteps
-pub mod RunsOfModels
-pub mod MapsFound
-pub mod TracesInOrder
-pub mod FindsRight
-pub mod MapsAlike
-pub mod FindsOnce
 pub mod SheetsFound
 pub mod SearchesLeft
 pub mod SearchTexts
-pub mod FoundShort
 pub mod SearchTells
 pub mod SheetBytes
 pub mod SheetsPass

@@ -16,10 +16,10 @@ use Rattle.meaning.specs.Evidence.{Sheet, safe, trace}
 use Rattle.acceptance.specs.Sheets.{systemOf, sheetBytes}
 use Rattle.search.specs.Answers.{wordingOf}
 use Rattle.search.specs.Promises.{answerOf, Bounded, AnswersBounded}
-use Rattle.search.specs.working.Found.{foundIn, transitionsOf}
+use Rattle.exploration.specs.working.Found.{foundIn, transitionsOf}
 use Rattle.search.specs.working.Searching.{Left, roomy, verdictOf, leftWith, searchOf}
 use Rattle.search.proofs.SearchTells.{said, room-tells, own, with-room, search-tells, text-refused-first}
-use Rattle.search.proofs.FoundShort.{found-short}
+use Rattle.exploration.proofs.FoundShort.{found-short}
 use Rattle.search.proofs.SheetsPass.{few}
 
 verdict-bounded : (x : Sheet) (n : ℕ) → n ≤ 7 + 10 * 4096 → Bounded (wordingOf (verdictOf x n))

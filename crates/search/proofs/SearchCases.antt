@@ -24,12 +24,12 @@ use Rattle.acceptance.specs.working.Test.{mapAnswer, walk, traceAnswer, answerI
 use Rattle.acceptance.specs.Sheets.{mapLength, little, recordBytes, headerBytes, mapBytes, startBytes, stepBytes, stepsBytes, sheetBytes}
 use Rattle.search.specs.Answers.{wordingOf}
 use Rattle.search.specs.Cases.{cases, AllCases}
-use Rattle.search.specs.working.Transitions.{wordsFrom, movesFrom}
-use Rattle.search.specs.working.Exploring.{tryMoves, explore, takeIn, search}
-use Rattle.search.specs.working.Runs.{firstMove, runTo}
-use Rattle.search.specs.working.Verdicts as W
-use Rattle.search.specs.working.Written.{bitAt, mapFrom}
-use Rattle.search.specs.working.Found.{stepsOf, sheetFor, foundIn}
+use Rattle.exploration.specs.working.Transitions.{wordsFrom, movesFrom}
+use Rattle.exploration.specs.working.Exploring.{tryMoves, explore, takeIn, search}
+use Rattle.exploration.specs.working.Runs.{firstMove, runTo}
+use Rattle.exploration.specs.working.Verdicts as W
+use Rattle.exploration.specs.working.Written.{bitAt, mapFrom}
+use Rattle.exploration.specs.working.Found.{stepsOf, sheetFor, foundIn}
 use Rattle.search.specs.working.Searching as S
 
 pub all-cases : AllCases

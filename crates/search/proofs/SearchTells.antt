@@ -22,13 +22,13 @@ use Rattle.meaning.specs.OneRow.{One, stateCount}
 use Rattle.meaning.specs.Evidence.{Sheet, safe, trace}
 use Rattle.meaning.proofs.OneRow.{and-split, and-join}
 use Rattle.acceptance.specs.Sheets.{systemOf, sheetBytes}
-use Rattle.search.specs.Findings.{Finds}
+use Rattle.exploration.specs.Findings.{Finds}
 use Rattle.search.specs.Answers.{Wording, verdict, returned, wordingOf}
 use Rattle.search.specs.Promises.{RoomTells, Room, SearchDone, SearchRefused, SearchTells, TextRefusedFirst}
-use Rattle.search.specs.working.Found.{foundIn, transitionsOf, Agrees}
+use Rattle.exploration.specs.working.Found.{foundIn, transitionsOf, Agrees}
 use Rattle.search.specs.working.Searching.{roomy, verdictOf, leftWith, leftAlone, searchFor, searchIn, searchOf}
-use Rattle.search.proofs.FindsRight.{finds-right}
-use Rattle.search.proofs.FoundShort.{found-short}
+use Rattle.exploration.proofs.FindsRight.{finds-right}
+use Rattle.exploration.proofs.FoundShort.{found-short}
 
 -- The call for a text that says a model is the call for the model.
 pub said : (text : List ℕ) (m : Model) → TextSays text m → (first second sheet : List ℕ)

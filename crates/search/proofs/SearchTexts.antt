@@ -26,12 +26,12 @@ use Rattle.acceptance.specs.Sheets.{System, size, systemOf, headerBytes, sheetB
 use Rattle.acceptance.specs.working.Shapes.{Few}
 use Rattle.acceptance.specs.working.Test.{systemIn}
 use Rattle.acceptance.proofs.TestTexts.{counts, star-count, flat-code, flat}
-use Rattle.search.specs.working.Found.{foundIn, transitionsOf, Agrees}
+use Rattle.exploration.specs.working.Found.{foundIn, transitionsOf, Agrees}
 use Rattle.search.specs.working.Searching.{Left, roomy, zeroed, verdictOf, leftWith, leftAlone, Leaves, searchFor, searchIn, searchOf}
 use Rattle.search.specs.declared.finding.Finding.{Finding}
 use Rattle.search.specs.declared.finding.Finding.the-variants.{Refused}
-use Rattle.search.proofs.FindsRight.{finds-right}
-use Rattle.search.proofs.FindsOnce.{finds-once}
+use Rattle.exploration.proofs.FindsRight.{finds-right}
+use Rattle.exploration.proofs.FindsOnce.{finds-once}
 
 -- The system of a model is its table of one row.
 model-agrees : (m : Model) → Agrees (transitionsOf (systemOf m)) m

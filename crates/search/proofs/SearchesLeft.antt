@@ -15,17 +15,17 @@ use Rattle.evaluation.specs.working.CodeSystem.{Parted}
 use Rattle.acceptance.specs.Sheets.{System, size, mapLength}
 use Rattle.acceptance.specs.working.Shapes.{Few}
 use Rattle.acceptance.specs.working.Test.{systemIn}
-use Rattle.search.specs.working.Transitions.{Transitions, Lawful}
+use Rattle.exploration.specs.working.Transitions.{Transitions, Lawful}
 use Rattle.search.specs.working.CodeTransitions.{transitionsIn}
-use Rattle.search.specs.working.Runs.{runTo, steps}
-use Rattle.search.specs.working.Tables.{Ran}
-use Rattle.search.specs.working.Written.{headBytes, countBytes, runBytes, mapFrom, RecordedTo}
-use Rattle.search.specs.working.Found.{foundIn, transitionsOf}
+use Rattle.exploration.specs.working.Runs.{runTo, steps}
+use Rattle.exploration.specs.working.Tables.{Ran}
+use Rattle.exploration.specs.working.Written.{headBytes, countBytes, runBytes, mapFrom, RecordedTo}
+use Rattle.exploration.specs.working.Found.{foundIn, transitionsOf}
 use Rattle.search.specs.working.Searching.{Left, roomy, leftWith, leftAlone, Leaves, searchFor}
 use Rattle.search.specs.declared.finding.Finding.{Finding}
 use Rattle.search.specs.declared.finding.Finding.the-variants.{Safe, Unsafe, Refused}
 use Rattle.search.proofs.CodeSteps.{code-lawful}
-use Rattle.search.proofs.Whole.{ran-some, ran-recorded, answered-unsafe, answered-safe}
+use Rattle.exploration.proofs.Whole.{ran-some, ran-recorded, answered-unsafe, answered-safe}
 use Rattle.search.proofs.SheetsFound.{left-unsafe, left-safe}
 
 -- Room for the header.

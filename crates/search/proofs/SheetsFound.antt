@@ -10,16 +10,16 @@ use lib.Seq.{sets}
 use Rattle.meaning.specs.OneRow.{TraceStep}
 use Rattle.acceptance.specs.Sheets as S
 use Rattle.acceptance.specs.Sheets.{System, size, little, recordBytes, headerBytes, mapBytes, stepsBytes, sheetBytes, mapLength}
-use Rattle.search.specs.working.Transitions.{Transitions, Lawful, Move}
-use Rattle.search.specs.working.Runs.{Run, startsAt, goesOn, final, Valid, startOf}
-use Rattle.search.specs.working.Verdicts.{Verdict, firstRun, reached, verdict, Right}
-use Rattle.search.specs.working.Written.{headBytes, countBytes, startBytes, stepBytes, runBytes, mapFrom, verdictBytes, isUnsafe, Answered}
-use Rattle.search.specs.working.Found.{stepsOf, sheetFor, foundIn, transitionsOf}
+use Rattle.exploration.specs.working.Transitions.{Transitions, Lawful, Move}
+use Rattle.exploration.specs.working.Runs.{Run, startsAt, goesOn, final, Valid, startOf}
+use Rattle.exploration.specs.working.Verdicts.{Verdict, firstRun, reached, verdict, Right}
+use Rattle.exploration.specs.working.Written.{headBytes, countBytes, startBytes, stepBytes, runBytes, mapFrom, verdictBytes, isUnsafe, Answered}
+use Rattle.exploration.specs.working.Found.{stepsOf, sheetFor, foundIn, transitionsOf}
 use Rattle.search.specs.working.Searching.{verdictOf, leftWith, Leaves}
 use Rattle.search.specs.declared.finding.Finding.the-variants.{Safe, Unsafe}
-use Rattle.search.proofs.First.{final-below}
-use Rattle.search.proofs.Right.{verdict-right}
-use Rattle.search.proofs.Map.{map-length}
+use Rattle.exploration.proofs.First.{final-below}
+use Rattle.exploration.proofs.Right.{verdict-right}
+use Rattle.exploration.proofs.Map.{map-length}
 
 -- Numbers below 65536 have two bytes.
 high-byte : (n : ℕ) → n < 65536 → n / 256 ≡ n / 256 % 256

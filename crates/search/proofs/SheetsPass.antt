@@ -25,16 +25,16 @@ use Rattle.acceptance.specs.SheetTexts.{InRange, SheetSays}
 use Rattle.acceptance.specs.Outcomes.{words}
 use Rattle.acceptance.specs.Promises.{answerTo}
 use Rattle.acceptance.proofs.Claims.{pass-tells}
-use Rattle.search.specs.Findings.{Reaches, ExactMap, Finds}
+use Rattle.exploration.specs.Findings.{Reaches, ExactMap, Finds}
 use Rattle.search.specs.Answers.{Wording, verdict, returned, wordingOf}
 use Rattle.search.specs.Promises.{answerOf, FrontPasses, SheetsPass}
-use Rattle.search.specs.working.Transitions.{moveOf}
-use Rattle.search.specs.working.Runs.{goesOn}
-use Rattle.search.specs.working.Found.{foundIn, transitionsOf}
+use Rattle.exploration.specs.working.Transitions.{moveOf}
+use Rattle.exploration.specs.working.Runs.{goesOn}
+use Rattle.exploration.specs.working.Found.{foundIn, transitionsOf}
 use Rattle.search.specs.working.Searching.{Left, roomy, verdictOf, leftWith, searchOf}
-use Rattle.search.proofs.RunsOfModels.{run-told, run-reaches, reaches-run}
+use Rattle.exploration.proofs.RunsOfModels.{run-told, run-reaches, reaches-run}
 use Rattle.search.proofs.SearchTells.{said, room-tells, not-safe, not-verdict, own, finds, with-room, search-tells, text-refused-first}
-use Rattle.search.proofs.FoundShort.{found-short}
+use Rattle.exploration.proofs.FoundShort.{found-short}
 use Rattle.search.proofs.SheetBytes.{map-sheet-bytes, trace-sheet-bytes}
 
 -- The map of exactly the states that runs reach passes where no run goes wrong.

@@ -5,11 +5,11 @@ use mathlib.Core.Bool.{Bool, true, false, cond}
 use mathlib.Core.List.{List, _++_}
 use Prim.Native.Nat.{ℕ, zero, suc, _+_, _≤_}
 use lib.ListN.{length, drop, replicate}
-use Rattle.search.specs.working.Transitions.{Transitions}
+use Rattle.exploration.specs.working.Transitions.{Transitions}
 use Rattle.search.specs.working.CodeTransitions.{still}
-use Rattle.search.specs.working.Exploring.{Seen, Progress, broke, through, andThen, meet, takeIn}
-use Rattle.search.specs.working.Tables.{seen, Ready, Kept, Explored, Took, Ran}
-use Rattle.search.proofs.Laws.{cleared, ran-broke, ran-on}
+use Rattle.exploration.specs.working.Exploring.{Seen, Progress, broke, through, andThen, meet, takeIn}
+use Rattle.exploration.specs.working.Tables.{seen, Ready, Kept, Explored, Took, Ran}
+use Rattle.exploration.proofs.Laws.{cleared, ran-broke, ran-on}
 
 -- What is taken in does not hang on commands.
 on-alike : (o : Progress) (f g : Seen → Progress) → ((x : Seen) → f x ≡ g x) → andThen o f ≡ andThen o g

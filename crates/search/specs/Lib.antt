@@ -1,6 +1,4 @@
--- What the search finds, and in `working` how it goes about it.
-pub mod Order
-pub mod Findings
+-- What a call of the search leaves, and in `working` how it goes about it.
 pub mod Answers
 pub mod working
 pub mod Promises

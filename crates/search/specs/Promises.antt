@@ -8,7 +8,6 @@ use Prim.Native.Nat.{ℕ, _+_, _*_, _≤_}
 use lib.ListN.{length, take}
 use lib.Seq.{sets}
 use Rattle.notation.specs.Model.{Model}
-use Rattle.notation.specs.Regular.{Regular}
 use Rattle.notation.specs.Texts.{longestText, TextSays, TextRefused}
 use Rattle.meaning.specs.Meaning.{Safe, Unsafe}
 use Rattle.meaning.specs.OneRow.{One, stateCount}
@@ -17,15 +16,9 @@ use Rattle.acceptance.specs.Sheets.{systemOf, sheetBytes}
 use Rattle.acceptance.specs.SheetTexts.{AreBytes}
 use Rattle.acceptance.specs.Outcomes.{words}
 use Rattle.acceptance.specs.Promises.{answerTo, TestPromise}
-use Rattle.search.specs.Findings.{Finds}
+use Rattle.exploration.specs.Findings.{Finds}
 use Rattle.search.specs.Answers.{Wording, verdict, returned, wordingOf}
-use Rattle.search.specs.working.Transitions.{Transitions}
-use Rattle.search.specs.working.Found.{foundIn, Agrees}
 use Rattle.search.specs.working.Searching.{Left, roomy, zeroed, searchOf}
-
--- Where the transitions are those of a model's table of one row, the sheet that the search finds is what there is to find of the model.
-abbrev pub FoundIsRight : Type 0
-FoundIsRight = (T : Transitions) (m : Model) → Agrees T m → Regular m → Finds m (foundIn T)
 
 -- The two lent tables have an entry for each state, and the lent sheet buffer has ten bytes for each state and seven more.
 abbrev pub Room : Model → List ℕ → List ℕ → List ℕ → Type 0

@@ -5,7 +5,7 @@ ghost use Prim.Native.Nat.{_^_, _≤_};
 ghost use Rattle.evaluation.specs.working.CodeSystem.{startsIn, breaksIn, Parted};
 ghost use Rattle.acceptance.specs.working.Shapes.{Few};
 ghost use Rattle.search.specs.working.CodeTransitions.{transitionsIn, still};
-ghost use Rattle.search.specs.working.Tables.{Ready, Explored, Took, Ran};
+ghost use Rattle.exploration.specs.working.Tables.{Ready, Explored, Took, Ran};
 use crate::tables::clear;
 use evaluation::lanes::fill;
 use evaluation::lanes::pick;

@@ -12,7 +12,7 @@ ghost use Rattle.evaluation.specs.working.CodeSystem.{Parted};
 ghost use Rattle.acceptance.specs.Sheets.{mapLength};
 ghost use Rattle.acceptance.specs.working.Shapes.{Few};
 ghost use Rattle.acceptance.specs.working.Test.{systemIn};
-ghost use Rattle.search.specs.working.Found.{foundIn, transitionsOf};
+ghost use Rattle.exploration.specs.working.Found.{foundIn, transitionsOf};
 ghost use Rattle.search.specs.working.Searching.{leftWith, Leaves, searchFor, searchOf};
 use evaluation::numbers::power;
 use exploring::run;

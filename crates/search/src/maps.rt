@@ -5,7 +5,7 @@ ghost use Prim.Native.Nat.{_+_, _<_, _≤_};
 ghost use lib.Dec.{ltb};
 ghost use lib.ListN.{take};
 ghost use lib.Seq.{sets};
-ghost use Rattle.search.specs.working.Written.{bitAt, mapByte, mapFrom};
+ghost use Rattle.exploration.specs.working.Written.{bitAt, mapByte, mapFrom};
 
 // Whether state s was met, as a bit.
 fn met_bit(states: usize, parent: &[u16], s: usize) -> u8

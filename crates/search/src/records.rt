@@ -2,8 +2,8 @@
 ghost use mathlib.Core.Path.{_≡_};
 ghost use Prim.Native.Nat.{_+_, _<_, _≤_};
 ghost use lib.Seq.{sets};
-ghost use Rattle.search.specs.working.Transitions.{moveOf};
-ghost use Rattle.search.specs.working.Written.{headBytes, countBytes, startBytes, stepBytes};
+ghost use Rattle.exploration.specs.working.Transitions.{moveOf};
+ghost use Rattle.exploration.specs.working.Written.{headBytes, countBytes, startBytes, stepBytes};
 
 // A record's first six bytes: how long its payload is, and its kind.
 pub fn put_head(out: &mut [u8], at: usize, len: usize, kind: u8)

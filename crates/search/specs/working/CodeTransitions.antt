@@ -5,7 +5,7 @@ use mathlib.Core.List.{List}
 use Prim.Native.Nat.{ℕ, _^_}
 use Rattle.evaluation.specs.working.CodeSystem.{startsIn, breaksIn, nextIn}
 use Rattle.acceptance.specs.working.Shapes.{starsIn}
-use Rattle.search.specs.working.Transitions.{Transitions}
+use Rattle.exploration.specs.working.Transitions.{Transitions}
 
 -- The transitions of code with these ends of its segments and these star counts, over states of so many bits.
 abbrev pub transitionsIn : ℕ → ℕ → List ℕ → List ℕ → List ℕ → Transitions

@@ -12,7 +12,7 @@ use Rattle.notation.specs.working.Machine as N
 use Rattle.notation.specs.working.Answer.{answer}
 use Rattle.meaning.specs.Evidence.{Sheet, safe, trace}
 use Rattle.acceptance.specs.Sheets.{System, size, systemOf, sheetBytes}
-use Rattle.search.specs.working.Found.{foundIn, transitionsOf}
+use Rattle.exploration.specs.working.Found.{foundIn, transitionsOf}
 use Rattle.search.specs.declared.finding.Finding.{Finding}
 use Rattle.search.specs.declared.finding.Finding.the-variants.{Safe, Unsafe, Refused}
 

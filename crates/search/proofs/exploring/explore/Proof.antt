@@ -14,9 +14,9 @@ use Rattle.evaluation.proofs.OneRowCode.{part-rises, part-short}
 use Rattle.evaluation.proofs.Powers.{pow-small}
 use Rattle.acceptance.proofs.SheetLaws.{stars-word, words-few}
 use Rattle.search.specs.working.CodeTransitions.{transitionsIn}
-use Rattle.search.specs.working.Transitions.{wordsFrom, movesFrom, moves}
+use Rattle.exploration.specs.working.Transitions.{wordsFrom, movesFrom, moves}
 use Rattle.search.proofs.CodeSteps.{step-picked, step-below, commands-start}
-use Rattle.search.proofs.Laws.{Tried, Broke, Gone, gone-refl, gone-next, gone-broke, gone-end, tried-old, tried-new, tried-broke, words-start, command-done, command-broke, commands-done, room}
+use Rattle.exploration.proofs.Laws.{Tried, Broke, Gone, gone-refl, gone-next, gone-broke, gone-end, tried-old, tried-new, tried-broke, words-start, command-done, command-broke, commands-done, room}
 use Rattle.search.proofs.exploring.explore.Statement.{statement}
 use Rattle.search.proofs.exploring.explore.Tie as tie
 

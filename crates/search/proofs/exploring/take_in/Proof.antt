@@ -7,10 +7,10 @@ use mathlib.Core.Logic.{⊎-elim}
 use native.Mathlib.Omega.{arith}
 use lib.ListN.{getD, set}
 use Rattle.evaluation.specs.working.CodeSystem.{startsIn, breaksIn}
-use Rattle.search.specs.working.Tables.{Took}
+use Rattle.exploration.specs.working.Tables.{Took}
 use Rattle.search.specs.working.CodeTransitions.{still}
 use Rattle.search.proofs.CodeSteps.{unmet-first, unmet-next}
-use Rattle.search.proofs.Laws.{Taking, taking-refl, taking-end, taking-skip, taking-next, taking-broke, meets-new, room}
+use Rattle.exploration.proofs.Laws.{Taking, taking-refl, taking-end, taking-skip, taking-next, taking-broke, meets-new, room}
 use Rattle.search.proofs.exploring.take_in.Statement.{statement}
 use Rattle.search.proofs.exploring.take_in.Tie as tie
 

@@ -2,7 +2,7 @@
 -- Assumes nothing.
 use Prim.Native.Nat.{_-_}
 use native.Mathlib.Omega.{arith}
-use Rattle.search.proofs.Map.{bit-one, bit-zero, bit-past}
+use Rattle.exploration.proofs.Map.{bit-one, bit-zero, bit-past}
 use borrow.Author.Needs.{needs}
 use Rattle.search.proofs.maps.met_bit.Statement.{statement}
 use Rattle.search.proofs.maps.met_bit.Tie as tie

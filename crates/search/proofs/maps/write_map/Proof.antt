@@ -7,8 +7,8 @@ use native.Mathlib.Omega.{arith}
 use lib.ListN.{length, take, length-set}
 use lib.Seq.{sets}
 use lib.Dec.{ltb}
-use Rattle.search.specs.working.Written.{mapFrom}
-use Rattle.search.proofs.Map.{map-start, map-next, map-done}
+use Rattle.exploration.specs.working.Written.{mapFrom}
+use Rattle.exploration.proofs.Map.{map-start, map-next, map-done}
 use Rattle.search.proofs.maps.write_map.Statement.{statement}
 use Rattle.search.proofs.maps.write_map.Tie as tie
 

@@ -11,10 +11,10 @@ use Rattle.evaluation.proofs.Batches as B
 use Rattle.evaluation.proofs.OneRowCode.{part-rises, part-short}
 use Rattle.acceptance.proofs.SheetLaws.{stars-word, words-few}
 use Rattle.search.specs.working.CodeTransitions.{transitionsIn}
-use Rattle.search.specs.working.Runs.{firstMove}
-use Rattle.search.specs.working.Transitions.{wordsFrom, movesFrom, moves}
+use Rattle.exploration.specs.working.Runs.{firstMove}
+use Rattle.exploration.specs.working.Transitions.{wordsFrom, movesFrom, moves}
 use Rattle.search.proofs.CodeSteps.{step-picked, moves-start}
-use Rattle.search.proofs.Laws.{look-start, look-next, look-found, look-end, look-last}
+use Rattle.exploration.proofs.Laws.{look-start, look-next, look-found, look-end, look-last}
 use Rattle.search.proofs.traces.first_move.Statement.{statement}
 use Rattle.search.proofs.traces.first_move.Tie as tie
 

@@ -6,10 +6,10 @@ use native.Mathlib.Omega.{arith}
 use lib.ListN.{take}
 use Rattle.evaluation.proofs.Powers.{pow-small}
 use Rattle.search.specs.working.CodeTransitions.{transitionsIn}
-use Rattle.search.specs.working.Runs.{runTo, steps}
-use Rattle.search.specs.working.Transitions.{moveOf}
+use Rattle.exploration.specs.working.Runs.{runTo, steps}
+use Rattle.exploration.specs.working.Transitions.{moveOf}
 use Rattle.search.proofs.CodeSteps.{code-lawful, words-within}
-use Rattle.search.proofs.Trace.{Walking, walking-start, walking-below, walking-one, walking-end, walking-next, Writing, writing-start, writing-below, writing-one, writing-parent, Turn, writing-next, writing-end, recorded-short}
+use Rattle.exploration.proofs.Trace.{Walking, walking-start, walking-below, walking-one, walking-end, walking-next, Writing, writing-start, writing-below, writing-one, writing-parent, Turn, writing-next, writing-end, recorded-short}
 use Rattle.search.proofs.traces.write_trace.Statement.{statement}
 use Rattle.search.proofs.traces.write_trace.Tie as tie
 

@@ -7,7 +7,7 @@ use mathlib.Core.List.{List, [], _∷_, _++_}
 use lib.ListN.{getD}
 use lib.Dec.{eqb}
 use mathlib.Core.Logic.{_⊎_}
-use Rattle.search.specs.working.Transitions.{Transitions, Move, moves}
+use Rattle.exploration.specs.working.Transitions.{Transitions, Move, moves}
 
 pub data Run : Type 0 where
   startsAt : ℕ → Run

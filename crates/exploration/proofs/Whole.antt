@@ -8,16 +8,16 @@ use native.Mathlib.Omega.{arith}
 use lib.ListN.{length, getD, take, drop, replicate, length-append, length-map}
 use lib.Seq.{sets, length-take-le, getD-take}
 use lib.Dec.{ltb}
-use Rattle.search.specs.working.Transitions.{Transitions, Lawful}
-use Rattle.search.specs.working.Exploring.{broke, search}
-use Rattle.search.specs.working.Runs.{final, steps, runTo}
-use Rattle.search.specs.working.Tables.{seen, Ran}
-use Rattle.search.specs.working.Verdicts.{firstRun, reached, verdictOf, verdict}
-use Rattle.search.specs.working.Written.{runBytes, headBytes, mapFrom, mapLength, RecordedTo, Answered}
-use Rattle.search.proofs.First.{Ended, Searched, searched}
-use Rattle.search.proofs.Right.{queue-last}
-use Rattle.search.proofs.Trace.{run-length}
-use Rattle.search.proofs.Map.{map-length}
+use Rattle.exploration.specs.working.Transitions.{Transitions, Lawful}
+use Rattle.exploration.specs.working.Exploring.{broke, search}
+use Rattle.exploration.specs.working.Runs.{final, steps, runTo}
+use Rattle.exploration.specs.working.Tables.{seen, Ran}
+use Rattle.exploration.specs.working.Verdicts.{firstRun, reached, verdictOf, verdict}
+use Rattle.exploration.specs.working.Written.{runBytes, headBytes, mapFrom, mapLength, RecordedTo, Answered}
+use Rattle.exploration.proofs.First.{Ended, Searched, searched}
+use Rattle.exploration.proofs.Right.{queue-last}
+use Rattle.exploration.proofs.Trace.{run-length}
+use Rattle.exploration.proofs.Map.{map-length}
 
 module _ {M : Transitions} (law : Lawful M) {q₀ p₀ q : List ℕ} {n : ℕ} {p : List ℕ} {b : Bool} (R : Ran M q₀ p₀ q n p b) where
   queue-count : length (take n q) ≡ n

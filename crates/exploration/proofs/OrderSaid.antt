@@ -6,9 +6,9 @@ use mathlib.Core.Logic.{_⊎_, inl, inr, ⊎-elim}
 use mathlib.Core.List.{List, [], _∷_, _++_}
 use native.Mathlib.Omega.{arith}
 use lib.ListN.{length, length-append}
-use Rattle.search.specs.working.Transitions.{Move}
-use Rattle.search.specs.working.Runs.{Run, startsAt, goesOn, MoveBefore, Before, steps, startOf, movesOf, StepByStep, InOrder}
-use Rattle.search.proofs.Order.{shorter}
+use Rattle.exploration.specs.working.Transitions.{Move}
+use Rattle.exploration.specs.working.Runs.{Run, startsAt, goesOn, MoveBefore, Before, steps, startOf, movesOf, StepByStep, InOrder}
+use Rattle.exploration.proofs.Order.{shorter}
 
 moves-length : (r : Run) → length (movesOf r) ≡ steps r
 moves-length (startsAt s) = refl

@@ -12,7 +12,7 @@ use Rattle.meaning.specs.OneRow.{One, stateNumber, stateCount, TraceStep}
 use Rattle.meaning.specs.Evidence.{Sheet, safe, trace, inMap, TracePasses}
 use Rattle.acceptance.specs.Sheets.{mapLength}
 use Rattle.acceptance.specs.SheetTexts.{AreBytes, unusedClear}
-use Rattle.search.specs.Order.{RunBefore}
+use Rattle.exploration.specs.Order.{RunBefore}
 
 -- Some run of the table of one row leads to the state numbered t.
 abbrev pub Reaches : Model → ℕ → Type 0

@@ -9,10 +9,10 @@ use Rattle.meaning.specs.Meaning.{commandAt}
 use Rattle.meaning.specs.OneRow.{stateCount, wordCount, starts, breaks, next, TraceStep}
 use Rattle.meaning.specs.Evidence.{Sheet, safe, trace}
 use Rattle.acceptance.specs.Sheets.{System, size, mapLength}
-use Rattle.search.specs.working.Transitions.{Transitions}
-use Rattle.search.specs.working.Runs.{Run, startsAt, goesOn, final, startOf}
-use Rattle.search.specs.working.Verdicts.{Verdict, firstRun, reached, verdict}
-use Rattle.search.specs.working.Written.{mapFrom}
+use Rattle.exploration.specs.working.Transitions.{Transitions}
+use Rattle.exploration.specs.working.Runs.{Run, startsAt, goesOn, final, startOf}
+use Rattle.exploration.specs.working.Verdicts.{Verdict, firstRun, reached, verdict}
+use Rattle.exploration.specs.working.Written.{mapFrom}
 
 -- The steps of a run, each with the state after it.
 unfoldable pub stepsOf : Transitions → Run → List TraceStep

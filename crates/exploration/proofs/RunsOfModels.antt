@@ -18,12 +18,12 @@ use Rattle.meaning.proofs.Words.{wordOf, wordOf-lt, step-word}
 use Rattle.meaning.proofs.Fits.{step-fits}
 use Rattle.meaning.proofs.OneRow.{and-split, starts-tell, breaks-tell, next-stays, last-is}
 use Rattle.meaning.proofs.Accept.{all-tests-tell}
-use Rattle.search.specs.Findings.{Reaches}
-use Rattle.search.specs.working.Transitions.{Transitions, Lawful, moveOf}
-use Rattle.search.specs.working.Runs.{Run, startsAt, goesOn, final, Valid, startOf}
-use Rattle.search.specs.working.Verdicts.{Reached}
-use Rattle.search.specs.working.Found.{stepsOf, Agrees}
-use Rattle.search.proofs.TraceSteps.{every-snoc, last-snoc, tests-snoc}
+use Rattle.exploration.specs.Findings.{Reaches}
+use Rattle.exploration.specs.working.Transitions.{Transitions, Lawful, moveOf}
+use Rattle.exploration.specs.working.Runs.{Run, startsAt, goesOn, final, Valid, startOf}
+use Rattle.exploration.specs.working.Verdicts.{Reached}
+use Rattle.exploration.specs.working.Found.{stepsOf, Agrees}
+use Rattle.exploration.proofs.TraceSteps.{every-snoc, last-snoc, tests-snoc}
 
 -- The run that goes on by the steps of a trace.
 unfoldable pub onBy : Run → List TraceStep → Run

@@ -7,12 +7,12 @@ use Prim.Native.Nat.{ℕ, suc, _+_}
 use native.Mathlib.Omega.{arith}
 use lib.ListN.{length, length-append}
 use Rattle.meaning.specs.OneRow.{TraceStep}
-use Rattle.search.specs.Order.{StepsBefore, RunBefore}
-use Rattle.search.specs.working.Transitions.{Transitions, Move, moveOf}
-use Rattle.search.specs.working.Runs.{Run, startsAt, goesOn, Before, steps, startOf, movesOf, StepByStep, InOrder}
-use Rattle.search.specs.working.Found.{stepsOf}
-use Rattle.search.proofs.OrderSaid.{of-in-order}
-use Rattle.search.proofs.RunsOfModels.{onBy}
+use Rattle.exploration.specs.Order.{StepsBefore, RunBefore}
+use Rattle.exploration.specs.working.Transitions.{Transitions, Move, moveOf}
+use Rattle.exploration.specs.working.Runs.{Run, startsAt, goesOn, Before, steps, startOf, movesOf, StepByStep, InOrder}
+use Rattle.exploration.specs.working.Found.{stepsOf}
+use Rattle.exploration.proofs.OrderSaid.{of-in-order}
+use Rattle.exploration.proofs.RunsOfModels.{onBy}
 
 -- A step without the state after it.
 abbrev moveIn : TraceStep → Move

@@ -13,9 +13,9 @@ use Rattle.meaning.specs.Evidence.{inMap}
 use Rattle.meaning.proofs.Number.{bit-number, number-lt, first-length}
 use Rattle.acceptance.specs.SheetTexts.{AreBytes, unusedClear}
 use Rattle.acceptance.proofs.UnusedBits.{unused-bits}
-use Rattle.search.specs.working.Written.{bit as worth, bitAt, mapByte, mapFrom}
-use Rattle.search.proofs.Order.{lt-or-ge}
-use Rattle.search.proofs.Map.{map-length}
+use Rattle.exploration.specs.working.Written.{bit as worth, bitAt, mapByte, mapFrom}
+use Rattle.exploration.proofs.Order.{lt-or-ge}
+use Rattle.exploration.proofs.Map.{map-length}
 
 first-at : (k : ℕ) (f : ℕ → Bool) (j : ℕ) → j < k → getD (first k f) j false ≡ f j
 first-at zero f j h = absurd (not-suc-le-zero h)

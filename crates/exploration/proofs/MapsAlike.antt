@@ -15,8 +15,8 @@ use Rattle.meaning.specs.Evidence.{inMap}
 use Rattle.meaning.proofs.Number.{number-first}
 use Rattle.acceptance.specs.Sheets.{mapLength}
 use Rattle.acceptance.proofs.UnusedBits.{unused-bits}
-use Rattle.search.specs.Findings.{ExactMap}
-use Rattle.search.proofs.Order.{lt-or-ge}
+use Rattle.exploration.specs.Findings.{ExactMap}
+use Rattle.exploration.proofs.Order.{lt-or-ge}
 
 -- A byte is its eight bits.
 first-same : (k : ℕ) (f g : ℕ → Bool) → ((j : ℕ) → j < k → f j ≡ g j) → first k f ≡ first k g

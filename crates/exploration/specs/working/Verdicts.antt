@@ -7,9 +7,9 @@ use mathlib.Core.Logic.{_↔_}
 use mathlib.Core.List.{List, map}
 use lib.ListN.{length, getD}
 use lib.Dec.{ltb}
-use Rattle.search.specs.working.Transitions.{Transitions}
-use Rattle.search.specs.working.Exploring.{Progress, broke, through, search}
-use Rattle.search.specs.working.Runs.{Run, final, Valid, First, runTo}
+use Rattle.exploration.specs.working.Transitions.{Transitions}
+use Rattle.exploration.specs.working.Exploring.{Progress, broke, through, search}
+use Rattle.exploration.specs.working.Runs.{Run, final, Valid, First, runTo}
 
 -- A breaking run, or the map of the states met.
 pub data Verdict : Type 0 where

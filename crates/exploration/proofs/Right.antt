@@ -10,12 +10,12 @@ use lib.ListN.{length, getD, length-append, length-map, List·getD-map}
 use lib.Seq.{getD-at}
 use lib.Dec.{ltb}
 use borrow.Author.Tests.{lt-ltb, ltb-true}
-use Rattle.search.specs.working.Transitions.{Transitions, Lawful, Move}
-use Rattle.search.specs.working.Exploring.{Seen, Progress, broke, through, search}
-use Rattle.search.specs.working.Runs.{Run, startsAt, goesOn, final, Valid, MoveBefore, Before, First, runTo}
-use Rattle.search.specs.working.Verdicts.{reached, verdictOf, verdict, Reached, AllReached, Right}
-use Rattle.search.proofs.Order.{lt-or-ge}
-use Rattle.search.proofs.First.{at, Ended, Closed, Searched, searched, traced-met, run-to}
+use Rattle.exploration.specs.working.Transitions.{Transitions, Lawful, Move}
+use Rattle.exploration.specs.working.Exploring.{Seen, Progress, broke, through, search}
+use Rattle.exploration.specs.working.Runs.{Run, startsAt, goesOn, final, Valid, MoveBefore, Before, First, runTo}
+use Rattle.exploration.specs.working.Verdicts.{reached, verdictOf, verdict, Reached, AllReached, Right}
+use Rattle.exploration.proofs.Order.{lt-or-ge}
+use Rattle.exploration.proofs.First.{at, Ended, Closed, Searched, searched, traced-met, run-to}
 
 last-of : (l : List ℕ) (v : ℕ) → getD (l ++ v ∷ []) (length (l ++ v ∷ []) - 1) 0 ≡ v
 last-of l v = getD-at l v [] 0 (length (l ++ v ∷ []) - 1) (omega (arith, length-append l (v ∷ [])))

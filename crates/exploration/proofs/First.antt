@@ -11,12 +11,12 @@ use lib.ListN.{length, getD, set, replicate, length-append, length-set, length-m
 use lib.Seq.{getD-append-seam, getD-set-same, getD-set-other}
 use lib.Dec.{eqb, ltb}
 use borrow.Author.Tests.{eq-eqb, ne-eqb, eqb-true, eqb-false, ltb-true, ltb-false}
-use Rattle.search.specs.working.Transitions.{Transitions, Lawful, Move, moves}
-use Rattle.search.specs.working.Exploring.{Seen, Progress, broke, through, andThen, progress, push, meet, tryMoves, explore, takeIn, search}
-use Rattle.search.specs.working.Runs.{Run, startsAt, goesOn, final, Valid, Before, First, steps, firstMove, runTo, Traced}
-use Rattle.search.specs.working.Tables.{marked}
-use Rattle.search.proofs.Laws.{marked-set, marked-le, marked-lt, marked-none}
-use Rattle.search.proofs.Order.{lt-or-ge, before-trans, before-irrefl, before-then, AtMost, at-most-trans, at-most-before, at-most-then, Ascending, moves-ascending, ascending-left, ascending-found, moves-mem, moves-has}
+use Rattle.exploration.specs.working.Transitions.{Transitions, Lawful, Move, moves}
+use Rattle.exploration.specs.working.Exploring.{Seen, Progress, broke, through, andThen, progress, push, meet, tryMoves, explore, takeIn, search}
+use Rattle.exploration.specs.working.Runs.{Run, startsAt, goesOn, final, Valid, Before, First, steps, firstMove, runTo, Traced}
+use Rattle.exploration.specs.working.Tables.{marked}
+use Rattle.exploration.proofs.Laws.{marked-set, marked-le, marked-lt, marked-none}
+use Rattle.exploration.proofs.Order.{lt-or-ge, before-trans, before-irrefl, before-then, AtMost, at-most-trans, at-most-before, at-most-then, Ascending, moves-ascending, ascending-left, ascending-found, moves-mem, moves-has}
 
 pub final-below : (M : Transitions) → Lawful M → (r : Run) → Valid M r → final M r < M .size
 final-below M law (startsAt s) v = v .0

@@ -15,18 +15,18 @@ use Rattle.meaning.specs.Evidence.{inMap, TracePasses}
 use Rattle.acceptance.specs.Sheets.{mapLength}
 use Rattle.acceptance.specs.SheetTexts.{unusedClear}
 use Rattle.acceptance.proofs.SheetOpened.{eighths}
-use Rattle.search.specs.Findings.{Reaches, ExactMap, FirstBreak, Finds}
-use Rattle.search.specs.Promises.{FoundIsRight}
-use Rattle.search.specs.working.Transitions.{Transitions}
-use Rattle.search.specs.working.Runs.{Run, startsAt, First, startOf}
-use Rattle.search.specs.working.Verdicts.{Verdict, firstRun, reached, verdict, AllReached, Right}
-use Rattle.search.specs.working.Written.{mapFrom}
-use Rattle.search.specs.working.Found.{stepsOf, sheetFor, foundIn, Agrees}
-use Rattle.search.proofs.Right.{verdict-right}
-use Rattle.search.proofs.Map.{map-length}
-use Rattle.search.proofs.RunsOfModels.{onBy, lawful, trace-passes, run-reaches, trace-valid, trace-breaks, run-told, reaches-run, break-told}
-use Rattle.search.proofs.TracesInOrder.{run-before}
-use Rattle.search.proofs.MapsFound.{map-bytes, map-has, map-clear}
+use Rattle.exploration.specs.Findings.{Reaches, ExactMap, FirstBreak, Finds}
+use Rattle.exploration.specs.Promises.{FoundIsRight}
+use Rattle.exploration.specs.working.Transitions.{Transitions}
+use Rattle.exploration.specs.working.Runs.{Run, startsAt, First, startOf}
+use Rattle.exploration.specs.working.Verdicts.{Verdict, firstRun, reached, verdict, AllReached, Right}
+use Rattle.exploration.specs.working.Written.{mapFrom}
+use Rattle.exploration.specs.working.Found.{stepsOf, sheetFor, foundIn, Agrees}
+use Rattle.exploration.proofs.Right.{verdict-right}
+use Rattle.exploration.proofs.Map.{map-length}
+use Rattle.exploration.proofs.RunsOfModels.{onBy, lawful, trace-passes, run-reaches, trace-valid, trace-breaks, run-told, reaches-run, break-told}
+use Rattle.exploration.proofs.TracesInOrder.{run-before}
+use Rattle.exploration.proofs.MapsFound.{map-bytes, map-has, map-clear}
 
 -- A trace that passes is a run of the table of one row that goes wrong.
 pub trace-unsafe : (m : Model) (s : ℕ) (xs : List TraceStep) → TracePasses m s xs → Unsafe m One

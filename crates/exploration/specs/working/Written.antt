@@ -7,9 +7,9 @@ use mathlib.Core.List.{List, [], _∷_, _++_}
 use lib.ListN.{length, getD, drop, replicate}
 use lib.Seq.{sets}
 use Rattle.acceptance.specs.Sheets as S
-use Rattle.search.specs.working.Transitions.{Transitions, Move}
-use Rattle.search.specs.working.Runs.{Run, startsAt, goesOn, final, Valid, steps, Traced}
-use Rattle.search.specs.working.Verdicts.{Verdict, firstRun, reached, verdict}
+use Rattle.exploration.specs.working.Transitions.{Transitions, Move}
+use Rattle.exploration.specs.working.Runs.{Run, startsAt, goesOn, final, Valid, steps, Traced}
+use Rattle.exploration.specs.working.Verdicts.{Verdict, firstRun, reached, verdict}
 
 -- A record's first six bytes: the payload's length, below 65536, and the kind.
 abbrev pub headBytes : ℕ → ℕ → List ℕ

@@ -6,10 +6,10 @@ use mathlib.Core.List.{List, [], _∷_, _++_}
 use native.Mathlib.Omega.{arith}
 use lib.ListN.{length, getD, set, take, length-append}
 use lib.Seq.{sets, length-sets, set-comm, getD-take}
-use Rattle.search.specs.working.Transitions.{Transitions, Lawful, Move, moves}
-use Rattle.search.specs.working.Runs.{Run, startsAt, goesOn, final, MoveOf, Valid, steps, firstMove, runTo, Traced}
-use Rattle.search.specs.working.Written.{startBytes, stepBytes, runBytes, RecordedTo}
-use Rattle.search.proofs.First.{run-to, final-below}
+use Rattle.exploration.specs.working.Transitions.{Transitions, Lawful, Move, moves}
+use Rattle.exploration.specs.working.Runs.{Run, startsAt, goesOn, final, MoveOf, Valid, steps, firstMove, runTo, Traced}
+use Rattle.exploration.specs.working.Written.{startBytes, stepBytes, runBytes, RecordedTo}
+use Rattle.exploration.proofs.First.{run-to, final-below}
 
 -- Stores that don't meet.
 

@@ -15,10 +15,10 @@ use Rattle.meaning.specs.Evidence.{safe, trace, TracePasses}
 use Rattle.meaning.specs.working.Conditions.{testE}
 use Rattle.meaning.proofs.OneRow.{and-split}
 use Rattle.meaning.proofs.Accept.{all-tests-tell}
-use Rattle.search.specs.Order.{StepBefore, StepsBefore, RunBefore}
-use Rattle.search.specs.Findings.{FirstBreak, FindsOnce}
-use Rattle.search.proofs.Order.{lt-or-ge}
-use Rattle.search.proofs.MapsAlike.{maps-alike}
+use Rattle.exploration.specs.Order.{StepBefore, StepsBefore, RunBefore}
+use Rattle.exploration.specs.Findings.{FirstBreak, FindsOnce}
+use Rattle.exploration.proofs.Order.{lt-or-ge}
+use Rattle.exploration.proofs.MapsAlike.{maps-alike}
 
 trichotomy : (a b : ℕ) → (a < b) ⊎ ((a ≡ b) ⊎ (b < a))
 trichotomy a b =

@@ -5,7 +5,7 @@ use mathlib.Core.Bool.{Bool, true, false, cond}
 use mathlib.Core.List.{List, [], _∷_, _++_}
 use lib.ListN.{length, getD, set, replicate}
 use lib.Dec.{ltb, eqb}
-use Rattle.search.specs.working.Transitions.{Transitions, Move, moves}
+use Rattle.exploration.specs.working.Transitions.{Transitions, Move, moves}
 
 -- The states met, in the order met; and of each state its parent's number plus 1, 0 where it is not met, its own number plus 1 where it is a start state.
 pub record Seen : Type 0 where

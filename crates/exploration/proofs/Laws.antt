@@ -11,10 +11,10 @@ use lib.Seq.{length-take-le, take-suc-set, take-set-lt, drop-set-lt, getD-take, 
 use borrow.Author.Count.{below-more}
 use lib.Dec.{ltb}
 use borrow.Author.Tests.{eq-eqb, ne-eqb, lt-ltb, le-ltb, ltb-false}
-use Rattle.search.specs.working.Transitions.{Transitions, Move, moveOf, wordsFrom, movesFrom, moves}
-use Rattle.search.specs.working.Exploring.{Seen, Progress, broke, through, andThen, progress, meet, tryMoves, takeIn, explore, search}
-use Rattle.search.specs.working.Runs.{firstMove}
-use Rattle.search.specs.working.Tables.{seen, marked, Ready, Kept, Explored, Meets, Took, Ran}
+use Rattle.exploration.specs.working.Transitions.{Transitions, Move, moveOf, wordsFrom, movesFrom, moves}
+use Rattle.exploration.specs.working.Exploring.{Seen, Progress, broke, through, andThen, progress, meet, tryMoves, takeIn, explore, search}
+use Rattle.exploration.specs.working.Runs.{firstMove}
+use Rattle.exploration.specs.working.Tables.{seen, marked, Ready, Kept, Explored, Meets, Took, Ran}
 
 -- Entries that are not 0.
 

@@ -5,8 +5,8 @@ use mathlib.Core.Path.{_≡_}
 use mathlib.Core.Bool.{Bool}
 use mathlib.Core.List.{List, [], _∷_}
 use lib.ListN.{length, getD, take, drop}
-use Rattle.search.specs.working.Transitions.{Transitions}
-use Rattle.search.specs.working.Exploring.{Seen, progress, meet, takeIn, explore, search}
+use Rattle.exploration.specs.working.Transitions.{Transitions}
+use Rattle.exploration.specs.working.Exploring.{Seen, progress, meet, takeIn, explore, search}
 
 -- What the tables say: the first n entries of one are the queue, the first `size` of the other the parents.
 abbrev pub seen : Transitions → List ℕ → ℕ → List ℕ → Seen

@@ -9,7 +9,7 @@ use lib.ListN.{length, getD, set, take, length-take, length-map, List·getD-map,
 use lib.Seq.{sets, getD-take}
 use lib.Dec.{ltb}
 use borrow.Author.Tests.{lt-ltb, le-ltb}
-use Rattle.search.specs.working.Written.{bit, bitAt, mapByte, mapFrom}
+use Rattle.exploration.specs.working.Written.{bit, bitAt, mapByte, mapFrom}
 
 module _ (m : ℕ) (p : List ℕ) (s : ℕ) where
   bit-in : s < m → bitAt (map (ltb 0) (take m p)) s ≡ bit (ltb 0 (getD p s 0))

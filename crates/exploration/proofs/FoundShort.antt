@@ -11,17 +11,17 @@ use Rattle.meaning.specs.OneRow.{TraceStep}
 use Rattle.meaning.specs.Evidence.{safe, trace}
 use Rattle.acceptance.specs.Sheets.{System, mapLength, little, recordBytes, headerBytes, mapBytes, startBytes, sheetBytes}
 use Rattle.acceptance.proofs.SheetWritten.{steps-length}
-use Rattle.search.specs.working.Transitions.{Transitions}
-use Rattle.search.specs.working.Exploring.{Progress, broke, through, search}
-use Rattle.search.specs.working.Runs.{Run, startsAt, goesOn, final, steps, startOf}
-use Rattle.search.specs.working.Verdicts as D
-use Rattle.search.specs.working.Verdicts.{Verdict, firstRun, reached}
-use Rattle.search.specs.working.Written.{mapFrom}
-use Rattle.search.specs.working.Found.{stepsOf, sheetFor, foundIn, Agrees}
-use Rattle.search.proofs.First.{Searched, searched, run-to}
-use Rattle.search.proofs.Right.{queue-last}
-use Rattle.search.proofs.Map.{map-length}
-use Rattle.search.proofs.RunsOfModels.{lawful}
+use Rattle.exploration.specs.working.Transitions.{Transitions}
+use Rattle.exploration.specs.working.Exploring.{Progress, broke, through, search}
+use Rattle.exploration.specs.working.Runs.{Run, startsAt, goesOn, final, steps, startOf}
+use Rattle.exploration.specs.working.Verdicts as D
+use Rattle.exploration.specs.working.Verdicts.{Verdict, firstRun, reached}
+use Rattle.exploration.specs.working.Written.{mapFrom}
+use Rattle.exploration.specs.working.Found.{stepsOf, sheetFor, foundIn, Agrees}
+use Rattle.exploration.proofs.First.{Searched, searched, run-to}
+use Rattle.exploration.proofs.Right.{queue-last}
+use Rattle.exploration.proofs.Map.{map-length}
+use Rattle.exploration.proofs.RunsOfModels.{lawful}
 
 -- How many bytes a sheet has.
 module _ (M : System) where

@@ -1,0 +1,5 @@
+-- What there is to find of a model, and in `working` how it is found.
+pub mod Order
+pub mod Findings
+pub mod working
+pub mod Promises

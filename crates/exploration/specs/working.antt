@@ -1,0 +1,8 @@
+-- Definitions that only describe how a program goes about it. Nothing here has to be believed: theorems tie it to the definitions beside this folder.
+pub mod Transitions
+pub mod Exploring
+pub mod Runs
+pub mod Verdicts
+pub mod Tables
+pub mod Written
+pub mod Found
