@@ -1,10 +1,10 @@
 -- The sheet that the search finds has room in the lent buffer: its run has fewer steps than there are states.
 -- Assumes nothing.
-use mathlib.Core.Path.{_≡_, refl, sym, subst}
-use mathlib.Core.List.{List, [], _∷_}
+use mathlib.Core.Path.{_≡_, sym, subst}
+use mathlib.Core.List.{List}
 use Prim.Native.Nat.{ℕ, _+_, _*_, _<_, _≤_}
 use native.Mathlib.Omega.{arith}
-use lib.ListN.{length, length-append}
+use lib.ListN.{length}
 use lib.Pow.{pow-pos}
 use Rattle.notation.specs.Model.{Model}
 use Rattle.meaning.specs.OneRow.{TraceStep}
@@ -13,7 +13,7 @@ use Rattle.acceptance.specs.Sheets.{System, mapLength, little, recordBytes, hea
 use Rattle.acceptance.proofs.SheetWritten.{steps-length}
 use Rattle.exploration.specs.working.Transitions.{Transitions}
 use Rattle.exploration.specs.working.Exploring.{Progress, broke, through, search}
-use Rattle.exploration.specs.working.Runs.{Run, startsAt, goesOn, final, steps, startOf}
+use Rattle.exploration.specs.working.Runs.{steps, startOf}
 use Rattle.exploration.specs.working.Verdicts as D
 use Rattle.exploration.specs.working.Verdicts.{Verdict, firstRun, reached}
 use Rattle.exploration.specs.working.Written.{mapFrom}
@@ -22,6 +22,7 @@ use Rattle.exploration.proofs.First.{Searched, searched, run-to}
 use Rattle.exploration.proofs.Right.{queue-last}
 use Rattle.exploration.proofs.Map.{map-length}
 use Rattle.exploration.proofs.RunsOfModels.{lawful}
+use Rattle.exploration.proofs.TracesInOrder.{steps-count}
 
 -- How many bytes a sheet has.
 module _ (M : System) where
@@ -41,11 +42,6 @@ Short T (reached b) = Unit {0}
 short-of : (T : Transitions) (o : Progress) → Searched T o → Short T (D.verdictOf T o)
 short-of T (broke x) E = rw (queue-last T x E, run-to T (x .parent) (E .last) (E .traced) (T .size) (omega (arith, E .short))) (E .short)
 short-of T (through x) C = tt
-
-steps-count : (T : Transitions) (r : Run) → length (stepsOf T r) ≡ steps r
-unfolding stepsOf
-steps-count T (startsAt s) = refl
-steps-count T (goesOn r k) = omega (arith, length-append (stepsOf T r) (record { command = k .command; word = k .word; after = T .step (final T r) (k .command) (k .word) } ∷ []), steps-count T r)
 
 map-room : (n : ℕ) → 1 ≤ n → 15 + mapLength n ≤ 7 + 10 * n
 unfolding mapLength

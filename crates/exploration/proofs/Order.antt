@@ -6,7 +6,7 @@ use mathlib.Core.Logic.{_⊎_, inl, inr, ⊎-elim}
 use mathlib.Core.List.{List, [], _∷_, _++_, List·Memᴰ, List·Memᴰ·head, List·Memᴰ·tail, List·Memᴰ·cases-cons, List·Memᴰ·append-cases, List·Memᴰ·not-nil, Memᴰ·append-left, Memᴰ·append-right}
 use native.Mathlib.Omega.{arith}
 use native.Mathlib.Decide.{decLt}
-use Rattle.exploration.specs.working.Transitions.{Transitions, Move, wordsFrom, movesFrom, moves}
+use Rattle.exploration.specs.working.Transitions.{Transitions, Move, wordsFrom, movesFrom}
 use Rattle.exploration.specs.working.Runs.{Run, startsAt, goesOn, MoveBefore, Before, steps}
 
 pub lt-or-ge : (a b : ℕ) → (a < b) ⊎ (b ≤ a)

@@ -18,10 +18,10 @@ use Rattle.exploration.proofs.RunsOfModels.{onBy}
 abbrev moveIn : TraceStep → Move
 moveIn x = moveOf (x .command) (x .word)
 
-steps-length : (T : Transitions) (r : Run) → length (stepsOf T r) ≡ steps r
+pub steps-count : (T : Transitions) (r : Run) → length (stepsOf T r) ≡ steps r
 unfolding stepsOf
-steps-length T (startsAt s) = refl
-steps-length T (goesOn r k) = length-append (stepsOf T r) (_ ∷ []) ∙ sum _ _ (steps-length T r)
+steps-count T (startsAt s) = refl
+steps-count T (goesOn r k) = length-append (stepsOf T r) (_ ∷ []) ∙ sum _ _ (steps-count T r)
   where
     sum : (a b : ℕ) → a ≡ b → a + 1 ≡ suc b
     sum a b e = omega arith
@@ -54,11 +54,11 @@ step-by-step (x ∷ xs) (y ∷ ys) (inr h) = inr (λ i. moveOf (h .0 i) (h .1 i)
 
 module _ (T : Transitions) (s : ℕ) (xs : List TraceStep) (r : Run) where
   in-order : RunBefore s xs (startOf r) (stepsOf T r) → InOrder (onBy (startsAt s) xs) r
-  in-order (inl h) = inl (omega (arith, on-length (startsAt s) xs, steps-length T r))
-  in-order (inr (e, inl h)) = inr (omega (arith, on-length (startsAt s) xs, steps-length T r), inl (rw (on-start (startsAt s) xs) h))
+  in-order (inl h) = inl (omega (arith, on-length (startsAt s) xs, steps-count T r))
+  in-order (inr (e, inl h)) = inr (omega (arith, on-length (startsAt s) xs, steps-count T r), inl (rw (on-start (startsAt s) xs) h))
   in-order (inr (e, inr (f, h))) =
       inr (
-        omega (arith, on-length (startsAt s) xs, steps-length T r),
+        omega (arith, on-length (startsAt s) xs, steps-count T r),
         inr (
           on-start (startsAt s) xs ∙ f,
           subst (λ (l : List Move). StepByStep l (movesOf r)) (sym (on-moves (startsAt s) xs))

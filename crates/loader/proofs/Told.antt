@@ -2,7 +2,7 @@
 -- Assumes nothing.
 use mathlib.Core.Path.{_≡_, refl, sym, ap, _∙_, subst}
 use mathlib.Core.List.{List, []}
-use Prim.Native.Nat.{ℕ, _+_, _*_, _≤_}
+use Prim.Native.Nat.{ℕ, _+_, _≤_}
 use native.Mathlib.Omega.{arith}
 use lib.ListN.{length}
 use borrow.Author.Tests.{ne-eqb}
@@ -17,7 +17,7 @@ use Rattle.reader.specs.Read.{codeOf, readingOf}
 use Rattle.reader.proofs.Promised.{read-answers}
 use Rattle.acceptance.specs.declared.outcome.Outcome.{Outcome}
 use Rattle.acceptance.specs.declared.outcome.Outcome.the-variants as O
-use Rattle.acceptance.specs.Outcomes.{Wording, wordingOf}
+use Rattle.acceptance.specs.Outcomes.{wordingOf}
 use Rattle.acceptance.specs.Promises.{Bounded}
 use Rattle.acceptance.specs.working.Test.{testOf}
 use Rattle.acceptance.proofs.TestTexts.{was-read}

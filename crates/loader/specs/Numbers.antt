@@ -8,7 +8,6 @@ use Rattle.acceptance.specs.Outcomes.{Wording, words, letter, returned}
 use Rattle.reader.specs.declared.Answer.{Answer}
 use Rattle.reader.specs.declared.Answer.the-variants.{Read, Refused}
 use Rattle.reader.specs.declared.Code.{Code}
-use Rattle.reader.specs.declared.Reading.{Reading}
 use Rattle.reader.specs.Read.{readingOf}
 use Rattle.packing.specs.Packed.{packed, initial}
 

@@ -25,7 +25,7 @@ unfolding count
 count-append k [] qs = omega arith
 count-append k (part r t ∷ ps) qs = rw (count-append k ps qs) (omega arith)
 
-this-append : (us ps qs : List Part) → thisCommand us (ps ++ qs) ≡ thisCommand (thisCommand us ps) qs
+pub this-append : (us ps qs : List Part) → thisCommand us (ps ++ qs) ≡ thisCommand (thisCommand us ps) qs
 unfolding thisCommand
 this-append us [] qs = refl
 this-append us (part r t ∷ ps) qs = this-append (cond (view r .anew) [] us ++ part r t ∷ []) ps qs

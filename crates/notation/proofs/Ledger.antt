@@ -14,6 +14,7 @@ use Rattle.notation.specs.Notation.{Kind, Role, Part, part, declares, us
 use Rattle.notation.specs.Rules.{elem, view, wordOf, depthLimit, SHARED-NAMES, ROW-NAMES, NAMES, COMMANDS, ITEMS, NODES, STARS, named, names, count, thisCommand, again, unknown, over, breach, Kept, total, nameCounts}
 use Rattle.notation.specs.working.Ledger.{Book, blankBook, note, notes, namedOn, countedOn, tally, fault, Clean, exceeds}
 use Rattle.notation.specs.working.Ledger as L
+use Rattle.notation.proofs.Counts.{count-append, this-append}
 
 -- ---- the names
 
@@ -30,21 +31,15 @@ names-kept b (part r t ∷ ps) = names-kept (note b (part r t)) ps ∙ named-is 
 
 count-one : (k : ℕ) (ps : List Part) (r : Role) (t : Token) → count k (ps ++ part r t ∷ []) ≡ cond (elem k (view r .adds)) (suc (count k ps)) (count k ps)
 unfolding count
-count-one k [] r t = go (elem k (view r .adds))
+count-one k ps r t = count-append k ps (part r t ∷ []) ∙ go (elem k (view r .adds))
   where
-    go : (x : Bool) → cond x 1 0 + 0 ≡ cond x 1 0
-    go true = refl
-    go false = refl
-count-one k (part plain u ∷ ps) r t = ap (λ (n : ℕ). cond (elem k (view plain .adds)) 1 0 + n) (count-one k ps r t) ∙ go (elem k (view r .adds))
-  where
-    go : (x : Bool) → cond (elem k (view plain .adds)) 1 0 + cond x (suc (count k ps)) (count k ps) ≡ cond x (suc (cond (elem k (view plain .adds)) 1 0 + count k ps)) (cond (elem k (view plain .adds)) 1 0 + count k ps)
+    go : (x : Bool) → count k ps + (cond x 1 0 + 0) ≡ cond x (suc (count k ps)) (count k ps)
     go true = omega arith
-    go false = refl
+    go false = omega arith
 
-this-one : (us ps : List Part) (r : Role) (t : Token) → thisCommand us (ps ++ part r t ∷ []) ≡ cond (view r .anew) [] (thisCommand us ps) ++ part r t ∷ []
+this-one : (ps : List Part) (r : Role) (t : Token) → thisCommand [] (ps ++ part r t ∷ []) ≡ cond (view r .anew) [] (thisCommand [] ps) ++ part r t ∷ []
 unfolding thisCommand
-this-one us [] r t = refl
-this-one us (part plain u ∷ ps) r t = this-one (cond (view plain .anew) [] us ++ part plain u ∷ []) ps r t
+this-one ps r t = this-append [] ps (part r t ∷ [])
 
 abbrev tallied : List Part → List ℕ
 tallied ps =
@@ -53,7 +48,7 @@ tallied ps =
 tallied-one : (ps : List Part) (r : Role) (t : Token) → tallied (ps ++ part r t ∷ []) ≡ countedOn (view r) (tallied ps)
 unfolding tally count
 tallied-one ps r t =
-    rw (count-one 0 ps r t, count-one 1 ps r t, count-one 2 ps r t, count-one 3 ps r t, count-one 4 ps r t, count-one 5 ps r t, this-one [] ps r t, count-one 6 (cond (view r .anew) [] (thisCommand [] ps)) r t)
+    rw (count-one 0 ps r t, count-one 1 ps r t, count-one 2 ps r t, count-one 3 ps r t, count-one 4 ps r t, count-one 5 ps r t, this-one ps r t, count-one 6 (cond (view r .anew) [] (thisCommand [] ps)) r t)
     (go (view r .anew))
   where
     go : (x : Bool) → cond (elem 0 (view r .adds)) (suc (count 0 ps)) (count 0 ps) ∷ cond (elem 1 (view r .adds)) (suc (count 1 ps)) (count 1 ps)
@@ -115,7 +110,7 @@ breach-is us (part r t) =
     ∙ ap (λ (x : Bool). judged (again us (view r .declared) (wordOf t)) x (view r .barred) (cond (ltb depthLimit (view r .depth)) true (exceeds (view r .adds) (countedOn (view r) (tallied us))))) (unknown-is us (view r .kinds) (wordOf t))
     ∙ ap (λ (x : Bool). judged (again us (view r .declared) (wordOf t)) (unknown us (view r .kinds) (wordOf t)) (view r .barred) (cond (ltb depthLimit (view r .depth)) true x)) (over-is us r t)
 
-notes-one : (b : Book) (us : List Part) (p : Part) → notes b (us ++ p ∷ []) ≡ note (notes b us) p
+pub notes-one : (b : Book) (us : List Part) (p : Part) → notes b (us ++ p ∷ []) ≡ note (notes b us) p
 notes-one b [] p = refl
 notes-one b (u ∷ us) p = notes-one (note b u) us p
 

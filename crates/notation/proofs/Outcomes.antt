@@ -1,7 +1,7 @@
 -- The reading and the definitions agree: on which tokens say which tree, and on the first refusal.
 -- Assumes nothing.
 use mathlib.Core.Path.{_≡_, refl, sym, _∙_, ap, ap₂, subst}
-use mathlib.Core.Bool.{true, false, false≢true}
+use mathlib.Core.Bool.{false, false≢true}
 use mathlib.Core.List.{List, [], _∷_, _++_, append-assoc, append-nil}
 use mathlib.Core.Option.{Option, none, some, Option·none-ne-some, Option·some-injective}
 use Prim.Native.Nat.{ℕ}
@@ -18,7 +18,7 @@ use Rattle.notation.proofs.Check.{ll1-table}
 use Rattle.notation.proofs.Machine.{Good, step-reads, ending-reads, reads-ending, reads-step}
 use Rattle.notation.proofs.Spelt.{text-is}
 use Rattle.notation.proofs.Trees.{tree-of}
-use Rattle.notation.proofs.Ledger.{breach-is, clean-kept}
+use Rattle.notation.proofs.Ledger.{breach-is, notes-one, clean-kept}
 
 start-good : Good (whole ∷ [])
 unfolding firsts
@@ -159,10 +159,6 @@ clean-more : (b : Book) (ps : List Part) (p : Part) → Clean b ps → fault (no
 clean-more b [] p c e = (e, tt)
 clean-more b (r ∷ ps) p c e = (c .0, clean-more (note b r) ps p (c .1) e)
 
-notes-more : (b : Book) (ps : List Part) (p : Part) → notes b (ps ++ p ∷ []) ≡ note (notes b ps) p
-notes-more b [] p = refl
-notes-more b (r ∷ ps) p = notes-more (note b r) ps p
-
 -- The state and the book after clean parts: what stands there is what may follow from the start.
 record At (us : List Lexeme) (ps : List Part) (s : State) (b : Book) : Type 0 where
   spelt : Spells us ps
@@ -182,7 +178,7 @@ next {us} {ps} {s} {b} i y t a e f =
       forth = λ rs z D. there rs z (a .forth _ z (rw append-assoc at D)) .0;
       good = let h = complete (y .1 .want) (y .1 .cont) in there (h .0) (h .1) (step-reads (s .want) (s .cont) e (h .2)) .1;
       clean = clean-more blankBook ps (part (y .0) t) (a .clean) (rw a.book f);
-      book = notes-more blankBook ps (part (y .0) t) ∙ rw a.book;
+      book = notes-one blankBook ps (part (y .0) t) ∙ rw a.book;
     }
   where
     there : (rs : List Part) (z : Tree) → Stands s (part (y .0) t ∷ rs) z → Stands (y .1) rs z × Good (y .1 .want)

@@ -1,18 +1,18 @@
 -- Where the first refusal of a text stands, and which numbers it can have.
 -- Assumes nothing.
-use mathlib.Core.Path.{_≡_, refl}
+use mathlib.Core.Path.{_≡_}
 use mathlib.Core.Bool.{Bool, true, false, cond}
 use mathlib.Core.List.{List, [], _∷_, _++_}
 use mathlib.Core.Option.{Option, none, some}
-use Prim.Native.Nat.{ℕ, suc, _+_, _≤_, _<_}
+use Prim.Native.Nat.{ℕ, _+_, _≤_, _<_}
 use native.Mathlib.Omega.{arith}
 use lib.Dec.{ltb}
 use lib.ListN.{length, length-append}
 use Rattle.notation.specs.Tokens.{Token, Lexeme, at, Cut, ended, blank, run, mark, assign, colon, barred}
 use Rattle.notation.specs.Notation.{Part, part}
 use Rattle.notation.specs.Rules.{depthLimit, view, wordOf, over, again, unknown, breach}
-use Rattle.notation.specs.Texts.{Refused, atByte, atToken, atEnd, atRule, TextRefused, tooLong, inside}
-use Rattle.notation.specs.Promises.{Bounded, RefusalsBounded}
+use Rattle.notation.specs.Texts.{Refused, atByte, atToken, atEnd, atRule, tooLong, inside}
+use Rattle.notation.specs.Promises.{RefusalsBounded}
 
 -- Each lexeme stands before the place n.
 abbrev Before : ℕ → List Lexeme → Type 0

@@ -21,7 +21,7 @@ use Rattle.notation.proofs.Parts.{obeys, from-splits, parted, text-part
 
 -- ---- the names that parts declare
 
-or-false : (x : Bool) → cond x true false ≡ x
+pub or-false : (x : Bool) → cond x true false ≡ x
 or-false true = refl
 or-false false = refl
 

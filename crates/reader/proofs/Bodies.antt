@@ -1,6 +1,6 @@
 -- A command's body: `if`, and then a test with its two branches.
 -- Assumes nothing.
-use mathlib.Core.Path.{_≡_, sym, ap, subst}
+use mathlib.Core.Path.{_≡_, refl, sym, ap, subst}
 use mathlib.Core.Bool.{true, false}
 use mathlib.Core.List.{List}
 use Prim.Native.Nat.{ℕ}
@@ -20,7 +20,7 @@ use Rattle.reader.specs.working.Items.{itemsWords}
 use Rattle.reader.specs.working.Sequences.{Tested, tested, testedWords, allItems}
 use Rattle.reader.specs.working.Commands.{bodyReader, BodySays}
 use Rattle.reader.proofs.Factors.{expected-ok, expected-bad}
-use Rattle.reader.proofs.Sequences.{says-from, past-ready}
+use Rattle.reader.proofs.Sequences.{says-from, sign-ready}
 
 -- Where a command's test stands.
 abbrev pub inTable : Scope
@@ -38,8 +38,7 @@ module _ (text names : List ℕ) (l : Ledger) (c : Cursor) (r : Ready text l 3 c
 
   module _ (d : Cursor) (e : Expected text c 6 (Ok d)) where
     pub body-ready : Ready text l 3 d
-    unfolding Expected
-    body-ready = past-ready text names l 3 3 c d (c .items) (c .nodes) (c .stars) r (e .1) (r .items) (r .nodes) (r .stars) (r .room)
+    body-ready = sign-ready text names l 3 6 c d (Ok d) r e refl
 
     pub body-says : (p a : List ℕ) (y : Parsed) → Says text names l (testedWords text names l (itemsWords text names l)) 3 d p (tested (length text) (allItems (length text)) 18 (orAt text names inTable l 16 d)) a y → BodySays text names l c p a y
     unfolding Expected

@@ -4,7 +4,7 @@ use mathlib.Core.Path.{_≡_, refl, sym, ap, _∙_, subst}
 use mathlib.Core.Bool.{Bool, true, false, cond}
 use mathlib.Core.List.{List, [], _∷_, append-assoc}
 use mathlib.Core.Option.{Option}
-use Prim.Native.Nat.{ℕ, _+_, _-_, _*_, _≤_, _<_}
+use Prim.Native.Nat.{ℕ, _+_, _-_, _≤_, _<_}
 use native.Mathlib.Nat.{zero-add}
 use native.Mathlib.Omega.{arith}
 use lib.ListN.{length, length-append}
@@ -38,7 +38,7 @@ use Rattle.reader.proofs.Done.{stores}
 use Rattle.reader.proofs.Lookup.{words-length, shared-name, row-name}
 use Rattle.reader.proofs.Operands.{found-out, found-in}
 use Rattle.reader.proofs.Factors.{expected-ok, expected-bad}
-use Rattle.reader.proofs.Sequences.{says-map, says-from, past-ready}
+use Rattle.reader.proofs.Sequences.{says-map, says-from, past-ready, sign-ready}
 use Rattle.reader.specs.working.Sequences.{allRows, Tested, tested, testedWords}
 
 -- Where the expressions of a `for` stand.
@@ -237,11 +237,9 @@ module _ (text names : List ℕ) (l : Ledger) (c : Cursor) (r : Ready text l 0 c
           assign-value = assign-goes ∙ ap (λ (o : Got (Unit {0})). thenReads o (λ u ts b. orReader (length text) (modeIn rows) 0 ts b)) (expected-ok text names l d 20 v (omega arith) e) ∙ ap (λ (m : Mode). orReader (length text) m 0 (listed text (v .next)) (bookOf text names l v)) mode-is
 
           pub value-ready : Ready text l 1 v
-          unfolding Expected
           value-ready =
-              past-ready text names l 1 1 d v (d .items) (d .nodes) (d .stars) (past-ready text names l 0 1 c d (c .items + 1) (c .nodes) (c .stars) r q (omega arith) (r .nodes) (r .stars) (omega (arith, r .room))) (e .1)
-              (subst (λ (z : Cursor). z .items ≤ 256) (sym (q .is)) (omega arith)) (subst (λ (z : Cursor). z .nodes ≤ 1024) (sym (q .is)) (r .nodes)) (subst (λ (z : Cursor). z .stars ≤ 8) (sym (q .is)) (r .stars))
-              (subst (λ (z : Cursor). z .emitted + 1 ≤ z .nodes + 3 * z .items + 3 * l .commands) (sym (q .is)) (omega (arith, r .room)))
+              sign-ready text names l 1 20 d v (Ok v)
+              (past-ready text names l 0 1 c d (c .items + 1) (c .nodes) (c .stars) r q (omega arith) (r .nodes) (r .stars) (omega (arith, r .room))) e refl
 
           pub assign-says : (p a b : List ℕ) (inner y : Parsed) → SaysExpr text names l v p (orAt text names sc l 16 v) a inner → AfterNode (192 + i) inner a b y → SaysAssign text names l rows c p b y
           unfolding Expected

@@ -16,8 +16,10 @@ use Rattle.notation.specs.Tokens.{Word}
 use Rattle.notation.specs.Notation.{Kind, sharedName, rowName, commandName}
 use Rattle.notation.specs.Rules.{has}
 use Rattle.notation.specs.Texts.{among, placeOf}
+use Rattle.notation.proofs.Scopes.{or-false}
 use Rattle.reader.specs.declared.cursor.Ledger.{Ledger}
 use Rattle.reader.specs.working.Names.{window, wordAt, wordsIn, sharedWords, rowWords, commandWords, kinded, namesKept}
+use Rattle.reader.proofs.Spelling.{lengths-differ}
 
 -- ---- windows of the text
 
@@ -33,17 +35,6 @@ window-from text e s (suc n) h k = rw (window-from text e (suc s) n (omega arith
 
 pub window-slice : (text : List ℕ) (s e : ℕ) → s ≤ e → e ≤ length text → window text s (e - s) ≡ slice s e text
 window-slice text s e h k = window-from text e s (e - s) (omega arith) k
-
-pub lengths-differ : (v w : Word) → (length v ≡ length w → ⊥) → false ≡ sameWord v w
-unfolding sameWord
-lengths-differ [] [] h = absurd (h refl)
-lengths-differ [] (b ∷ w) h = refl
-lengths-differ (a ∷ v) [] h = refl
-lengths-differ (a ∷ v) (b ∷ w) h = go (eqb a b) (lengths-differ v w (λ e. h (omega arith)))
-  where
-    go : (x : Bool) → false ≡ sameWord v w → false ≡ cond x (sameWord v w) false
-    go true e = e
-    go false e = refl
 
 -- The piece from s to e against the name i, of n bytes from a on.
 module _ (text names : List ℕ) (i s e a n : ℕ) (h : s ≤ e) (k : e ≤ length text) (p : a ≡ getD names i 0) (q : n ≡ getD names (28 + i) 0) where
@@ -84,10 +75,6 @@ module _ (text : List ℕ) (a b n : ℕ) where
   same-end j h = let e : n - j ≡ 0 = omega arith in rw e
 
 -- ---- the place of a word among words
-
-or-false : (x : Bool) → cond x true false ≡ x
-or-false true = refl
-or-false false = refl
 
 or-or : (x y z : Bool) → cond x true (cond y true z) ≡ cond (cond x true y) true z
 or-or true y z = refl

@@ -32,41 +32,17 @@ use Rattle.reader.proofs.Done.{said-ok, said-bad, done-ready, then-bad}
 use Rattle.reader.proofs.Answers.{expected-said}
 use Rattle.reader.proofs.Factors.{expected-ok, expected-bad}
 use Rattle.reader.specs.working.Sequences.{Pair, pairOf, paired, pairing, signedBy}
-use Rattle.reader.proofs.Sequences.{says-pair, pair-bad, says-map, says-from, past-ready}
+use Rattle.reader.proofs.Sequences.{says-pair, pair-bad, says-map, sign-done, sign-stops, says-from}
 
 -- ---- signs before and after what is read
 
 module _ (text names : List ℕ) (l : Ledger) where
-  -- A reader may be called past a sign.
-  pub sign-ready : (spare k : ℕ) (c d : Cursor) (sign : Parsed) → Ready text l spare c → Expected text c k sign → sign ≡ Ok d → Ready text l spare d
-  unfolding Expected
-  sign-ready spare k c d sign r h f = past-ready text names l spare spare c d (c .items) (c .nodes) (c .stars) r (expected-said text c k sign (Ok d) h f .1) (r .items) (r .nodes) (r .stars) (r .room)
-
   -- A sign after what was read.
   says-sign : {A : Type 0} (code : ℕ → A → Numbered (List ℕ)) (x : ℕ) (s : Cursor) (p : List ℕ) (g : Got A) (a : List ℕ) (c : Cursor) (k : ℕ) (y : Parsed) → k < 24 →
       Done text names l code x s p g a c → Expected text c k y → Says text names l code x s p (signedBy (length text) k g) a y
-  unfolding Says Expected
-  says-sign code x s p g a c k (Refused n i) h d e =
-      ap (λ (o : Got _). signedBy (length text) k o) (d .says) ∙ ap (λ (o : Got (Unit {0})). thenReads o (λ u ts b. got (d .tree) ts b)) (expected-bad text names l c k n i (d .fresh) e)
-  says-sign code x s p g a c k (Ok v) h d e =
-      let same : v .emitted ≡ c .emitted = ap (λ (z : Cursor). z .emitted) (e .1 .is) in
-      let stars : v .stars ≡ c .stars = ap (λ (z : Cursor). z .stars) (e .1 .is) in
-      let nodes : v .nodes ≡ c .nodes = ap (λ (z : Cursor). z .nodes) (e .1 .is) in
-      let items : v .items ≡ c .items = ap (λ (z : Cursor). z .items) (e .1 .is) in
-      record {
-        tree = d .tree;
-        says = ap (λ (o : Got _). signedBy (length text) k o) (d .says) ∙ ap (λ (o : Got (Unit {0})). thenReads o (λ u ts b. got (d .tree) ts b)) (expected-ok text names l c k v h e);
-        stored = d .stored;
-        long = same ∙ d .long;
-        numbered = stars ∙ d .numbered;
-        level = omega (arith, d .level);
-        moreNodes = omega (arith, d .moreNodes);
-        moreItems = omega (arith, d .moreItems);
-        nodes = omega (arith, d .nodes);
-        items = omega (arith, d .items);
-        stars = omega (arith, d .stars);
-        fresh = e .1 .next .fresh;
-      }
+  unfolding Says
+  says-sign code x s p g a c k (Refused n i) h d e = sign-stops text names l code x s p g a k c n i d e
+  says-sign code x s p g a c k (Ok v) h d e = sign-done text names l code x s p g a k h c v d e
 
 -- ---- a segment
 

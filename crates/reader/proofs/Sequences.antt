@@ -20,6 +20,7 @@ use Rattle.reader.specs.working.Expressions.{roomed}
 use Rattle.reader.specs.working.Items.{withWord, Marked}
 use Rattle.reader.specs.working.Sequences.{pairOf, paired, pairing, signedBy}
 use Rattle.reader.proofs.Done.{stores}
+use Rattle.reader.proofs.Answers.{expected-said}
 use Rattle.reader.proofs.Factors.{expected-ok, expected-bad}
 
 module _ (text names : List ℕ) (l : Ledger) where
@@ -76,37 +77,64 @@ module _ (text names : List ℕ) (l : Ledger) where
     fresh = h .fresh;
   }
 
+  -- A sign after what was read.
+  pub sign-done : {A : Type 0} (code : ℕ → A → Numbered (List ℕ)) (x : ℕ) (s : Cursor) (p : List ℕ) (g : Got A) (b : List ℕ) (k : ℕ) → k < 24 → (c v : Cursor) →
+      Done text names l code x s p g b c → Expected text c k (Ok v) → Done text names l code x s p (signedBy (length text) k g) b v
+  unfolding Expected
+  sign-done code x s p g b k small c v d e =
+      let same : v .emitted ≡ c .emitted = ap (λ (z : Cursor). z .emitted) (e .1 .is) in
+      let stars : v .stars ≡ c .stars = ap (λ (z : Cursor). z .stars) (e .1 .is) in
+      let nodes : v .nodes ≡ c .nodes = ap (λ (z : Cursor). z .nodes) (e .1 .is) in
+      let items : v .items ≡ c .items = ap (λ (z : Cursor). z .items) (e .1 .is) in
+      record {
+        tree = d .tree;
+        says = ap (λ (o : Got _). signedBy (length text) k o) (d .says) ∙ ap (λ (o : Got (Unit {0})). thenReads o (λ u ts b. got (d .tree) ts b)) (expected-ok text names l c k v small e);
+        stored = d .stored;
+        long = same ∙ d .long;
+        numbered = stars ∙ d .numbered;
+        level = omega (arith, d .level);
+        moreNodes = omega (arith, d .moreNodes);
+        moreItems = omega (arith, d .moreItems);
+        nodes = omega (arith, d .nodes);
+        items = omega (arith, d .items);
+        stars = omega (arith, d .stars);
+        fresh = e .1 .next .fresh;
+      }
+
+  -- The sign is missing.
+  pub sign-stops : {A : Type 0} (code : ℕ → A → Numbered (List ℕ)) (x : ℕ) (s : Cursor) (p : List ℕ) (g : Got A) (b : List ℕ) (k : ℕ) (c : Cursor) (n i : ℕ) →
+      Done text names l code x s p g b c → Expected text c k (Refused n i) → signedBy (length text) k g ≡ stop n i
+  sign-stops code x s p g b k c n i d e =
+      ap (λ (o : Got _). signedBy (length text) k o) (d .says) ∙ ap (λ (o : Got (Unit {0})). thenReads o (λ u ts b. got (d .tree) ts b)) (expected-bad text names l c k n i (d .fresh) e)
+
+  -- A code word after what was read.
+  word-done : {A : Type 0} (code : ℕ → A → Numbered (List ℕ)) (x : ℕ) (s : Cursor) (p : List ℕ) (g : Got A) (b : List ℕ) (word : ℕ) (v : Cursor) →
+      Done text names l code x s p g b v → Done text names l (withWord code word) (x + 1) s p g (set b (v .emitted) word) (emitted v)
+  word-done code x s p g b word v d =
+      record {
+        tree = d .tree;
+        says = d .says;
+        stored = stores p b (set b (v .emitted) word) (s .emitted) (v .emitted) (code (s .stars) (d .tree) .is) (word ∷ []) (d .stored) (d .long) refl;
+        long = omega (arith, d .long, length-append (code (s .stars) (d .tree) .is) (word ∷ []));
+        numbered = d .numbered;
+        level = omega (arith, d .level);
+        moreNodes = d .moreNodes;
+        moreItems = d .moreItems;
+        nodes = d .nodes;
+        items = d .items;
+        stars = d .stars;
+        fresh = d .fresh;
+      }
+
   -- A sign and a code word after what was read.
   module _ {A : Type 0} (code : ℕ → A → Numbered (List ℕ)) (x : ℕ) (s : Cursor) (p : List ℕ) (g : Got A) (b : List ℕ) (kind word : ℕ) (small : kind < 24) where
-    mark-done : (c v : Cursor) (d : Done text names l code x s p g b c) → Expected text c kind (Ok v) → Done text names l (withWord code word) (x + 1) s p (signedBy (length text) kind g) (set b (v .emitted) word) (emitted v)
-    unfolding Expected
-    mark-done c v d e =
-        let same : v .emitted ≡ c .emitted = ap (λ (z : Cursor). z .emitted) (e .1 .is) in
-        let stars : v .stars ≡ c .stars = ap (λ (z : Cursor). z .stars) (e .1 .is) in
-        let nodes : v .nodes ≡ c .nodes = ap (λ (z : Cursor). z .nodes) (e .1 .is) in
-        let items : v .items ≡ c .items = ap (λ (z : Cursor). z .items) (e .1 .is) in
-        record {
-          tree = d .tree;
-          says = ap (λ (o : Got A). signedBy (length text) kind o) (d .says) ∙ ap (λ (o : Got (Unit {0})). thenReads o (λ u ts b. got (d .tree) ts b)) (expected-ok text names l c kind v small e);
-          stored = stores p b (set b (v .emitted) word) (s .emitted) (v .emitted) (code (s .stars) (d .tree) .is) (word ∷ []) (d .stored) (same ∙ d .long) refl;
-          long = omega (arith, same, d .long, length-append (code (s .stars) (d .tree) .is) (word ∷ []));
-          numbered = stars ∙ d .numbered;
-          level = omega (arith, d .level);
-          moreNodes = omega (arith, d .moreNodes);
-          moreItems = omega (arith, d .moreItems);
-          nodes = omega (arith, d .nodes);
-          items = omega (arith, d .items);
-          stars = omega (arith, d .stars);
-          fresh = e .1 .next .fresh;
-        }
-
     pub says-mark : (a : List ℕ) (q r : Parsed) → Says text names l code x s p g b q → Marked text kind word q b a r → Says text names l (withWord code word) (x + 1) s p (signedBy (length text) kind g) a r
     unfolding Says Marked
     says-mark a (Refused n i) r h e = subst (λ (z : Parsed). Says text names l (withWord code word) (x + 1) s p (signedBy (length text) kind g) a z) (sym e) (ap (λ (o : Got A). signedBy (length text) kind o) h)
-    says-mark a (Ok c) (Refused n i) h e = ap (λ (o : Got A). signedBy (length text) kind o) (h .says) ∙ ap (λ (o : Got (Unit {0})). thenReads o (λ u ts b. got (h .tree) ts b)) (expected-bad text names l c kind n i (h .fresh) e)
+    says-mark a (Ok c) (Refused n i) h e = sign-stops code x s p g b kind c n i h e
     says-mark a (Ok c) (Ok d) h e =
         subst (λ (z : List ℕ). Done text names l (withWord code word) (x + 1) s p (signedBy (length text) kind g) z d) (sym (e .1 .1 .1))
-        (subst (λ (z : Cursor). Done text names l (withWord code word) (x + 1) s p (signedBy (length text) kind g) (set b (e .0 .emitted) word) z) (sym (e .1 .1 .0)) (mark-done c (e .0) h (e .1 .0)))
+        (subst (λ (z : Cursor). Done text names l (withWord code word) (x + 1) s p (signedBy (length text) kind g) (set b (e .0 .emitted) word) z) (sym (e .1 .1 .0)) (word-done code x s p (signedBy (length text) kind g) b word (e .0) (sign-done code x s p g b kind small c (e .0) h (e .1 .0))))
 
   -- There is room for one code word more.
   pub says-roomed : {A : Type 0} (code : ℕ → A → Numbered (List ℕ)) (x : ℕ) (s : Cursor) (p : List ℕ) (g : Got A) (b : List ℕ) (spare : ℕ) (q : Parsed) → Ready text l (x + suc spare) s → Says text names l code x s p g b q → roomed q
@@ -157,3 +185,8 @@ module _ (text names : List ℕ) (l : Ledger) where
     stars = subst (λ (z : Cursor). z .stars ≤ 8) (sym (q .is)) s;
     room = subst (λ (z : Cursor). z .emitted + spare′ ≤ z .nodes + 3 * z .items + 3 * l .commands) (sym (q .is)) h;
   }
+
+  -- A reader may be called past a sign.
+  pub sign-ready : (spare k : ℕ) (c d : Cursor) (sign : Parsed) → Ready text l spare c → Expected text c k sign → sign ≡ Ok d → Ready text l spare d
+  unfolding Expected
+  sign-ready spare k c d sign r h f = past-ready spare spare c d (c .items) (c .nodes) (c .stars) r (expected-said text c k sign (Ok d) h f .1) (r .items) (r .nodes) (r .stars) (r .room)

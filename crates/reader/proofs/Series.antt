@@ -12,7 +12,6 @@ use Rattle.notation.specs.Notation.{part, quiet}
 use Rattle.notation.specs.Texts.{Numbered, numbered}
 use Rattle.notation.specs.working.Lexing.{tokensFrom}
 use Rattle.notation.specs.working.Ledger.{Book, note, fault}
-use Rattle.notation.specs.working.Table as T
 use Rattle.notation.specs.working.Descent.{Got, got, stop, thenReads, ruling}
 use Rattle.reader.specs.declared.pieces.Piece.{Piece}
 use Rattle.reader.specs.declared.cursor.Cursor.{Cursor}

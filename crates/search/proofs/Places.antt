@@ -3,7 +3,6 @@
 use mathlib.Core.Path.{_≡_, refl, sym, _∙_, subst}
 use mathlib.Core.Logic.{_⊎_, inl, inr}
 use mathlib.Core.Bool.{Bool, true, false, true≢false}
-use mathlib.Core.List.{List}
 use Prim.Native.Nat.{ℕ, _+_, _*_, _≤_}
 use native.Mathlib.Omega.{arith}
 use lib.ListN.{length}
@@ -17,7 +16,7 @@ use Rattle.acceptance.specs.Sheets.{systemOf, sheetBytes}
 use Rattle.search.specs.Answers.{wordingOf}
 use Rattle.search.specs.Promises.{answerOf, Bounded, AnswersBounded}
 use Rattle.exploration.specs.working.Found.{foundIn, transitionsOf}
-use Rattle.search.specs.working.Searching.{Left, roomy, verdictOf, leftWith, searchOf}
+use Rattle.search.specs.working.Searching.{Left, roomy, verdictOf, searchOf}
 use Rattle.search.proofs.SearchTells.{said, room-tells, own, with-room, search-tells, text-refused-first}
 use Rattle.exploration.proofs.FoundShort.{found-short}
 use Rattle.search.proofs.SheetsPass.{few}

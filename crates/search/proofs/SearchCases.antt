@@ -1,6 +1,6 @@
 -- The table of cases holds: the definitions compute every row of it, from the bytes of the text and of the sheet.
 -- Assumes nothing.
-use mathlib.Core.Path.{_≡_, refl}
+use mathlib.Core.Path.{refl}
 use Rattle.notation.specs.Bytes.{bytes, sameWord}
 use Rattle.notation.specs.Tokens.{reserved, wordIn, wordToken}
 use Rattle.notation.specs.Rules.{sameKind, allowed, nameCounts, view, has, elem}

@@ -1,6 +1,5 @@
 -- `met_bit` meets its contract: a state was met where its entry is not 0.
 -- Assumes nothing.
-use Prim.Native.Nat.{_-_}
 use native.Mathlib.Omega.{arith}
 use Rattle.exploration.proofs.Map.{bit-one, bit-zero, bit-past}
 use borrow.Author.Needs.{needs}
