@@ -5,6 +5,7 @@ from collections import deque
 
 from one_row import OneRow
 from searching import search
+from wrong_tables import FifteenCommands, WordsBelow64
 
 
 class LastWordFirst(OneRow):
@@ -35,16 +36,6 @@ class ByStateAfter(OneRow):
     def steps_from(self, state):
         return iter(sorted(super().steps_from(state),
                            key=lambda step: step[2]))
-
-
-class WordsBelow64(OneRow):
-    def steps_from(self, state):
-        return (step for step in super().steps_from(state) if step[1] < 64)
-
-
-class FifteenCommands(OneRow):
-    def steps_from(self, state):
-        return (step for step in super().steps_from(state) if step[0] < 15)
 
 
 def by_runs(table, starts, deep=False, at_start=True):

@@ -5,23 +5,14 @@ from acceptance import map_fault, trace_fault
 from one_row import OneRow
 from searching import search
 from sheets import contents, header, map_length
+from wrong_tables import FifteenCommands, WordsBelow64
 
 MAP_KIND = b"\2\0"
-
-
-class WordsBelow64(OneRow):
-    def steps_from(self, state):
-        return (step for step in super().steps_from(state) if step[1] < 64)
 
 
 class WordsBelow255(OneRow):
     def steps_from(self, state):
         return (step for step in super().steps_from(state) if step[1] < 255)
-
-
-class FifteenCommands(OneRow):
-    def steps_from(self, state):
-        return (step for step in super().steps_from(state) if step[0] < 15)
 
 
 class OldValues(OneRow):
