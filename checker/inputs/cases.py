@@ -1,0 +1,33 @@
+"""Two models that most sheets are tried on, and sheets made for a text."""
+
+from evidence.one_row import OneRow
+from evidence.sheets import map_sheet, trace_sheet
+from reader.model import Refusal
+from reader.reading import read
+
+# States 1 and 3 are start states, 6 and 7 break. G is unsafe, H is safe.
+G = ("shared m. row w x.\n"
+     "start m each not x.\n"
+     "keep 1 each not (w and x).\n"
+     "command grant if m do\n"
+     "for 1 do w := *; x := * else skip end else skip.")
+H = G.replace("x := *", "x := not w and *")
+
+# The first breaking run of G: from state 1 by word 3 to state 7.
+G_SHEET = bytes.fromhex("030000000100010201"
+                        "0200000003000100"
+                        "04000000040000030700")
+
+
+def table_of(text):
+    said = read(text.encode())
+    assert not isinstance(said, Refusal), text
+    return OneRow(said)
+
+
+def map_for(text, members):
+    return map_sheet(table_of(text), members)
+
+
+def trace_for(text, start, *steps):
+    return trace_sheet(table_of(text), start, steps)

@@ -1,0 +1,32 @@
+"""Random texts for a search: most say a model that this checker searches fast."""
+
+import random
+
+from corpora.reports_order import random_graph
+from corpora.reports_random import larger_text
+from inputs.random_texts import random_texts
+from inputs.small_models import small_text
+from reader.model import Refusal
+from reader.reading import read
+
+MOST_STEPS = 1500
+
+
+def random_models(count, seed):
+    rng = random.Random(seed)
+    other = [text for _, text in random_texts(count // 20 + 1, seed)]
+    texts = []
+    while len(texts) < count:
+        kind = rng.random()
+        if kind < 0.45:
+            text = small_text(rng).encode()
+        elif kind < 0.75:
+            text = random_graph(rng).encode()
+        elif kind < 0.95 or not other:
+            text = larger_text(rng, MOST_STEPS).encode("latin-1")
+        else:
+            text = other.pop()
+            if not isinstance(read(text), Refusal):
+                continue
+        texts.append(text)
+    return texts

@@ -1,0 +1,57 @@
+"""The designs in models/: their stored reports are those of this checker, and
+tables of two and three rows agree with them."""
+
+import pathlib
+import unittest
+
+from evidence.one_row import OneRow
+from evidence.report import report
+from evidence.searching import search
+from reader.reading import read
+from rows.copied_runs import copied_run_holds
+from rows.tables import goes_wrong, walked
+
+MODELS = pathlib.Path(__file__).resolve().parents[2] / "models"
+MOST_WALKED = 1_000_000
+
+
+class Models(unittest.TestCase):
+    @classmethod
+    def setUpClass(cls):
+        cls.texts = {path.stem: path.read_bytes()
+                     for path in sorted(MODELS.glob("*.text"))}
+
+    def stored(self, name):
+        return (MODELS / f"{name}.report").read_text()
+
+    def is_stored_unsafe(self, name):
+        return self.stored(name).splitlines()[1].startswith("unsafe ")
+
+    def test_reports(self):
+        for name, text in self.texts.items():
+            self.assertEqual(report(text), self.stored(name), name)
+
+    def test_both_verdicts(self):
+        self.assertEqual(set(map(self.is_stored_unsafe, self.texts)),
+                         {False, True})
+
+    def test_tables_of_two_rows(self):
+        count = 0
+        for name, text in self.texts.items():
+            model = read(text)
+            if walked(model, 2) <= MOST_WALKED:
+                count += 1
+                self.assertEqual(goes_wrong(model, 2),
+                                 self.is_stored_unsafe(name), name)
+        self.assertGreaterEqual(count, 9)
+
+    def test_traces_in_every_row(self):
+        for name in filter(self.is_stored_unsafe, self.texts):
+            table = OneRow(read(self.texts[name]))
+            found = search(table)
+            for rows in (2, 3):
+                self.assertTrue(copied_run_holds(table, *found, rows), name)
+
+
+if __name__ == "__main__":
+    unittest.main()
