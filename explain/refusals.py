@@ -11,10 +11,11 @@ from tokens import LONGEST_WORD, NAME, cut
 LONGEST_TEXT = 16384
 MEANINGS = {
     1: f"the text is over {LONGEST_TEXT:,} bytes",
-    2: f"a byte that is not allowed, or a word over {LONGEST_WORD} bytes",
-    3: "not what the notation allows here",
-    4: "a name that is declared before",
-    5: "a name that is not declared, or of a kind not allowed here",
+    2: "a byte that no text may have, or a word longer than "
+       f"{LONGEST_WORD} bytes",
+    3: "a token that cannot stand here, or an end too early",
+    4: "a name that is taken already",
+    5: "a name that is not declared, or of the wrong kind",
     6: "a star in `start` or `keep`",
     7: "over a limit",
 }

@@ -10,16 +10,16 @@
  *
  * The refusals, with what their place says. Places count bytes from 0.
  *
- *    1  the text has more than 16,384 bytes                          16384
- *    2  a byte that is not allowed, or a word over 16 bytes          the byte, or the word's first byte
- *    3  not what the notation allows here                            the token, or the text's length at its end
- *    4  a name that was declared before                              the name
- *    5  a name that is undeclared, or of a kind not allowed here     the name
- *    6  a star in `start` or `keep`                                  the star
- *    7  a count or the depth goes over its limit                     the token that goes over
- *    8  a lent table or the sheet buffer is too short                0
- *    9  the sheet is not in form                                     the record in the sheet, or 65536
- *   10  a number in the sheet does not fit the model                 the record in the sheet
+ *    1  the text is longer than 16,384 bytes                        16384
+ *    2  a byte that no text may have, or a word over 16 bytes       the byte, or the first byte of the word
+ *    3  a token that cannot stand here, or an end too early         the token, or the text's length
+ *    4  a name that is taken already                                the second of the two
+ *    5  a name that is not declared, or of the wrong kind           the name
+ *    6  a star after `start` or `keep`                              the star
+ *    7  one name, command, item, node, star or depth too many       the token that is too many
+ *    8  a lent table or the lent sheet buffer is too short          0
+ *    9  the sheet's records are not in form                         the record, or 65536 where the sheet is too long
+ *   10  a number in the sheet does not fit the model                the record
  */
 #ifndef NUTSEASON_H
 #define NUTSEASON_H
