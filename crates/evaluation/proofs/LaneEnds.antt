@@ -5,10 +5,9 @@ use mathlib.Core.Path.{_≡_, refl, sym, ap, ap₂, _∙_}
 use mathlib.Core.List.{List}
 use mathlib.Core.Logic.{_⊎_, inl, inr}
 use native.Mathlib.Omega.{arith}
-use native.Mathlib.Nat.{mod-eq-of-lt, pow-suc, add-mul, mul-assoc, mul-comm, add-assoc, eq-or-lt-of-le, lt-of-lt-of-le, mod-one}
+use native.Mathlib.Nat.{pow-suc, add-mul, mul-assoc, mul-comm, add-assoc, eq-or-lt-of-le, lt-of-lt-of-le, mod-one}
 use native.Mathlib.Numerals.{add-one, one-add}
 use native.Mathlib.Decide.{decLt}
-use lib.Arith.{digits-lt}
 use lib.Pow.{pow-mono, mod-pow-add}
 use lib.ListN.{length, getD, set, replicate, length-set}
 use lib.Seq.{getD-set-same, getD-set-other}
@@ -135,15 +134,6 @@ module _ (f : ℕ → ℕ) where
           rw (sum-suc i, pow-suc 2 i)
           (ap (λ (x : ℕ). x + sumOf f i) (add-mul (r * 2) (f i) (2 ^ i)) ∙ add-assoc (r * 2 * 2 ^ i) (f i * 2 ^ i) (sumOf f i)
           ∙ ap (λ (x : ℕ). x + (f i * 2 ^ i + sumOf f i)) (mul-assoc r 2 (2 ^ i) ∙ ap (λ (x : ℕ). r * x) (mul-comm 2 (2 ^ i))))
-
--- There is room for one bit more.
-pub lane-room : (r n i : ℕ) → 0 < i → i ≤ n → n ≤ 32 → r < 2 ^ (n - i) → r * 2 % 2 ^ 32 ≡ r * 2
-lane-room r n i h k b s = let g : 2 ^ (n - i) ≤ 2 ^ 31 = pow-mono {i = n - i} {j = 31} (omega arith) in mod-eq-of-lt (omega arith)
-
-pub lane-more : (r n i x : ℕ) → 0 < i → i ≤ n → x < 2 → r < 2 ^ (n - i) → r * 2 + x < 2 ^ (n - (i - 1))
-lane-more r n i x h k b s =
-    let e : n - (i - 1) ≡ suc (n - i) = omega arith in
-    rw (e, pow-suc 2 (n - i)) (digits-lt s b)
 
 -- The cells' state bits in lane l are those of x: the lane's number is x, cut to n bits.
 pub lane-number : (c : List ℕ) (l x n : ℕ) → n ≤ 32 → Zone c (λ i. i) 32 l x → laneOf c n l ≡ x % 2 ^ n

@@ -9,8 +9,7 @@ use native.Mathlib.Numerals.{add-one}
 use lib.ListN.{length, getD, set, take, drop, length-set, length-append, length-drop, length-replicate, replicate}
 use lib.Seq.{length-take-le, take-suc-set, take-set-lt, drop-set-lt, getD-take, getD-set-same, getD-set-other, take-at, drop-at}
 use borrow.Author.Count.{below-more}
-use lib.Dec.{ltb}
-use borrow.Author.Tests.{eq-eqb, ne-eqb, lt-ltb, le-ltb, ltb-false}
+use borrow.Author.Tests.{eq-eqb, ne-eqb, lt-ltb, le-ltb}
 use Rattle.exploration.specs.working.Transitions.{Transitions, Move, moveOf, wordsFrom, movesFrom, moves}
 use Rattle.exploration.specs.working.Exploring.{Seen, Progress, broke, through, andThen, progress, meet, tryMoves, takeIn, explore, search}
 use Rattle.exploration.specs.working.Runs.{firstMove}
@@ -99,9 +98,6 @@ module _ (M : Transitions) (q : List ℕ) (n : ℕ) (p : List ℕ) (R : Ready M 
 
 -- What the function `meet` promises.
 
-pub meets-old : {M : Transitions} {q : List ℕ} {n : ℕ} {p : List ℕ} {s t : ℕ} → Ready M q n p → t < M .size → (getD p t 0 ≡ 0 → ⊥) → Meets M s t q n p q n p false
-meets-old {M} {q} {n} {p} {s} {t} R ht old = record { kept = kept-refl M q n p R; what = sym (meet-old M q n p R s t ht old) }
-
 pub meets-new : {M : Transitions} {q : List ℕ} {n : ℕ} {p : List ℕ} {s t : ℕ} {b : Bool} → Ready M q n p → t < M .size → getD p t 0 ≡ 0 → b ≡ M .breaks t → Meets M s t q n p (set q n t) (n + 1) (set p t (s + 1)) b
 meets-new {M} {q} {n} {p} {s} {t} {b} R ht new e =
     record { kept = kept-pushed M q n p R s t ht new; what = rw e (sym (meet-new M q n p R s t ht new)) }
@@ -127,10 +123,6 @@ moves-none M n = let e : n - n ≡ 0 = omega arith in rw e
 andThen-assoc : (o : Progress) (f g : Seen → Progress) → andThen (andThen o f) g ≡ andThen o (λ x. andThen (f x) g)
 andThen-assoc (broke x) f g = refl
 andThen-assoc (through x) f g = refl
-
-andThen-through : (o : Progress) → andThen o (λ x. through x) ≡ o
-andThen-through (broke x) = refl
-andThen-through (through x) = refl
 
 tryMoves-append : (M : Transitions) (s : ℕ) (a b : List Move) (x : Seen) → tryMoves M s (a ++ b) x ≡ andThen (tryMoves M s a x) (tryMoves M s b)
 unfolding tryMoves
@@ -319,16 +311,6 @@ module _ (M : Transitions) (q p₀ p : List ℕ) (e : p ≡ replicate (M .size) 
 
   pub ran-on : {q₁ : List ℕ} {n₁ : ℕ} {p₁ : List ℕ} {b : Bool} → Took M q p q₁ n₁ p₁ b → b ≡ false → {q₂ : List ℕ} {n₂ : ℕ} {p₂ : List ℕ} {d : Bool} → Explored M q₁ n₁ p₁ q₂ n₂ p₂ d → Ran M q p₀ q₂ n₂ p₂ d
   ran-on T f E = record { kept = kept-trans (kept-trans cleared (T .kept)) (E .kept); what = E .what ∙ (rw f at (taken-in T)) }
-
--- A search in portions: a portion of a states, then one of b, is one of a + b.
-explore-add-next : (M : Transitions) (a b head : ℕ) (x : Seen) → ((y : Seen) → explore M (a + b) (head + 1) y ≡ andThen (explore M a (head + 1) y) (explore M b (head + suc a)))
-    → (t : Bool) → ltb head (length (x .queue)) ≡ t
-    → cond t (andThen (tryMoves M (getD (x .queue) head 0) (moves M) x) (explore M (a + b) (head + 1))) (through x)
-    ≡ andThen (cond t (andThen (tryMoves M (getD (x .queue) head 0) (moves M) x) (explore M a (head + 1))) (through x)) (explore M b (head + suc a))
-explore-add-next M a b head x rec true e =
-    let o : Progress = tryMoves M (getD (x .queue) head 0) (moves M) x in
-    ap (andThen o) (fun-ext rec) ∙ sym (andThen-assoc o (explore M a (head + 1)) (explore M b (head + suc a)))
-explore-add-next M a b head x rec false e = sym (explore-end M b (head + suc a) x (omega (arith, ltb-false head (length (x .queue)) e)))
 
 -- The first move from s to t.
 

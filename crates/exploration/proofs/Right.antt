@@ -3,7 +3,7 @@
 use Prim.Native.Nat.{ℕ, _+_, _-_, _<_, _≤_}
 use mathlib.Core.Path.{_≡_, sym, ap, _∙_}
 use mathlib.Core.Logic.{_⊎_, inl, inr, ⊎-elim}
-use mathlib.Core.Bool.{true, false, false≢true}
+use mathlib.Core.Bool.{true, false}
 use mathlib.Core.List.{List, [], _∷_, _++_, map, map-append}
 use native.Mathlib.Omega.{arith}
 use lib.ListN.{length, getD, length-append, length-map, List·getD-map}
@@ -12,7 +12,7 @@ use lib.Dec.{ltb}
 use borrow.Author.Tests.{lt-ltb, ltb-true}
 use Rattle.exploration.specs.working.Transitions.{Transitions, Lawful, Move}
 use Rattle.exploration.specs.working.Exploring.{Seen, Progress, broke, through, search}
-use Rattle.exploration.specs.working.Runs.{Run, startsAt, goesOn, final, Valid, MoveBefore, Before, First, runTo}
+use Rattle.exploration.specs.working.Runs.{Run, startsAt, goesOn, final, Valid, MoveBefore, Before, runTo}
 use Rattle.exploration.specs.working.Verdicts.{reached, verdictOf, verdict, Reached, AllReached, Right}
 use Rattle.exploration.proofs.Order.{lt-or-ge}
 use Rattle.exploration.proofs.First.{at, Ended, Closed, Searched, searched, traced-met, run-to}
@@ -103,14 +103,6 @@ before-total (goesOn q l) (goesOn r m) =
     (λ k. inr (inr (inl k)))
     h)
     (before-total q r)
-
--- So there is one first breaking run.
-pub first-unique : (M : Transitions) (a b : Run) → First M a → First M b → a ≡ b
-first-unique M a b F G =
-    ⊎-elim
-    (λ h. absurd (false≢true (sym (G .first a (F .valid) h) ∙ F .breaking)))
-    (λ h. ⊎-elim (λ e. e) (λ k. absurd (false≢true (sym (F .first b (G .valid) k) ∙ G .breaking))) h)
-    (before-total a b)
 
 -- A set of states with the start states in it that no step leaves holds every state that a run reaches.
 pub least : (M : Transitions) (In : ℕ → Type 0)

@@ -65,10 +65,6 @@ says-read len {ts} {x} r =
     let e : atLast len (ending (a .to .want) (a .to .cont)) ≡ read x = rw (reads-ending (a .stands)) in
     (rw append-nil at (a .runs [])) ∙ e
 
--- No tokens say two trees.
-pub says-one : {ts : List Lexeme} {x y : Tree} → Says ts x → Says ts y → x ≡ y
-says-one p r = let e = says-read 0 p in let f = says-read 0 r in cc
-
 spells-more : {us : List Lexeme} {ps : List Part} → Spells us ps → (i : ℕ) (r : Role) (t : Token) → Spells (us ++ at i (some t) ∷ []) (ps ++ part r t ∷ [])
 spells-more spellsNone i r t = spells i r t spellsNone
 spells-more (spells j r′ t′ w) i r t = spells j r′ t′ (spells-more w i r t)
@@ -232,6 +228,3 @@ reading-right len ts =
 
 pub says-iff : (len : ℕ) (ts : List Lexeme) (x : Tree) → Says ts x ↔ (reading len ts ≡ read x)
 says-iff len ts x = (says-read len, λ e. rw e at (reading-right len ts))
-
-pub refused-iff : (len : ℕ) (ts : List Lexeme) (n i : ℕ) → Refused len ts n i ↔ (reading len ts ≡ refused n i)
-refused-iff len ts n i = (refused-reading, λ e. rw e at (reading-right len ts))

@@ -91,8 +91,3 @@ pub or-loop-turn : (len : ℕ) (m : Mode) (d : ℕ) (e : Expr) (i : ℕ) (ts : L
     orLoop len m d e (at i (some (sign OR)) ∷ ts) b ≡ ruling i (fault b (part joins (sign OR))) (thenReads (andReader len m d ts (note b (part joins (sign OR)))) (λ f ts b. orLoop len m d (or′ e f) ts b))
 unfolding sequence find lines skips
 or-loop-turn len m d e i ts b = rw (reader-token len (ors m d)) (simp (then-ruling, then-then))
-
--- Where a loop ends: at a token that isn't its own.
-pub and-loop-ends : (len : ℕ) (m : Mode) (d : ℕ) (e : Expr) (i : ℕ) (t : Token) (ts : List Lexeme) (b : Book) → find (lines (ands m d)) t ≡ none → andLoop len m d e (at i (some t) ∷ ts) b ≡ got e (at i (some t) ∷ ts) b
-unfolding skips
-and-loop-ends len m d e i t ts b h = rw (reader-token len (ands m d), h)

@@ -10,7 +10,7 @@ use lib.Seq.{sets}
 use Rattle.notation.specs.Tokens.{Lexeme}
 use Rattle.notation.specs.Texts.{Numbered}
 use Rattle.notation.specs.working.Ledger.{Book}
-use Rattle.notation.specs.working.Descent.{Got, got, stop, thenReads}
+use Rattle.notation.specs.working.Descent.{Got, stop, thenReads}
 use Rattle.reader.specs.declared.cursor.Cursor.{Cursor}
 use Rattle.reader.specs.declared.cursor.Ledger.{Ledger}
 use Rattle.reader.specs.declared.cursor.Parsed.{Parsed}
@@ -58,6 +58,3 @@ module _ {A : Type 0} (text names : List ℕ) (l : Ledger) (code : ℕ → A →
 
 pub then-bad : {A B : Type 0} (f : A → List Lexeme → Book → Got B) (o : Got A) (g : Got B) (n q : ℕ) → g ≡ thenReads o f → o ≡ stop n q → g ≡ stop n q
 then-bad f o g n q e h = e ∙ ap (λ (x : Got _). thenReads x f) h
-
-pub then-got : {A B : Type 0} (f : A → List Lexeme → Book → Got B) (o : Got A) (g : Got B) (a : A) (ts : List Lexeme) (b : Book) → g ≡ thenReads o f → o ≡ got a ts b → g ≡ f a ts b
-then-got f o g a ts b e h = e ∙ ap (λ (x : Got _). thenReads x f) h
