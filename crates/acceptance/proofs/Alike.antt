@@ -6,18 +6,17 @@ use mathlib.Core.List.{List}
 use Prim.Native.Nat.{ℕ, zero, suc, _+_, _^_, _<_}
 use native.Mathlib.Omega.{arith}
 use lib.Dec.{eqb}
-use borrow.Author.Tests.{ltb-true}
 use Rattle.meaning.specs.OneRow.{lastOf}
 use Rattle.meaning.specs.Evidence.{inMap}
 use Rattle.meaning.specs.working.Conditions.{every, implies, wordsStay, closedAt, testA, testB, testC, testE}
 use Rattle.acceptance.specs.Sheets.{System, mapLength}
-use Rattle.acceptance.specs.SheetTexts.{twoAt, stepIn, stepFits}
+use Rattle.acceptance.specs.SheetTexts.{twoAt, stepIn}
 use Rattle.acceptance.specs.working.SheetReading.{mapIn, stepsIn, stepCount, sheetOf, StepsStand}
 use Rattle.acceptance.specs.working.Test.{mapAnswer, walk, traceAnswer, outcomeOf}
 use Rattle.acceptance.specs.working.Shapes.{shapeOf}
 use Rattle.acceptance.specs.declared.sheets.Shape.{Shape}
 use Rattle.acceptance.specs.declared.sheets.Shape.the-variants.{Bad, Map, Trace}
-use Rattle.acceptance.proofs.SheetLaws.{both-split}
+use Rattle.acceptance.proofs.SheetLaws.{step-parts}
 use Rattle.acceptance.proofs.StarCounts.{sheet-alike}
 use Rattle.acceptance.proofs.TestWhole.{whole-refused, whole-map, whole-trace, trace-stands}
 
@@ -65,19 +64,18 @@ module _ (shared row commands : ℕ) (f f′ : ℕ → ℕ) (p p′ q q′ : ℕ
   -- The steps of a trace that stand are in range.
   module _ (b : List ℕ) where
     e-alike : (s at i : ℕ) → s < states → StepsStand states commands f b at i → testE n s (stepsIn b at i) ≡ testE n′ s (stepsIn b at i)
-    unfolding testE stepsIn StepsStand stepFits stepIn
+    unfolding testE stepsIn StepsStand
     e-alike s at zero h S = refl
     e-alike s at (suc i) h S =
-        let x = both-split _ _ (S .1) in
-        let y = both-split _ _ (x .1) in
-        ap₂ _&&_ (ap (eqb (stepIn b (at + 6) .after)) (step-alike s (stepIn b (at + 6) .command) (stepIn b (at + 6) .word) h (ltb-true _ _ (x .0))))
-        (e-alike (stepIn b (at + 6) .after) (at + 10) i (ltb-true _ _ (y .1)) (S .2))
+        let x = step-parts _ _ _ _ (S .1) in
+        ap₂ _&&_ (ap (eqb (stepIn b (at + 6) .after)) (step-alike s (stepIn b (at + 6) .command) (stepIn b (at + 6) .word) h (x .0)))
+        (e-alike (stepIn b (at + 6) .after) (at + 10) i (x .2) (S .2))
 
     last-below : (s at i : ℕ) → s < states → StepsStand states commands f b at i → lastOf s (stepsIn b at i) < states
-    unfolding lastOf stepsIn StepsStand stepFits
+    unfolding lastOf stepsIn StepsStand
     last-below s at zero h S = h
     last-below s at (suc i) h S =
-        last-below (stepIn b (at + 6) .after) (at + 10) i (ltb-true _ _ (both-split _ _ (both-split _ _ (S .1) .1) .1)) (S .2)
+        last-below (stepIn b (at + 6) .after) (at + 10) i (step-parts _ _ _ _ (S .1) .2) (S .2)
 
     trace-alike : (s at i : ℕ) → s < states → StepsStand states commands f b at i → traceAnswer p q n s (stepsIn b at i) ≡ traceAnswer p′ q′ n′ s (stepsIn b at i)
     unfolding traceAnswer walk

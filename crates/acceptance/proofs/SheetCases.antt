@@ -5,7 +5,7 @@ use mathlib.Core.Bool.{true}
 use mathlib.Core.List.{List, [], _∷_, _++_}
 use Prim.Native.Nat.{ℕ}
 use Rattle.meaning.specs.Evidence.{Sheet, safe, trace}
-use Rattle.acceptance.specs.SheetTexts.{both, twoAt, fourAt, isRecord, sameCounts, unusedClear, stepIn, stepFits}
+use Rattle.acceptance.specs.SheetTexts.{twoAt, fourAt, isRecord, sameCounts, unusedClear, stepIn, stepFits}
 use Rattle.acceptance.specs.Sheets.{System, little, recordBytes, headerBytes, stepBytes, stepsBytes, sheetBytes, startBytes, mapLength}
 use Rattle.acceptance.specs.working.SheetReading.{refused, holds, demand, either, mapIn, mapAt, stepsIn, stepsAt, stepCount, traceAt, bodyAt, sheetOf, sheetIn}
 
@@ -57,7 +57,7 @@ pub record Cases : Type 0 where
   pub used : sheetOf small (smallHead ++ (1 ∷ 0 ∷ 0 ∷ 0 ∷ 2 ∷ 0 ∷ 15 ∷ [])) ≡ holds (safe (15 ∷ []))
 
 pub cases : Cases
-unfolding both twoAt fourAt isRecord demand either sameCounts unusedClear mapIn mapAt stepIn stepFits stepsIn stepsAt stepCount traceAt bodyAt sheetIn mapLength
+unfolding twoAt fourAt isRecord demand either sameCounts unusedClear mapIn mapAt stepIn stepFits stepsIn stepsAt stepCount traceAt bodyAt sheetIn mapLength
 cases =
     record {
       whole = refl;

@@ -1,49 +1,71 @@
 -- Laws of records, of demands and of the shapes they lead to, over plain variables, as the proofs of the functions cite them.
 -- Assumes nothing.
-use mathlib.Core.Path.{_≡_, refl, sym, ap, _∙_, subst}
-use mathlib.Core.Bool.{Bool, true, false}
+use mathlib.Core.Path.{_≡_, refl, sym, ap, _∙_}
+use mathlib.Core.Bool.{Bool, true, false, _&&_, not-eq-not}
 use mathlib.Core.List.{List}
 use Prim.Native.Nat.{ℕ, suc, _+_, _-_, _*_, _/_, _^_, _<_, _≤_}
 use native.Mathlib.Omega.{arith}
 use lib.ListN.{length, getD}
 use lib.Dec.{eqb, ltb}
 use lib.Pow.{pow-mono}
-use borrow.Author.Tests.{leb-true, eqb-true, eq-eqb, ne-eqb, lt-ltb, le-ltb, le-leb, lt-leb}
-use Rattle.acceptance.specs.SheetTexts.{both, twoAt, fourAt, isRecord, sameCounts, unusedClear, stepIn, stepFits}
+use borrow.Author.Tests.{ltb-true, leb-true, eqb-true, eq-eqb, ne-eqb, lt-ltb, le-ltb, le-leb, lt-leb}
+use Rattle.meaning.specs.OneRow.{TraceStep}
+use Rattle.meaning.proofs.OneRow.{and-split}
+use Rattle.acceptance.specs.SheetTexts.{twoAt, fourAt, isRecord, sameCounts, unusedClear, stepIn, stepFits}
 use Rattle.acceptance.specs.Sheets.{mapLength}
 use Rattle.acceptance.specs.working.SheetReading.{Reading, refused, demand, either, stepsAt, stepCount, mapAt, traceAt, bodyAt, sheetIn}
 use Rattle.acceptance.specs.working.Shapes.{shapeOf, starsIn}
 use Rattle.acceptance.specs.declared.sheets.Shape.{Shape}
 use Rattle.acceptance.specs.declared.sheets.Shape.the-variants.{Bad, Map, Trace}
 
-pub both-no : (a b : Bool) → a ≡ false → false ≡ both a b
-unfolding both
-both-no a b e = rw e
+three-split : (a b c : Bool) → a && (b && c) ≡ true → (a ≡ true) × (b ≡ true) × (c ≡ true)
+three-split a b c e =
+    let s = and-split a _ e in
+    let t = and-split b c (s .1) in
+    (s .0, t .0, t .1)
 
-pub both-go : (a b r : Bool) → a ≡ true → r ≡ b → r ≡ both a b
-unfolding both
-both-go a b r e f = rw (e, f)
+-- A record stands at p where it fits and its length and kind are those asked for, and only there; once the first two are known, the kind decides.
+module _ (b : List ℕ) (p kind n : ℕ) where
+  pub record-parts : isRecord b p kind n ≡ true → (p + 6 + n ≤ length b) × (fourAt b p ≡ n) × (twoAt b (p + 4) ≡ kind)
+  unfolding isRecord
+  record-parts e = let s = three-split _ _ _ e in (leb-true _ _ (s .0), eqb-true _ _ (s .1), eqb-true _ _ (s .2))
 
-pub both-split : (a b : Bool) → both a b ≡ true → (a ≡ true) × (b ≡ true)
-unfolding both
-both-split true b e = (refl, e)
-both-split false b e = (e, cc)
+  pub record-last : p + 6 + n ≤ length b → fourAt b p ≡ n → eqb (twoAt b (p + 4)) kind ≡ isRecord b p kind n
+  unfolding isRecord
+  record-last h e = rw (le-leb _ _ h, eq-eqb _ _ e)
 
-pub both-join : (a b : Bool) → a ≡ true → b ≡ true → both a b ≡ true
-both-join a b p q = sym (both-go a b true p (sym q))
+  pub record-whole : p + 6 + n ≤ length b → fourAt b p ≡ n → twoAt b (p + 4) ≡ kind → isRecord b p kind n ≡ true
+  record-whole h e k = sym (record-last h e) ∙ eq-eqb _ _ k
 
--- What a record at p tells: it fits, and its length and kind are those asked for.
-pub record-fits : (b : List ℕ) (p kind n : ℕ) → isRecord b p kind n ≡ true → p + 6 + n ≤ length b
-unfolding isRecord
-record-fits b p kind n e = leb-true _ _ (both-split _ _ e .0)
+-- The same of the counts in a header.
+module _ (shared row commands : ℕ) (b : List ℕ) (p : ℕ) where
+  pub counts-parts : sameCounts shared row commands b p ≡ true → (getD b p 0 ≡ shared) × (getD b (p + 1) 0 ≡ row) × (getD b (p + 2) 0 ≡ commands)
+  unfolding sameCounts
+  counts-parts e = let s = three-split _ _ _ e in (eqb-true _ _ (s .0), eqb-true _ _ (s .1), eqb-true _ _ (s .2))
 
-pub record-length : (b : List ℕ) (p kind n : ℕ) → isRecord b p kind n ≡ true → fourAt b p ≡ n
-unfolding isRecord
-record-length b p kind n e = eqb-true _ _ (both-split _ _ (both-split _ _ e .1) .0)
+  pub counts-last : getD b p 0 ≡ shared → getD b (p + 1) 0 ≡ row → eqb (getD b (p + 2) 0) commands ≡ sameCounts shared row commands b p
+  unfolding sameCounts
+  counts-last e f = rw (eq-eqb _ _ e, eq-eqb _ _ f)
 
-pub record-kind : (b : List ℕ) (p kind n : ℕ) → isRecord b p kind n ≡ true → twoAt b (p + 4) ≡ kind
-unfolding isRecord
-record-kind b p kind n e = eqb-true _ _ (both-split _ _ (both-split _ _ e .1) .1)
+  pub counts-whole : getD b p 0 ≡ shared → getD b (p + 1) 0 ≡ row → getD b (p + 2) 0 ≡ commands → sameCounts shared row commands b p ≡ true
+  counts-whole e f g = sym (counts-last e f) ∙ eq-eqb _ _ g
+
+-- The same of a step's numbers.
+module _ (states commands : ℕ) (stars : ℕ → ℕ) (x : TraceStep) where
+  pub step-parts : stepFits states commands stars x ≡ true → (x .command < commands) × (x .word < 2 ^ stars (x .command)) × (x .after < states)
+  unfolding stepFits
+  step-parts e = let s = three-split _ _ _ e in (ltb-true _ _ (s .0), ltb-true _ _ (s .1), ltb-true _ _ (s .2))
+
+  pub step-last : x .command < commands → x .word < 2 ^ stars (x .command) → ltb (x .after) states ≡ stepFits states commands stars x
+  unfolding stepFits
+  step-last c w = rw (lt-ltb _ _ c, lt-ltb _ _ w)
+
+  pub step-whole : x .command < commands → x .word < 2 ^ stars (x .command) → x .after < states → stepFits states commands stars x ≡ true
+  step-whole c w a = sym (step-last c w) ∙ lt-ltb _ _ a
+
+-- A record has one kind.
+pub kinds-apart : (b : List ℕ) (p n k : ℕ) → isRecord b p 3 n ≡ true → isRecord b p 2 k ≡ false
+kinds-apart b p n k e = not-eq-not .0 (λ h. omega (arith, record-parts b p 3 n e .2, record-parts b p 2 k h .2))
 
 pub length-one : (states : ℕ) → states / 8 ≡ 0 → 1 ≡ mapLength states
 unfolding mapLength
@@ -84,24 +106,23 @@ pub clear-many : (states byte : ℕ) → 8 ≤ states → true ≡ unusedClear s
 unfolding unusedClear
 clear-many states byte h = rw (le-ltb states 8 h)
 
--- A step's numbers.
+-- A step's numbers, as they are read from the bytes.
 module _ (states commands : ℕ) (stars : List ℕ) (b : List ℕ) (p : ℕ) where
   pub fits-command : (c : ℕ) → c ≡ getD b p 0 → commands ≤ c → false ≡ stepFits states commands (starsIn stars) (stepIn b p)
-  unfolding stepFits stepIn
-  fits-command c e h = both-no _ _ (le-ltb _ _ (subst (λ (x : ℕ). commands ≤ x) e h))
+  unfolding stepIn
+  fits-command c e h = sym (not-eq-not .0 (λ q. omega (arith, step-parts _ _ _ _ q .0)))
 
   module _ (c w n : ℕ) (e : c ≡ getD b p 0) (h : c < commands) (f : w ≡ getD b (p + 1) 0) (g : n ≡ 2 ^ getD stars c 0) where
+    limit : n ≡ 2 ^ getD stars (getD b p 0) 0
+    limit = g ∙ ap (λ (x : ℕ). 2 ^ getD stars x 0) e
+
     pub fits-word : n ≤ w → false ≡ stepFits states commands (starsIn stars) (stepIn b p)
-    unfolding stepFits stepIn starsIn
-    fits-word k =
-        let q : 2 ^ getD stars (getD b p 0) 0 ≤ getD b (p + 1) 0 = rw (← e, ← g, ← f) k in
-        both-go _ _ _ (lt-ltb _ _ (subst (λ (x : ℕ). x < commands) e h)) (both-no _ _ (le-ltb _ _ q))
+    unfolding stepIn starsIn
+    fits-word k = sym (not-eq-not .0 (λ q. omega (arith, step-parts _ _ _ _ q .1, limit)))
 
     pub fits-state : (t : ℕ) → w < n → t ≡ twoAt b (p + 2) → ltb t states ≡ stepFits states commands (starsIn stars) (stepIn b p)
-    unfolding stepFits stepIn starsIn
-    fits-state t k i =
-        let q : getD b (p + 1) 0 < 2 ^ getD stars (getD b p 0) 0 = rw (← e, ← g, ← f) k in
-        both-go _ _ _ (lt-ltb _ _ (subst (λ (x : ℕ). x < commands) e h)) (both-go _ _ _ (lt-ltb _ _ q) (ap (λ (x : ℕ). ltb x states) i))
+    unfolding stepIn starsIn
+    fits-state t k i = ap (λ (x : ℕ). ltb x states) i ∙ step-last _ _ _ _ (omega arith) (omega (arith, limit))
 
 pub same-test : (x y k : ℕ) → x ≡ y → eqb x k ≡ eqb y k
 same-test x y k e = rw e

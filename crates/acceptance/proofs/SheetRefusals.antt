@@ -1,7 +1,7 @@
 -- The reading refuses a sheet exactly with its first refusal.
 -- Assumes nothing.
 use mathlib.Core.Path.{_≡_, refl, sym, ap, _∙_, subst}
-use mathlib.Core.Bool.{Bool, true, false, true≢false}
+use mathlib.Core.Bool.{Bool, true, false, true≢false, not-eq-not}
 use mathlib.Core.List.{List, []}
 use Prim.Native.Nat.{ℕ, zero, suc, _+_, _<_, _≤_}
 use native.Mathlib.Omega.{arith}
@@ -13,15 +13,7 @@ use Rattle.acceptance.specs.SheetTexts.{twoAt, isRecord, sameCounts, unu
 use Rattle.acceptance.specs.Sheets.{System, size, mapLength}
 use Rattle.acceptance.specs.working.SheetReading.{Reading, refused, holds, demand, either, mapIn, mapAt, stepsIn, stepsAt, stepCount, traceAt, bodyAt, sheetIn, sheetOf}
 use Rattle.acceptance.specs.Promises.{RefusedIffReads}
-use Rattle.acceptance.proofs.SheetLaws.{record-kind, record-fits, demand-go, demand-no}
-
-is-false : (t : Bool) → (t ≡ true → ⊥) → t ≡ false
-is-false true h = absurd (h refl)
-is-false false h = refl
-
--- A record has one kind.
-kinds-apart : (b : List ℕ) (p n k : ℕ) → isRecord b p 3 n ≡ true → isRecord b p 2 k ≡ false
-kinds-apart b p n k e = is-false _ (λ h. omega (arith, record-kind b p 3 n e, record-kind b p 2 k h))
+use Rattle.acceptance.proofs.SheetLaws.{record-parts, kinds-apart, demand-go, demand-no}
 
 -- How many records of steps are begun.
 count-next : (b : List ℕ) (p : ℕ) → p < length b → stepCount b p ≡ suc (stepCount b (p + 10))
@@ -76,7 +68,7 @@ module _ (M : System) (b : List ℕ) where
   begun p x h = ap (λ (k : ℕ). stepsFrom p k x) (count-next b p h)
 
   inside : (p : ℕ) → isRecord b p 4 4 ≡ true → p < length b
-  inside p e = omega (arith, record-fits b p 4 4 e)
+  inside p e = omega (arith, record-parts b p 4 4 e .0)
 
   -- A record without fault is passed.
   pass : (p q : ℕ) (s t : Stage) (r : Bool) → Allowed M b p s r q t → r ≡ true → (x : Sheet) → (y : Sheet) × (from s p x ≡ from t q y)
@@ -89,10 +81,10 @@ module _ (M : System) (b : List ℕ) where
 
   pub within : (p : ℕ) (s : Stage) → Clean M b p s → p ≤ length b
   within p s (begin h) = omega arith
-  within p s (next c (header e) h) = omega (arith, record-fits b _ 1 3 e)
-  within p s (next c (map e u) h) = record-fits b _ 2 _ e
-  within p s (next c (start e) h) = omega (arith, record-fits b _ 3 2 e)
-  within p s (next c (step e) h) = omega (arith, record-fits b _ 4 4 e)
+  within p s (next c (header e) h) = omega (arith, record-parts b _ 1 3 e .0)
+  within p s (next c (map e u) h) = record-parts b _ 2 _ e .0
+  within p s (next c (start e) h) = omega (arith, record-parts b _ 3 2 e .0)
+  within p s (next c (step e) h) = omega (arith, record-parts b _ 4 4 e .0)
 
   -- Clean records are passed.
   clean : (p : ℕ) (s : Stage) → Clean M b p s → (x : Sheet) × (sheetOf M b ≡ from s p x)
@@ -121,15 +113,15 @@ module _ (M : System) (b : List ℕ) where
   body-wrong p e c = rw (e, c)
 
   misplace-body : (p : ℕ) (t : Bool) → mapHere p ≡ t → NoneAllowed p atBody → bodyFrom p ≡ refused 9 p
-  misplace-body p true h n = body-unclear p h (is-false _ (λ c. n _ _ _ (map h c)))
-  misplace-body p false h n = body-wrong p h (is-false _ (λ k. n _ _ _ (start k)))
+  misplace-body p true h n = body-unclear p h (not-eq-not .0 (λ c. n _ _ _ (map h c)))
+  misplace-body p false h n = body-wrong p h (not-eq-not .0 (λ k. n _ _ _ (start k)))
 
   misplace : (p : ℕ) (s : Stage) → p ≤ length b → NoneAllowed p s → (MayEnd s → length b ≡ p → ⊥) → (x : Sheet) → from s p x ≡ refused 9 p
   unfolding from
-  misplace p atHeader w n e x = demand-no _ _ _ _ (is-false _ (λ h. n _ _ _ (header h)))
+  misplace p atHeader w n e x = demand-no _ _ _ _ (not-eq-not .0 (λ h. n _ _ _ (header h)))
   misplace p atBody w n e x = misplace-body p _ refl n
   misplace p atEnd w n e x = demand-no _ _ _ _ (ne-eqb _ _ (e tt))
-  misplace p atStep w n e x = begun p (holds x) (strict (e tt)) ∙ demand-no _ _ _ _ (is-false _ (λ h. n _ _ _ (step h)))
+  misplace p atStep w n e x = begun p (holds x) (strict (e tt)) ∙ demand-no _ _ _ _ (not-eq-not .0 (λ h. n _ _ _ (step h)))
     where
       strict : (length b ≡ p → ⊥) → p < length b
       strict f = omega arith

@@ -9,7 +9,6 @@ use native.Mathlib.Omega.{arith}
 use native.Mathlib.Numerals.{add-one}
 use lib.ListN.{length, getD, take, drop, length-drop, drop-of-length-le}
 use lib.Seq.{getD-take, getD-drop, drop-cons, drop-drop, length-take-le}
-use borrow.Author.Tests.{eqb-true, ltb-true}
 use Rattle.meaning.specs.Evidence.{Sheet}
 use Rattle.meaning.specs.OneRow.{TraceStep}
 use Rattle.acceptance.specs.SheetTexts.{twoAt, fourAt, isRecord, sameCounts, unusedClear, stepIn, stepFits, InRange, SheetSays, AreBytes}
@@ -17,7 +16,7 @@ use Rattle.acceptance.specs.Sheets.{System, size, mapLength, little, rec
 use Rattle.acceptance.specs.working.SheetReading.{mapIn, stepsIn, stepCount, StepsStand, TraceStands, MapStands}
 use Rattle.notation.specs.Regular.{Every}
 use Rattle.acceptance.specs.Promises.{SaysIffReads}
-use Rattle.acceptance.proofs.SheetLaws.{record-length, record-kind, both-split, record-fits, map-length-pos}
+use Rattle.acceptance.proofs.SheetLaws.{record-parts, counts-parts, step-parts, map-length-pos}
 use Rattle.acceptance.proofs.SheetOpened.{Stands, body-inv, sheet-inv, theMap, theTrace}
 use Rattle.acceptance.proofs.SheetWritten.{reads-written}
 
@@ -62,7 +61,7 @@ module _ (b : List ℕ) (bytes : AreBytes b) where
 
   module _ (p kind n : ℕ) (e : isRecord b p kind n ≡ true) where
     room : p + 6 + n ≤ length b
-    room = record-fits b p kind n e
+    room = record-parts b p kind n e .0
 
     -- Its first six bytes.
     head-split : drop p b ≡ (little 4 n ++ little 2 kind) ++ drop (p + 6) b
@@ -76,8 +75,8 @@ module _ (b : List ℕ) (bytes : AreBytes b) where
         ∙ ap (λ (l : List ℕ). getD b (p + 4) 0 ∷ l) (next b (p + 4 + 1) (p + 6) (omega arith) (omega arith))))))
         ∙ sym (ap (λ (l : List ℕ). (l ++ (getD b (p + 4) 0 ∷ getD b (p + 4 + 1) 0 ∷ [])) ++ drop (p + 6) b) (four-bytes p))
         ∙ sym (ap (λ (l : List ℕ). (little 4 (fourAt b p) ++ l) ++ drop (p + 6) b) (two-bytes (p + 4)))
-        ∙ ap (λ (x : ℕ). (little 4 x ++ little 2 (twoAt b (p + 4))) ++ drop (p + 6) b) (record-length b p kind n e)
-        ∙ ap (λ (x : ℕ). (little 4 n ++ little 2 x) ++ drop (p + 6) b) (record-kind b p kind n e)
+        ∙ ap (λ (x : ℕ). (little 4 x ++ little 2 (twoAt b (p + 4))) ++ drop (p + 6) b) (record-parts b p kind n e .1)
+        ∙ ap (λ (x : ℕ). (little 4 n ++ little 2 x) ++ drop (p + 6) b) (record-parts b p kind n e .2)
 
     pub record-split : drop p b ≡ recordBytes kind (take n (drop (p + 6) b)) ++ drop (p + 6 + n) b
     unfolding recordBytes
@@ -121,18 +120,15 @@ module _ (b : List ℕ) (bytes : AreBytes b) where
   -- The header.
   module _ (M : System) (e : isRecord b 0 1 3 ≡ true) (f : sameCounts (M .shared) (M .row) (M .commands) b 6 ≡ true) where
     header-three : take 3 (drop 6 b) ≡ M .shared ∷ M .row ∷ M .commands ∷ []
-    unfolding sameCounts
     header-three =
         let z = room 0 1 3 e in
-        let s = eqb-true _ _ (both-split _ _ f .0) in
-        let r = eqb-true _ _ (both-split _ _ (both-split _ _ f .1) .0) in
-        let c = eqb-true _ _ (both-split _ _ (both-split _ _ f .1) .1) in
+        let c = counts-parts _ _ _ _ _ f in
         ap (take 3)
         (next b 6 7 (omega arith) refl
         ∙ ap (λ (l : List ℕ). getD b 6 0 ∷ l) (next b 7 8 (omega arith) refl
         ∙ ap (λ (l : List ℕ). getD b 7 0 ∷ l) (next b 8 9 (omega arith) refl)))
-        ∙ ap (λ (x : ℕ). x ∷ getD b 7 0 ∷ getD b 8 0 ∷ []) s
-        ∙ ap (λ (x : ℕ). M .shared ∷ x ∷ getD b 8 0 ∷ []) r ∙ ap (λ (x : ℕ). M .shared ∷ M .row ∷ x ∷ []) c
+        ∙ ap (λ (x : ℕ). x ∷ getD b 7 0 ∷ getD b 8 0 ∷ []) (c .0)
+        ∙ ap (λ (x : ℕ). M .shared ∷ x ∷ getD b 8 0 ∷ []) (c .1) ∙ ap (λ (x : ℕ). M .shared ∷ M .row ∷ x ∷ []) (c .2)
 
     pub header-split : b ≡ headerBytes M ++ drop 9 b
     unfolding headerBytes
@@ -145,11 +141,7 @@ steps-cover b p h = omega arith
 -- The contents are in range.
 module _ (M : System) (b : List ℕ) where
   step-ranges : (x : TraceStep) → stepFits (size M) (M .commands) (M .stars) x ≡ true → InRange M x
-  unfolding stepFits
-  step-ranges x e =
-      let i = both-split _ _ e in
-      let j = both-split _ _ (i .1) in
-      record { command = ltb-true _ _ (i .0); word = ltb-true _ _ (j .0); after = ltb-true _ _ (j .1) }
+  step-ranges x e = let s = step-parts _ _ _ x e in record { command = s .0; word = s .1; after = s .2 }
 
   steps-range : (n p : ℕ) → StepsStand (size M) (M .commands) (M .stars) b p n → Every (InRange M) (stepsIn b p n)
   unfolding StepsStand stepsIn
@@ -178,7 +170,7 @@ module _ (M : System) (b : List ℕ) where
     says-trace : TraceStands (size M) (M .commands) (M .stars) b 9 → SheetSays M b (theTrace (size M) (M .commands) (M .stars) b 9)
     unfolding sheetBytes mapBytes startBytes
     says-trace S =
-        let r : 9 + 6 + 2 ≤ length b = record-fits b 9 3 2 (S .head) in
+        let r : 9 + 6 + 2 ≤ length b = record-parts b 9 3 2 (S .head) .0 in
         let w : length b ≤ 17 + 10 * stepCount b 17 = steps-cover b 17 r in
         let end : drop (17 + 10 * stepCount b 17) b ≡ [] = drop-of-length-le b {i = 17 + 10 * stepCount b 17} w in
         record {

@@ -1,8 +1,8 @@
 -- A sheet that was written is read back; and the first six bytes of a short record, as a writer stores them.
 -- Assumes nothing.
-use Rattle.acceptance.proofs.SheetLaws.{both-join}
+use Rattle.acceptance.proofs.SheetLaws.{record-whole, counts-whole, step-whole, kinds-apart}
 use mathlib.Core.Path.{_≡_, refl, ap, _∙_, subst}
-use mathlib.Core.Bool.{Bool, true, false}
+use mathlib.Core.Bool.{true}
 use mathlib.Core.List.{List, [], _∷_, _++_, append-assoc, append-nil}
 use Prim.Native.Nat.{ℕ, _+_, _*_, _/_, _%_, _<_, _≤_}
 use native.Mathlib.Omega.{arith}
@@ -12,7 +12,7 @@ use lib.Seq.{getD-append-add, take-all}
 use borrow.Author.Tests.{eq-eqb, le-leb, lt-ltb}
 use Rattle.meaning.specs.Evidence.{Sheet, safe, trace}
 use Rattle.meaning.specs.OneRow.{TraceStep}
-use Rattle.acceptance.specs.SheetTexts.{both, twoAt, fourAt, isRecord, sameCounts, unusedClear, stepIn, stepFits, InRange, SheetSays}
+use Rattle.acceptance.specs.SheetTexts.{twoAt, fourAt, isRecord, sameCounts, unusedClear, stepIn, stepFits, InRange, SheetSays}
 use Rattle.acceptance.specs.Sheets.{System, size, mapLength, little, recordBytes, headerBytes, stepBytes, stepsBytes, sheetBytes, mapBytes, startBytes}
 use Rattle.acceptance.specs.working.SheetReading.{holds, demand, either, mapIn, mapAt, stepsIn, stepCount, traceAt, bodyAt, sheetIn, sheetOf, StepsStand}
 use Rattle.notation.specs.Regular.{Every}
@@ -70,14 +70,12 @@ module _ (kind : ℕ) (pre payload post : List ℕ) (k : kind < 65536) (n : leng
   -- It stands at p.
   module _ (p : ℕ) (e : length pre ≡ p) where
     pub record-there : isRecord whole p kind (length payload) ≡ true
-    unfolding isRecord
     record-there =
         let z : length pre + 0 ≡ p = omega arith in
         let room : p + 6 + length payload ≤ length whole = omega (arith, length-append pre (recordBytes kind payload ++ post), front-length kind payload post k n) in
-        both-join _ _ (le-leb _ _ room)
-        (both-join _ _
-        (eq-eqb _ _ (subst (λ (x : ℕ). fourAt whole x ≡ length payload) z (four-past pre (recordBytes kind payload ++ post) 0 ∙ four-here kind payload post k n)))
-        (eq-eqb _ _ (subst (λ (x : ℕ). twoAt whole (x + 4) ≡ kind) e (two-past pre (recordBytes kind payload ++ post) 4 ∙ kind-here kind payload post k n))))
+        record-whole _ _ _ _ room
+        (subst (λ (x : ℕ). fourAt whole x ≡ length payload) z (four-past pre (recordBytes kind payload ++ post) 0 ∙ four-here kind payload post k n))
+        (subst (λ (x : ℕ). twoAt whole (x + 4) ≡ kind) e (two-past pre (recordBytes kind payload ++ post) 4 ∙ kind-here kind payload post k n))
 
     pub get-there : (j q : ℕ) → p + 6 + j ≡ q → getD whole q 0 ≡ getD (payload ++ post) j 0
     get-there j q f =
@@ -102,12 +100,6 @@ unfolding stepsBytes
 steps-length [] = refl
 steps-length (x ∷ xs) = omega (arith, length-append (stepBytes x) (stepsBytes xs), step-length x, steps-length xs)
 
-both-wrong : (a b : Bool) → both a (both b false) ≡ false
-unfolding both
-both-wrong true true = refl
-both-wrong true false = refl
-both-wrong false b = refl
-
 module _ (M : System) (few : size M ≤ 65536) where
   module _ (pre post : List ℕ) (x : TraceStep) (fits : InRange M x) (p : ℕ) (e : length pre ≡ p) where
     abbrev payload : List ℕ
@@ -130,8 +122,7 @@ module _ (M : System) (few : size M ≤ 65536) where
         step-eq _ _ c w (t ∙ u)
 
     step-in-range : stepFits (size M) (M .commands) (M .stars) (stepIn withStep (p + 6)) ≡ true
-    unfolding stepFits
-    step-in-range = rw step-read (both-join _ _ (lt-ltb _ _ (fits .command)) (both-join _ _ (lt-ltb _ _ (fits .word)) (lt-ltb _ _ (fits .after))))
+    step-in-range = rw step-read (step-whole _ _ _ _ (fits .command) (fits .word) (fits .after))
 
   -- All of them, behind `pre`.
   pub steps-there : (xs : List TraceStep) (pre : List ℕ) (p : ℕ) → length pre ≡ p → Every (InRange M) xs
@@ -160,8 +151,8 @@ module _ (M : System) (few : size M ≤ 65536) where
     header-record = record-there 1 [] (M .shared ∷ M .row ∷ M .commands ∷ []) post (omega arith) (omega arith) 0 refl
 
     header-counts : sameCounts (M .shared) (M .row) (M .commands) (headerBytes M ++ post) 6 ≡ true
-    unfolding sameCounts headerBytes recordBytes little
-    header-counts = both-join _ _ (eq-eqb (M .shared) (M .shared) refl) (both-join _ _ (eq-eqb (M .row) (M .row) refl) (eq-eqb (M .commands) (M .commands) refl))
+    unfolding headerBytes recordBytes little
+    header-counts = counts-whole _ _ _ (headerBytes M ++ post) 6 refl refl refl
 
     pub header-read : length (headerBytes M ++ post) ≤ 65536 → sheetOf M (headerBytes M ++ post) ≡ bodyAt (size M) (M .commands) (M .stars) (headerBytes M ++ post) 9
     unfolding sheetIn demand
@@ -199,10 +190,6 @@ module _ (M : System) (few : size M ≤ 65536) where
     abbrev traceSheet : List ℕ
     traceSheet = headerBytes M ++ (recordBytes 3 (little 2 s) ++ stepsBytes xs)
 
-    trace-kind : isRecord traceSheet 9 2 (mapLength (size M)) ≡ false
-    unfolding isRecord twoAt headerBytes recordBytes little
-    trace-kind = both-wrong _ _
-
     trace-record : isRecord traceSheet 9 3 2 ≡ true
     unfolding little
     trace-record = record-there 3 (headerBytes M) (little 2 s) (stepsBytes xs) (omega arith) (omega arith) 9 header-length
@@ -228,7 +215,7 @@ module _ (M : System) (few : size M ≤ 65536) where
     pub trace-read : bodyAt (size M) (M .commands) (M .stars) traceSheet 9 ≡ holds (trace s xs)
     unfolding bodyAt either traceAt demand
     trace-read =
-        rw (trace-kind, trace-record, trace-start, lt-ltb s (size M) small, trace-count)
+        rw (kinds-apart _ 9 2 (mapLength (size M)) trace-record, trace-record, trace-start, lt-ltb s (size M) small, trace-count)
         (steps-of (size M) (M .commands) (M .stars) traceSheet 17 (length xs) _ (trace-there .0) ∙ ap (λ (l : List TraceStep). holds (trace s l)) (trace-there .1))
 
 map-short : (n : ℕ) (states : ℕ) → states ≤ 65536 → n ≡ mapLength states → n < 65536

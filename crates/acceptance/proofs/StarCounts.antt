@@ -1,7 +1,7 @@
 -- Of the star counts, the reading of a sheet asks only for those of the model's commands.
 -- Assumes nothing.
 use mathlib.Core.Path.{_≡_, refl, ap, _∙_}
-use mathlib.Core.Bool.{Bool, true, false}
+use mathlib.Core.Bool.{Bool, true, false, _&&_}
 use mathlib.Core.List.{List}
 use Prim.Native.Nat.{ℕ, zero, suc, _+_, _^_, _<_}
 use lib.Dec.{ltb, leb}
@@ -10,18 +10,17 @@ use borrow.Author.Tests.{ltb-true}
 use Rattle.meaning.specs.OneRow.{TraceStep}
 use Rattle.meaning.specs.Evidence.{trace}
 use Rattle.acceptance.specs.Sheets.{mapLength}
-use Rattle.acceptance.specs.SheetTexts.{longest, both, twoAt, isRecord, sameCounts, stepIn, stepFits}
+use Rattle.acceptance.specs.SheetTexts.{longest, twoAt, isRecord, sameCounts, stepIn, stepFits}
 use Rattle.acceptance.specs.working.SheetReading.{Reading, refused, holds, demand, either, mapAt, stepsIn, stepsAt, stepCount, traceAt, bodyAt, sheetIn}
 
-both-alike : (a b c : Bool) → (a ≡ true → b ≡ c) → both a b ≡ both a c
-unfolding both
-both-alike true b c h = h refl
-both-alike false b c h = refl
+and-alike : (a b c : Bool) → (a ≡ true → b ≡ c) → a && b ≡ a && c
+and-alike true b c h = h refl
+and-alike false b c h = refl
 
 module _ (states commands : ℕ) (f g : ℕ → ℕ) (same : (k : ℕ) → k < commands → f k ≡ g k) (b : List ℕ) where
   fits-alike : (x : TraceStep) → stepFits states commands f x ≡ stepFits states commands g x
   unfolding stepFits
-  fits-alike x = both-alike _ _ _ λ e. ap (λ (n : ℕ). both (ltb (x .word) (2 ^ n)) (ltb (x .after) states)) (same (x .command) (ltb-true _ _ e))
+  fits-alike x = and-alike _ _ _ λ e. ap (λ (n : ℕ). ltb (x .word) (2 ^ n) && ltb (x .after) states) (same (x .command) (ltb-true _ _ e))
 
   steps-alike : (p n : ℕ) (rest : Reading) → stepsAt states commands f b p n rest ≡ stepsAt states commands g b p n rest
   unfolding stepsAt

@@ -3,19 +3,19 @@
 use mathlib.Core.Path.{_≡_, sym, ap, _∙_, subst}
 use mathlib.Core.Bool.{Bool, true, false}
 use mathlib.Core.List.{List}
-use Prim.Native.Nat.{ℕ, suc, _+_, _-_, _^_, _<_, _≤_}
+use Prim.Native.Nat.{ℕ, suc, _+_, _-_, _<_, _≤_}
 use native.Mathlib.Omega.{arith}
 use lib.ListN.{length, getD}
 use lib.Dec.{eqb}
-use borrow.Author.Tests.{eq-eqb, ne-eqb, ltb-true}
+use borrow.Author.Tests.{eq-eqb, ne-eqb}
 use Rattle.meaning.specs.OneRow.{TraceStep, lastOf}
-use Rattle.acceptance.specs.SheetTexts.{twoAt, stepIn, stepFits}
+use Rattle.acceptance.specs.SheetTexts.{twoAt, stepIn}
 use Rattle.acceptance.specs.working.SheetReading.{stepsIn, StepsStand}
 use Rattle.meaning.specs.working.Conditions.{testA, testB, testC, testE}
 use Rattle.acceptance.specs.working.Test.{mapAnswer, walk, traceAnswer}
 use Rattle.acceptance.specs.declared.outcome.Outcome.{Outcome}
 use Rattle.acceptance.specs.declared.outcome.Outcome.the-variants.{SafeHolds, TraceHolds, FailsA, FailsB, FailsC, FailsD, FailsE, FailsF}
-use Rattle.acceptance.proofs.SheetLaws.{both-split, record-fits}
+use Rattle.acceptance.proofs.SheetLaws.{record-parts, step-parts}
 
 -- The outcome for a map, from what was found of A, B and C.
 module _ (states commands : ℕ) (stars : ℕ → ℕ) (starts breaks : ℕ → Bool) (step : ℕ → ℕ → ℕ → ℕ) (map : List ℕ) where
@@ -47,19 +47,15 @@ module _ (states commands : ℕ) (stars : ℕ → ℕ) (b : List ℕ) (at n i : 
 
   pub stand-room : at + 10 ≤ length b
   unfolding StepsStand
-  stand-room = omega (arith, record-fits b at 4 4 (opened .0))
+  stand-room = omega (arith, record-parts b at 4 4 (opened .0) .0)
 
   pub stand-command : getD b (at + 6) 0 < commands
-  unfolding stepFits stepIn StepsStand
-  stand-command = ltb-true _ _ (both-split _ _ (opened .1) .0)
-
-  pub stand-word : getD b (at + 6 + 1) 0 < 2 ^ stars (getD b (at + 6) 0)
-  unfolding stepFits stepIn StepsStand
-  stand-word = ltb-true _ _ (both-split _ _ (both-split _ _ (opened .1) .1) .0)
+  unfolding stepIn StepsStand
+  stand-command = step-parts _ _ _ _ (opened .1) .0
 
   pub stand-after : twoAt b (at + 6 + 2) < states
-  unfolding stepFits stepIn StepsStand
-  stand-after = ltb-true _ _ (both-split _ _ (both-split _ _ (opened .1) .1) .1)
+  unfolding stepIn StepsStand
+  stand-after = step-parts _ _ _ _ (opened .1) .2
 
   pub stand-rest : StepsStand states commands stars b (at + 10) (n - (i + 1))
   unfolding StepsStand

@@ -1,7 +1,7 @@
 -- Which bytes say which contents of a sheet, and which first refusal they have if they say none.
 -- Assumes nothing.
 use mathlib.Core.Path.{_≡_}
-use mathlib.Core.Bool.{Bool, true, false, cond}
+use mathlib.Core.Bool.{Bool, true, false, cond, _&&_}
 use mathlib.Core.List.{List}
 use Prim.Native.Nat.{ℕ, _+_, _*_, _^_, _<_, _≤_}
 use lib.Dec.{eqb, leb, ltb}
@@ -15,11 +15,6 @@ use Rattle.acceptance.specs.Sheets.{System, size, mapLength, sheetBytes}
 abbrev pub longest : ℕ
 longest = 65536
 
--- Both tests hold.
-unfoldable pub both : Bool → Bool → Bool
-both true b = b
-both false b = false
-
 -- The number that two bytes from p on give, and the number that four give, both little-endian.
 unfoldable pub twoAt : List ℕ → ℕ → ℕ
 twoAt b p = getD b p 0 + 256 * getD b (p + 1) 0
@@ -29,11 +24,11 @@ fourAt b p = twoAt b p + 65536 * twoAt b (p + 2)
 
 -- Whether a record of this kind, with n bytes of payload, stands whole at p.
 unfoldable pub isRecord : List ℕ → ℕ → ℕ → ℕ → Bool
-isRecord b p kind n = both (leb (p + 6 + n) (length b)) (both (eqb (fourAt b p) n) (eqb (twoAt b (p + 4)) kind))
+isRecord b p kind n = leb (p + 6 + n) (length b) && (eqb (fourAt b p) n && eqb (twoAt b (p + 4)) kind)
 
 -- Whether the counts in a header's payload at p are these.
 unfoldable pub sameCounts : ℕ → ℕ → ℕ → List ℕ → ℕ → Bool
-sameCounts shared row commands b p = both (eqb (getD b p 0) shared) (both (eqb (getD b (p + 1) 0) row) (eqb (getD b (p + 2) 0) commands))
+sameCounts shared row commands b p = eqb (getD b p 0) shared && (eqb (getD b (p + 1) 0) row && eqb (getD b (p + 2) 0) commands)
 
 -- Whether the bits that no state uses are 0. Only a map of fewer than eight states has such bits, in its one byte.
 unfoldable pub unusedClear : ℕ → ℕ → Bool
@@ -45,7 +40,7 @@ stepIn b p = record { command = getD b p 0; word = getD b (p + 1) 0; after = two
 
 -- Whether a step's numbers are in range: a known command, a word without bits beyond the command's stars, a state.
 unfoldable pub stepFits : ℕ → ℕ → (ℕ → ℕ) → TraceStep → Bool
-stepFits states commands stars x = both (ltb (x .command) commands) (both (ltb (x .word) (2 ^ stars (x .command))) (ltb (x .after) states))
+stepFits states commands stars x = ltb (x .command) commands && (ltb (x .word) (2 ^ stars (x .command)) && ltb (x .after) states)
 
 -- The same as a statement.
 pub record InRange (M : System) (x : TraceStep) : Type 0 where

@@ -17,7 +17,7 @@ use Rattle.meaning.specs.Meaning.{eval, runRow, runItem, runItems, step}
 use Rattle.meaning.specs.OneRow.{stateNumber, spread, spreadWord, starts, breaks, next, lastOf}
 use Rattle.meaning.specs.Evidence.{inMap}
 use Rattle.meaning.specs.working.Conditions.{every, implies, testA, testB, wordsStay, closedAt, testC, testE}
-use Rattle.acceptance.specs.SheetTexts.{both, twoAt, fourAt, isRecord, sameCounts, unusedClear, stepIn, stepFits}
+use Rattle.acceptance.specs.SheetTexts.{twoAt, fourAt, isRecord, sameCounts, unusedClear, stepIn, stepFits}
 use Rattle.acceptance.specs.Outcomes as A
 use Rattle.acceptance.specs.working.SheetReading.{demand, either, mapIn, mapAt, stepsIn, stepsAt, stepCount, traceAt, bodyAt, sheetIn}
 use Rattle.acceptance.specs.working.Test.{mapAnswer, walk, traceAnswer, answerIn, judge, outcomeOf, testIn, testOf}
@@ -38,7 +38,7 @@ unfolding bytes sameWord reserved wordIn wordToken sameKind allowed nameCounts v
     span mark front lexemes tokensFrom tally note exceeds fault lines skips find T.step ending reads answer
     bit number eval runRow runItem runItems step stateNumber spread spreadWord starts breaks next lastOf
     inMap every implies testA testB wordsStay closedAt testC testE
-    mapLength both twoAt fourAt isRecord sameCounts unusedClear stepIn stepFits
+    mapLength twoAt fourAt isRecord sameCounts unusedClear stepIn stepFits
     demand either mapIn mapAt stepsIn stepsAt stepCount traceAt bodyAt sheetIn
     mapAnswer walk traceAnswer answerIn judge outcomeOf testIn testOf A.wordingOf
     little recordBytes headerBytes mapBytes startBytes stepBytes stepsBytes sheetBytes wordingOf cases

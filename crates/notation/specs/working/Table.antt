@@ -2,22 +2,13 @@
 -- It is the executable form of `Notation`, and what a reader may lean on; nothing here has to be believed.
 -- Assumes nothing.
 use mathlib.Core.Path.{_≡_}
-use mathlib.Core.Bool.{Bool, true, false, cond, not}
+use mathlib.Core.Bool.{Bool, true, false, cond, not, _&&_, _||_}
 use mathlib.Core.List.{List, [], _∷_, _++_}
 use mathlib.Core.Option.{Option, none, some}
 use Prim.Native.Nat.{ℕ, suc}
 use lib.Dec.{eqb}
 use Rattle.notation.specs.Tokens.{Token, sign, name, Name, SHARED, ROW, START, KEEP, EACH, COMMAND, IF, DO, ELSE, FOR, END, SKIP, AND, OR, NOT, ZERO, ONE, STAR, DOT, SEMI, ASSIGN, OPEN, CLOSE}
 use Rattle.notation.specs.Notation.{Kind, sharedName, rowName, commandName, Mode, fixedShared, fixedRow, freeShared, freeRow, Role, quiet, declares, uses, constant, chance, joins, negates, opens, target, beginsItem, beginsCommand, Part, part, Expr, false′, true′, star′, name′, not′, and′, or′, RowItem, Item, for′, Clause, clause′, Command, command′, Tree, tree′}
-
--- Tests joined. They are shut, so that a proof's `_` finds their parts.
-unfoldable pub both : Bool → Bool → Bool
-both true b = b
-both false b = false
-
-unfoldable pub either : Bool → Bool → Bool
-either true b = true
-either false b = b
 
 -- What may be wanted next: the table's symbols.
 pub data Sym : Type 0 where
@@ -203,20 +194,20 @@ optional n = isSome (skips n)
 -- Whether the text may end here.
 unfoldable pub ends : List Sym → Bool
 ends [] = true
-ends (n ∷ σ) = both (optional n) (ends σ)
+ends (n ∷ σ) = optional n && ends σ
 
 -- Lists of kinds.
 abbrev pub elem : ℕ → List ℕ → Bool
 elem k [] = false
-elem k (j ∷ js) = either (eqb j k) (elem k js)
+elem k (j ∷ js) = eqb j k || elem k js
 
 abbrev pub apart : List ℕ → List ℕ → Bool
 apart [] js = true
-apart (k ∷ ks) js = both (not (elem k js)) (apart ks js)
+apart (k ∷ ks) js = not (elem k js) && apart ks js
 
 abbrev pub within : List ℕ → List ℕ → Bool
 within [] js = true
-within (k ∷ ks) js = both (elem k js) (within ks js)
+within (k ∷ ks) js = elem k js && within ks js
 
 unfoldable pub kinds : {n : Sym} → List (Line n) → List ℕ
 kinds [] = []
@@ -231,12 +222,12 @@ firsts (n ∷ σ) = kinds (lines n) ++ cond (optional n) (firsts σ) []
 -- and what may go on with a line's end may go on with the line's own symbol.
 unfoldable pub closed : Sym → List Sym → Bool
 closed n [] = true
-closed n (m ∷ β) = both (apart (firsts β) (more m)) (both (either (not (ends β)) (within (more m) (more n))) (closed n β))
+closed n (m ∷ β) = apart (firsts β) (more m) && ((not (ends β) || within (more m) (more n)) && closed n β)
 
 unfoldable pub closedLines : (n : Sym) → List (Line n) → Bool
 closedLines n [] = true
-closedLines n (on k r α f ∷ ls) = both (closed n α) (closedLines n ls)
-closedLines n (named r α f ∷ ls) = both (closed n α) (closedLines n ls)
+closedLines n (on k r α f ∷ ls) = closed n α && closedLines n ls
+closedLines n (named r α f ∷ ls) = closed n α && closedLines n ls
 
 unfoldable pub ll1 : Sym → Bool
-ll1 n = both (either (not (optional n)) (within (kinds (lines n)) (more n))) (closedLines n (lines n))
+ll1 n = (not (optional n) || within (kinds (lines n)) (more n)) && closedLines n (lines n)

@@ -2,7 +2,7 @@
 -- Assumes nothing.
 use mathlib.Core.Path.{sym, _∙_}
 use native.Mathlib.Omega.{arith}
-use Rattle.acceptance.proofs.SheetLaws.{record-fits, map-length-pos, map-length-le, body-map, body-trace, body-none}
+use Rattle.acceptance.proofs.SheetLaws.{record-parts, map-length-pos, map-length-le, body-map, body-trace, body-none}
 use borrow.Author.Needs.{needs}
 use Rattle.acceptance.proofs.sheets.body_shape.Statement.{statement}
 use Rattle.acceptance.proofs.sheets.body_shape.Tie as tie
@@ -19,7 +19,7 @@ is-record-requires c κs = (
 map-shape-requires : tie.Need-map-shape-requires
 map-shape-requires c κs = (
   c .before .before .map-length .ensures,
-  record-fits _ _ 2 _ (sym (c .before .is-record .ensures) ∙ c .if1 .taken),
+  record-parts _ _ 2 _ (sym (c .before .is-record .ensures) ∙ c .if1 .taken) .0,
   map-length-pos _ _ (c .before .before .map-length .ensures),
 )
 
@@ -34,7 +34,7 @@ is-record-requires-2 c κs = search needs
 trace-shape-requires : tie.Need-trace-shape-requires
 trace-shape-requires c κs = (
   omega
-      (arith, record-fits (c .before .before .before .before .before .before .args .b .now) (c .before .before .before .before .before .before .args .p) 3 2 (sym (c .before .is-record2 .ensures) ∙ c .if2 .taken)),
+      (arith, record-parts (c .before .before .before .before .before .before .args .b .now) (c .before .before .before .before .before .before .args .p) 3 2 (sym (c .before .is-record2 .ensures) ∙ c .if2 .taken) .0),
   c .before .before .before .before .before .before .pre .0,
   c .before .before .before .before .before .before .pre .3,
 )

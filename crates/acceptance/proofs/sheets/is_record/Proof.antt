@@ -1,8 +1,8 @@
 -- `is_record` meets its contract: its three tests are those of the definition, in the same order.
 -- Assumes nothing.
-use Rattle.acceptance.proofs.SheetLaws.{same-test, four-is, both-no, both-go}
-use Rattle.acceptance.specs.SheetTexts.{isRecord}
-use borrow.Author.Tests.{eq-eqb, ne-eqb, lt-leb, le-leb}
+use Rattle.acceptance.proofs.SheetLaws.{same-test, four-is, record-parts, record-last}
+use mathlib.Core.Bool.{not-eq-not}
+use native.Mathlib.Omega.{arith}
 use mathlib.Core.Path.{sym, _∙_}
 use borrow.Author.Needs.{needs}
 use Rattle.acceptance.proofs.sheets.is_record.Statement.{statement}
@@ -15,8 +15,7 @@ add-if1-2 : tie.Need-add-if1-2
 add-if1-2 c = search needs
 
 returns : tie.Need-returns
-unfolding isRecord
-returns c = both-no _ _ (lt-leb _ _ (c .if1 .taken))
+returns c = sym (not-eq-not .0 (λ e. omega (arith, record-parts _ _ _ _ e .0)))
 
 two-at-requires : tie.Need-two-at-requires
 two-at-requires c κs = search needs
@@ -34,10 +33,8 @@ add-if2 : tie.Need-add-if2
 add-if2 c = search needs
 
 returns-2 : tie.Need-returns-2
-unfolding isRecord
 returns-2 c =
-    both-go _ _ _ (le-leb _ _ (c .before .before .before .if1 .left))
-    (both-no _ _ (ne-eqb _ _ (λ e. c .if2 .taken (four-is _ _ _ _ (c .before .before .two-at .ensures .0) (c .before .two-at2 .ensures .0) ∙ e))))
+    sym (not-eq-not .0 (λ e. c .if2 .taken (four-is _ _ _ _ (c .before .before .two-at .ensures .0) (c .before .two-at2 .ensures .0) ∙ record-parts _ _ _ _ e .1)))
 
 add-two-at-2 : tie.Need-add-two-at-2
 add-two-at-2 c = search needs
@@ -46,10 +43,10 @@ two-at-requires-3 : tie.Need-two-at-requires-3
 two-at-requires-3 c κs = search needs
 
 returns-3 : tie.Need-returns-3
-unfolding isRecord
 returns-3 c =
-    both-go _ _ _ (le-leb _ _ (c .before .before .before .before .if1 .left))
-    (both-go _ _ _ (eq-eqb _ _ (sym (four-is _ _ _ _ (c .before .before .before .two-at .ensures .0) (c .before .before .two-at2 .ensures .0)) ∙ c .before .if2 .left)) (same-test _ _ _ (c .two-at3 .ensures .0)))
+    same-test _ _ _ (c .two-at3 .ensures .0)
+    ∙ record-last _ _ _ _ (c .before .before .before .before .if1 .left)
+    (sym (four-is _ _ _ _ (c .before .before .before .two-at .ensures .0) (c .before .before .two-at2 .ensures .0)) ∙ c .before .if2 .left)
 
 pub is-record-spec : {M : Type 1} → statement M
 is-record-spec =

@@ -1,8 +1,7 @@
 -- `same_counts` meets its contract: its three tests are those of the definition, in the same order.
 -- Assumes nothing.
-use Rattle.acceptance.proofs.SheetLaws.{same-test, both-no, both-go}
-use Rattle.acceptance.specs.SheetTexts.{sameCounts}
-use borrow.Author.Tests.{eq-eqb, ne-eqb}
+use Rattle.acceptance.proofs.SheetLaws.{same-test, counts-parts, counts-last}
+use mathlib.Core.Bool.{not-eq-not}
 use mathlib.Core.Path.{sym, _∙_}
 use borrow.Author.Needs.{needs}
 use Rattle.acceptance.proofs.sheets.same_counts.Statement.{statement}
@@ -15,8 +14,7 @@ wide-requires : tie.Need-wide-requires
 wide-requires c κs = search needs
 
 returns : tie.Need-returns
-unfolding sameCounts
-returns c = both-no _ _ (ne-eqb _ _ (λ e. c .if1 .taken (c .before .wide .ensures .0 ∙ e)))
+returns c = sym (not-eq-not .0 (λ e. c .if1 .taken (c .before .wide .ensures .0 ∙ counts-parts _ _ _ _ _ e .0)))
 
 shared-slice-read-wide-2 : tie.Need-shared-slice-read-wide-2
 shared-slice-read-wide-2 c = search needs
@@ -25,10 +23,7 @@ wide-requires-2 : tie.Need-wide-requires-2
 wide-requires-2 c κs = search needs
 
 returns-2 : tie.Need-returns-2
-unfolding sameCounts
-returns-2 c =
-    both-go _ _ _ (eq-eqb _ _ (sym (c .before .before .before .before .wide .ensures .0) ∙ c .before .before .before .if1 .left))
-    (both-no _ _ (ne-eqb _ _ (λ e. c .if2 .taken (c .before .wide2 .ensures .0 ∙ e))))
+returns-2 c = sym (not-eq-not .0 (λ e. c .if2 .taken (c .before .wide2 .ensures .0 ∙ counts-parts _ _ _ _ _ e .1)))
 
 shared-slice-read-wide-3 : tie.Need-shared-slice-read-wide-3
 shared-slice-read-wide-3 c = search needs
@@ -37,11 +32,10 @@ wide-requires-3 : tie.Need-wide-requires-3
 wide-requires-3 c κs = search needs
 
 returns-3 : tie.Need-returns-3
-unfolding sameCounts
 returns-3 c =
-    both-go _ _ _
-    (eq-eqb _ _ (sym (c .before .before .before .before .before .before .wide .ensures .0) ∙ c .before .before .before .before .before .if1 .left))
-    (both-go _ _ _ (eq-eqb _ _ (sym (c .before .before .before .wide2 .ensures .0) ∙ c .before .before .if2 .left)) (same-test _ _ _ (c .wide3 .ensures .0)))
+    same-test _ _ _ (c .wide3 .ensures .0)
+    ∙ counts-last _ _ _ _ _ (sym (c .before .before .before .before .before .before .wide .ensures .0) ∙ c .before .before .before .before .before .if1 .left)
+    (sym (c .before .before .before .wide2 .ensures .0) ∙ c .before .before .if2 .left)
 
 pub same-counts-spec : {M : Type 1} → statement M
 same-counts-spec =

@@ -4,7 +4,7 @@ use Prim.Native.Nat.{_+_}
 use mathlib.Core.Path.{sym, _∙_}
 use native.Mathlib.Omega.{arith}
 use borrow.Author.Tests.{not-true, not-false}
-use Rattle.acceptance.proofs.SheetLaws.{record-fits, sheet-long, sheet-header, sheet-counts, sheet-body}
+use Rattle.acceptance.proofs.SheetLaws.{record-parts, sheet-long, sheet-header, sheet-counts, sheet-body}
 use Rattle.evaluation.proofs.Powers.{pow-small}
 use borrow.Author.Needs.{needs}
 use Rattle.acceptance.proofs.sheets.shape_of.Statement.{statement}
@@ -20,7 +20,7 @@ returns-2 : tie.Need-returns-2
 returns-2 c = sheet-header _ _ _ _ _ (c .before .before .if1 .left) (sym (c .before .is-record .ensures) ∙ not-true _ (c .if2 .taken))
 
 same-counts-requires : tie.Need-same-counts-requires
-same-counts-requires c κs = record-fits _ 0 1 3 (sym (c .before .is-record .ensures) ∙ not-false _ (c .if2 .left))
+same-counts-requires c κs = record-parts _ 0 1 3 (sym (c .before .is-record .ensures) ∙ not-false _ (c .if2 .left)) .0
 
 returns-3 : tie.Need-returns-3
 returns-3 c =

@@ -1,6 +1,6 @@
 -- `trace_shape` meets its contract: what is left to demand from a record on gives what all of it gave from the first.
 -- Assumes nothing.
-use Rattle.acceptance.proofs.SheetLaws.{steps-start, trace-bad, trace-fault, trace-whole, steps-kind, steps-range, steps-none, steps-left, record-fits}
+use Rattle.acceptance.proofs.SheetLaws.{steps-start, trace-bad, trace-fault, trace-whole, steps-kind, steps-range, steps-none, steps-left, record-parts}
 use Rattle.acceptance.specs.working.Shapes.{starsIn}
 use Rattle.acceptance.specs.working.SheetReading.{Reading, stepsAt, stepCount}
 use borrow.Author.Tests.{not-true, not-false}
@@ -55,7 +55,7 @@ add-step-fits c = omega arith
 step-fits-requires : tie.Need-step-fits-requires Inv-loop μ-loop
 step-fits-requires c κs = (
   omega
-      (arith, record-fits (c .before .before .before .before .before .before .before .args .b .now) (c .before .before .before .loop .at) 4 4 (sym (c .before .is-record .ensures) ∙ not-false _ (c .if2 .left))),
+      (arith, record-parts (c .before .before .before .before .before .before .before .args .b .now) (c .before .before .before .loop .at) 4 4 (sym (c .before .is-record .ensures) ∙ not-false _ (c .if2 .left)) .0),
   c .before .before .before .before .before .before .before .pre .2,
 )
 

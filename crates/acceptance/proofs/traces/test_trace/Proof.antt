@@ -11,7 +11,7 @@ use Rattle.acceptance.specs.working.Shapes.{starsIn}
 use Rattle.acceptance.specs.working.SheetReading.{stepsIn, stepCount, StepsStand}
 use Rattle.evaluation.specs.working.CodeSystem.{breaksIn, nextIn}
 use Rattle.evaluation.proofs.Powers.{pow-small}
-use Rattle.acceptance.proofs.SheetLaws.{record-fits}
+use Rattle.acceptance.proofs.SheetLaws.{record-parts}
 use Rattle.acceptance.proofs.TraceLaws.{stand-room, stand-command, stand-after, stand-rest, fails-d, goes, walk-next, walk-fails, walk-breaks, walk-keeps, walk-start, stands-start}
 use Rattle.acceptance.proofs.traces.test_trace.Statement.{statement}
 use Rattle.acceptance.proofs.traces.test_trace.Tie as tie
@@ -27,10 +27,10 @@ room : (c : tie.In-steps Inv-steps μ-steps) → c .before .steps .at + 10 ≤ l
 room c = stand-room _ _ _ _ _ _ _ (c .steps-test .taken) (c .before .steps .inv .3)
 
 add-two-at : tie.Need-add-two-at Inv-steps μ-steps
-add-two-at c = omega (arith, record-fits (c .before .args .b .now) (c .before .args .p) 3 2 (c .before .pre .4 .head))
+add-two-at c = omega (arith, record-parts (c .before .args .b .now) (c .before .args .p) 3 2 (c .before .pre .4 .head) .0)
 
 two-at-requires : tie.Need-two-at-requires Inv-steps μ-steps
-two-at-requires c κs = omega (arith, record-fits (c .before .args .b .now) (c .before .args .p) 3 2 (c .before .pre .4 .head))
+two-at-requires c κs = omega (arith, record-parts (c .before .args .b .now) (c .before .args .p) 3 2 (c .before .pre .4 .head) .0)
 
 starts-requires : tie.Need-starts-requires Inv-steps μ-steps
 starts-requires c κs = (omega (arith, c .two-at .ensures .0, c .before .before .pre .4 .start, pow-small (c .before .before .args .bits) (2 ^ c .before .before .args .bits) (c .before .before .pre .0) refl), c .before .before .pre .2 .fewCommands, c .before .before .pre .3)
@@ -42,13 +42,13 @@ add-n : tie.Need-add-n Inv-steps μ-steps
 add-n c = omega arith
 
 add-n-2 : tie.Need-add-n-2 Inv-steps μ-steps
-add-n-2 c = omega (arith, record-fits (c .before .before .before .before .args .b .now) (c .before .before .before .before .args .p) 3 2 (c .before .before .before .before .pre .4 .head))
+add-n-2 c = omega (arith, record-parts (c .before .before .before .before .args .b .now) (c .before .before .before .before .args .p) 3 2 (c .before .before .before .before .pre .4 .head) .0)
 
 sub-n : tie.Need-sub-n Inv-steps μ-steps
-sub-n c = omega (arith, record-fits (c .before .before .before .before .args .b .now) (c .before .before .before .before .args .p) 3 2 (c .before .before .before .before .pre .4 .head))
+sub-n c = omega (arith, record-parts (c .before .before .before .before .args .b .now) (c .before .before .before .before .args .p) 3 2 (c .before .before .before .before .pre .4 .head) .0)
 
 add-at : tie.Need-add-at Inv-steps μ-steps
-add-at c = omega (arith, record-fits (c .before .before .before .before .args .b .now) (c .before .before .before .before .args .p) 3 2 (c .before .before .before .before .pre .4 .head))
+add-at c = omega (arith, record-parts (c .before .before .before .before .args .b .now) (c .before .before .before .before .args .p) 3 2 (c .before .before .before .before .pre .4 .head) .0)
 
 steps-holds : tie.Need-steps-holds Inv-steps μ-steps
 unfolding stepCount
