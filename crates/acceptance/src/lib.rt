@@ -1,7 +1,7 @@
 // The acceptance test: whether a sheet is evidence for the model that a text says.
 mod maps;
 pub mod outcome;
-mod sheets;
+pub mod sheets;
 mod traces;
 
 ghost use mathlib.Core.Path.{_≡_};

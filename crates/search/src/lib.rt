@@ -9,11 +9,11 @@ mod traces;
 ghost use mathlib.Core.Path.{_≡_};
 ghost use Prim.Native.Nat.{_+_, _*_, _^_, _≤_};
 ghost use Rattle.evaluation.specs.working.CodeSystem.{Parted};
-ghost use Rattle.acceptance.specs.Sheets.{mapLength};
 ghost use Rattle.acceptance.specs.working.Shapes.{Few};
 ghost use Rattle.acceptance.specs.working.Test.{systemIn};
 ghost use Rattle.exploration.specs.working.Found.{foundIn, transitionsOf};
 ghost use Rattle.search.specs.working.Searching.{leftWith, Leaves, searchFor, searchOf};
+use acceptance::sheets::map_length;
 use evaluation::numbers::power;
 use exploring::run;
 use finding::Finding;
@@ -24,17 +24,6 @@ use records::put_head;
 use records::put_header;
 use tables::clear;
 use traces::write_trace;
-
-// How many bytes a map has.
-fn map_length(states: usize) -> usize
-    ensures { λ r. ⌜ r ≡ mapLength states ⌝ }
-{
-    let n = states / 8;
-    if n == 0 {
-        return 1;
-    }
-    n
-}
 
 // The search over the flat form of a model, where every lent buffer has room.
 fn search_roomy(
