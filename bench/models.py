@@ -7,23 +7,28 @@ SHARED = "abcd"
 ROW = "pqrstuvw"
 COMMANDS = 16
 STARS = 8
-STATES = 1 << len(SHARED + ROW)
+BITS = len(SHARED + ROW)
+STATES = 1 << BITS
 LONGEST_TEXT = 16384
+SEED = 12
 
-# A command's items: an upper-case letter stands for a name, `@` for an
-# expression; S is a shared name, R a row name.
-SHORT_ITEMS = ("S := @; for @ do R := @; R := @ else R := @ end",
-               "S := @")
-LONG_ITEMS = ("S := @; S := @; for @ do R := @; R := @ else R := @; skip end; "
-              "for @ do R := @ else R := @ end",
-              "S := @; skip; for @ do R := @; skip else R := @ end")
+# A command's items and its count of expression nodes. In the items an
+# upper-case letter stands for a name, `@` for an expression; S is a shared
+# name, R a row name.
+SHORT = ("S := @; for @ do R := @; R := @ else R := @ end", "S := @"), 29
+
+# The most code: 16 commands can't have more items each, nor more nodes beside
+# `start` and `keep`, and no other items of that count have more code words.
+LOOP = "for @ do R := @ else R := @ end"
+LONG = (f"S := @; {LOOP}; {LOOP}; {LOOP}", f"{LOOP}; {LOOP}"), 62
 
 G = ("shared m. row w x.\nstart m each not x.\nkeep 1 each not (w and x).\n"
      "command grant if m do\n"
      "for 1 do w := *; x := * else skip end else skip.")
 H = G.replace("x := *", "x := not w and *")
+DEPTH = 16
+DEEPEST_H = H.replace("and *", f"and {'(' * DEPTH}*{')' * DEPTH}")
 
-EVERYWHERE = "1 each 1"
 AT_ZERO = f"not ({' or '.join(SHARED)}) each not ({' or '.join(ROW)})"
 
 
@@ -100,11 +105,12 @@ def model(start, keep, commands):
             f"start {start}.\nkeep {keep}.\n" + "\n".join(commands))
 
 
-def wide(start, keep, items, nodes, seed):
-    """12 names and 16 commands of 8 stars, with the code words of each."""
-    rng = random.Random(seed)
+def wide(keep, items, nodes):
+    """12 names and 16 commands of 8 stars, with the code words of each. The
+    one start state is 0, and runs reach all states."""
+    rng = random.Random(SEED)
     made = [command(rng, f"k{j}", items, nodes) for j in range(COMMANDS)]
-    text = model(start, keep, [spelled for spelled, _ in made])
+    text = model(AT_ZERO, keep, [spelled for spelled, _ in made])
     words = {count for _, count in made}
     assert len(words) == 1 and len(text) <= LONGEST_TEXT
     return text, words.pop()
@@ -113,7 +119,7 @@ def wide(start, keep, items, nodes, seed):
 def long_text():
     """As many bytes as a text may have: the longest names, alike up to their
     last letter, and blanks. The one start state breaks the property."""
-    text, _ = wide(AT_ZERO, "0 each 1", LONG_ITEMS, 62, 13)
+    text, _ = wide("0 each 1", *LONG)
     text = re.sub(rf"\b([{SHARED + ROW}])\b", r"a_name_so_long_\1", text)
     while len(text) < LONGEST_TEXT:
         text = text.replace(" ", "  ", LONGEST_TEXT - len(text))
@@ -131,7 +137,7 @@ def raised(j):
 
 def counter(test):
     """A command that adds 1 to the state's number where the test holds."""
-    downwards = [raised(j) for j in reversed(range(len(SHARED + ROW)))]
+    downwards = [raised(j) for j in reversed(range(BITS))]
     row, shared = downwards[:len(ROW)], downwards[len(ROW):]
     return (f"command tick if {test} do for 1 do {'; '.join(row)}"
             f" else skip end; {'; '.join(shared)} else skip.")
@@ -145,18 +151,19 @@ def idle(j):
             f" else {s} := {s} and ({s} or * and * and * and *).")
 
 
-def count_up(commands):
-    """From 0 each step leads on to the next number, and the last breaks."""
-    return model(AT_ZERO, f"1 each not ({' and '.join(SHARED + ROW)})",
-                 commands)
+def count_up(commands, bits):
+    """From 0 each step leads on to the next number, and the first with so many
+    bits, all set, breaks."""
+    last = " and ".join((SHARED + ROW)[:bits])
+    return model(AT_ZERO, f"1 each not ({last})", commands)
 
 
-def short_count():
-    return count_up([counter("1")])
+def short_count(bits):
+    return count_up([counter("1")], bits)
 
 
-def starry_count():
+def starry_count(bits):
     """The counter is the last command and needs its last choice word, so all
     the others are tried in vain from each state."""
     return count_up([idle(j) for j in range(COMMANDS - 1)]
-                    + [counter(" and ".join("*" * STARS))])
+                    + [counter(" and ".join("*" * STARS))], bits)

@@ -1,33 +1,13 @@
-/* The search in plain C, to measure the product against.
- *
- *   search_twin < TEXT          one choice word at a time
- *   search_twin lanes < TEXT    64 choice words at a time
- *
- * It takes the text to be one that the reader accepts, and writes the bytes
- * that `sheet` writes: the trace of the first breaking run, or the map of the
- * states that runs reach. It shares no code with the product.
- */
+/* The search in plain C: the sheet has the trace of the first breaking run, or
+ * the map of the states that runs reach. */
 #include "twin.h"
-
-enum { LONGEST_SHEET = 7 + 10 * MOST_STATES };
+#include "twin_stepping.h"
 
 /* ---- the states met ---- */
 
-static uint16_t queue[MOST_STATES];     /* in the order of their meeting */
-static uint16_t parent[MOST_STATES];    /* whence, plus 1; 0 is not met */
+static uint16_t *queue;         /* in the order of their meeting */
+static uint16_t *parent;        /* whence, plus 1; 0 is not met */
 static int met;
-
-/* The state after a command. A batch of lanes is made where its first word is
- * asked for, so a command's words are to be asked for in ascending order. */
-static inline uint32_t after(int lanes, int command, uint32_t state,
-                             uint32_t word, uint16_t batch[64])
-{
-    if (!lanes)
-        return step(command, state, word);
-    if (word % 64 == 0)
-        step_lanes(command, state, word / 64, batch);
-    return batch[word % 64];
-}
 
 /* Puts a state in the queue; whether it breaks the property. */
 static int enqueue(uint32_t state, uint32_t whence)
@@ -60,12 +40,12 @@ static int search(int lanes)
 
 /* ---- the sheet ---- */
 
-static unsigned char sheet[LONGEST_SHEET];
+static uint8_t *sheet;
 
 static void put_number(int from, uint32_t number, int count)
 {
     for (int j = 0; j < count; j++)
-        sheet[from + j] = (unsigned char)(number >> 8 * j);
+        sheet[from + j] = (uint8_t)(number >> 8 * j);
 }
 
 /* The length and kind of a record; where its payload begins. */
@@ -79,9 +59,9 @@ static int put_head(int from, int size, int kind)
 static void put_counts(void)
 {
     int payload = put_head(0, 3, 1);
-    sheet[payload] = (unsigned char)shared;
-    sheet[payload + 1] = (unsigned char)row;
-    sheet[payload + 2] = (unsigned char)commands;
+    sheet[payload] = (uint8_t)shared;
+    sheet[payload + 1] = (uint8_t)row;
+    sheet[payload + 2] = (uint8_t)commands;
 }
 
 /* The map of the states met; how long the sheet is. */
@@ -89,8 +69,9 @@ static int put_map(void)
 {
     int size = states < 8 ? 1 : states / 8;
     int payload = put_head(9, size, 2);
+    memset(sheet + payload, 0, size);
     for (int s = 0; s < states; s++)
-        sheet[payload + s / 8] |= (unsigned char)((parent[s] != 0) << s % 8);
+        sheet[payload + s / 8] |= (uint8_t)((parent[s] != 0) << s % 8);
     return payload + size;
 }
 
@@ -104,8 +85,8 @@ static void put_step(int lanes, int from, uint32_t state, uint32_t target)
         uint32_t words = 1u << stars[c];
         for (uint32_t word = 0; word < words; word++)
             if (after(lanes, c, state, word, batch) == target) {
-                sheet[payload] = (unsigned char)c;
-                sheet[payload + 1] = (unsigned char)word;
+                sheet[payload] = (uint8_t)c;
+                sheet[payload + 1] = (uint8_t)word;
                 return;
             }
     }
@@ -129,14 +110,29 @@ static int put_trace(int lanes)
     return 17 + 10 * steps;
 }
 
-int main(int count, char **arguments)
+static void clear(uint16_t *table)
 {
-    int lanes = count == 2 && strcmp(arguments[1], "lanes") == 0;
-    if (count != 1 + lanes)
-        fail("usage: search_twin [lanes] < TEXT");
-    read_text(stdin);
+    memset(table, 0, states * sizeof *table);
+}
+
+uint64_t twin_search(const uint8_t *bytes, size_t size,
+                     uint16_t *first, size_t first_len,
+                     uint16_t *second, size_t second_len,
+                     uint8_t *room, size_t room_len, int lanes)
+{
+    read_text(bytes, size);
+    if (first_len < (size_t)states || second_len < (size_t)states
+        || room_len < 7 + 10 * (size_t)states)
+        return 8;
+    queue = first;
+    parent = second;
+    sheet = room;
+    met = 0;
+    clear(parent);
     put_counts();
-    int size = search(lanes) ? put_trace(lanes) : put_map();
-    fwrite(sheet, 1, size, stdout);
-    return 0;
+    int found = search(lanes);
+    int written = found ? put_trace(lanes) : put_map();
+    clear(queue);
+    clear(parent);
+    return (found ? 'u' : 's') | (uint64_t)written << 8;
 }

@@ -1,0 +1,96 @@
+"""What is measured: texts with the sheets that the search writes for them, and
+sheets that fail, to be sure that those who are measured test them."""
+
+from collections import namedtuple
+
+import models
+
+# The answer is the letter by which the test tells of the sheet.
+Input = namedtuple("Input", "title text sheet answer")
+
+G_SHEET = bytes.fromhex(
+    "030000000100010201 0200000003000100 04000000040000030700")
+H_SHEET = bytes.fromhex("030000000100010201 0100000002002a")
+
+
+def record(kind, payload):
+    return (len(payload).to_bytes(4, "little") + kind.to_bytes(2, "little")
+            + payload)
+
+
+def header(commands):
+    return record(1, bytes([len(models.SHARED), len(models.ROW), commands]))
+
+
+def map_sheet(first, others):
+    """Of 16 commands: the map's first byte, and what its others are."""
+    return (header(models.COMMANDS)
+            + record(2, bytes([first] + [others] * (models.STATES // 8 - 1))))
+
+
+def trace(commands, steps):
+    """From state 0, each step of a command and a word to the next state."""
+    return (header(commands) + record(3, bytes(2))
+            + b"".join(record(4, bytes(move) + after.to_bytes(2, "little"))
+                       for after, move in enumerate(steps, 1)))
+
+
+def wide(code):
+    """Every state with every command and choice word."""
+    text, words = models.wide("1 each 1", *code)
+    return Input(f"{models.BITS} bits, {models.COMMANDS} commands of"
+                 f" {models.STARS} stars and {words} code words", text,
+                 map_sheet(0xff, 0xff), "s")
+
+
+def count(bits):
+    steps = (1 << bits) - 1
+    return Input(f"trace of {steps:,} steps, 1 command",
+                 models.short_count(bits), trace(1, [(0, 0)] * steps), "t")
+
+
+def starry_count(bits):
+    steps = (1 << bits) - 1
+    last = models.COMMANDS - 1, (1 << models.STARS) - 1
+    return Input(f"trace of {steps:,} steps, {models.COMMANDS} commands of"
+                 f" {models.STARS} stars", models.starry_count(bits),
+                 trace(models.COMMANDS, [last] * steps), "t")
+
+
+def long_text():
+    return Input(f"text of {models.LONGEST_TEXT:,} bytes, trace of no steps",
+                 models.long_text(), trace(models.COMMANDS, []), "t")
+
+
+G = Input("G, trace of 1 step", models.G, G_SHEET, "t")
+H = Input("H, map of 3 states", models.H, H_SHEET, "s")
+DEEPEST = H._replace(title="H in parentheses", text=models.DEEPEST_H)
+WIDE = wide(models.SHORT)
+COUNT = count(models.BITS)
+STARRY = starry_count(4)
+LONG_TEXT = long_text()
+
+TO_READ = [G, LONG_TEXT]
+TO_SEARCH = [G, H, WIDE, wide(models.LONG), COUNT, starry_count(models.BITS),
+             LONG_TEXT]
+
+# Those that C, one word at a time, is through with in two seconds.
+QUICK = [G, H, DEEPEST, WIDE, COUNT, STARRY, LONG_TEXT]
+
+
+def failing(given, place, byte, answer):
+    """With another byte at a place of the sheet, counted from its end."""
+    sheet = bytearray(given.sheet)
+    sheet[-place] = byte
+    return given._replace(title=f"{given.title}, made to fail",
+                          sheet=bytes(sheet), answer=answer)
+
+
+FAILING = [failing(H, 1, 0x22, "A"), failing(H, 1, 0xff, "B"),
+           failing(H, 1, 0x0a, "C"), failing(WIDE, 1, 0x7f, "C"),
+           failing(G, 12, 0, "D"), failing(COUNT, 2, 0xfe, "E"),
+           COUNT._replace(title="trace cut short", sheet=COUNT.sheet[:-10],
+                          answer="F"),
+           # Only the last word of the last command leaves it.
+           STARRY._replace(title="map of the start state",
+                           sheet=map_sheet(1, 0), answer="C")]
