@@ -1,4 +1,2 @@
 -- Laws that the proofs of the functions cite.
-pub mod Stores
-pub mod Digits
 pub mod Spelling

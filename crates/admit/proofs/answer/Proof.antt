@@ -1,9 +1,8 @@
 -- `answer` is safe: a line is no longer than the room for it.
 -- Assumes nothing.
-use mathlib.Core.Path.{refl}
 use borrow.Author.Needs.{needs}
 use Rattle.admit.specs.Lines.{lineOf}
-use Rattle.admit.proofs.Stores.{line-counts}
+use Rattle.lines.proofs.Stores.{front-counts}
 use Rattle.admit.proofs.answer.Statement.{statement}
 use Rattle.admit.proofs.answer.Tie as tie
 
@@ -16,12 +15,12 @@ put-line-requires c κs = search needs
 array-share-prefix-line : tie.Need-array-share-prefix-line
 array-share-prefix-line c =
     let p = c .put-line in
-    line-counts (p .last .0) _ (lineOf (c .before .test .result)) (p .result) (p .ensures .0) refl (p .ensures .2) .0
+    front-counts (p .last .0) _ (lineOf (c .before .test .result)) (p .result) (p .ensures .0) (p .ensures .2) .0
 
 slice-aggregate-write-all : tie.Need-slice-aggregate-write-all
 slice-aggregate-write-all c =
     let p = c .before .put-line in
-    line-counts (p .last .0) _ (lineOf (c .before .before .test .result)) (p .result) (p .ensures .0) refl (p .ensures .2) .1
+    front-counts (p .last .0) _ (lineOf (c .before .before .test .result)) (p .result) (p .ensures .0) (p .ensures .2) .1
 
 write-all-requires : tie.Need-write-all-requires
 write-all-requires c κs = search needs

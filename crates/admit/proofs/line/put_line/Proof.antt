@@ -3,11 +3,12 @@
 use mathlib.Core.Path.{refl}
 use native.Mathlib.Omega.{arith}
 use borrow.Author.Needs.{needs}
-use Rattle.notation.specs.Bytes.{bytes}
-use Rattle.acceptance.specs.declared.outcome.Outcome.the-variants.{SafeHolds, TraceHolds, FailsA, FailsB, FailsC, FailsD, FailsE, FailsF}
+use Rattle.lines.specs.Lines.{others, line}
 use Rattle.acceptance.specs.Outcomes.{wordingOf}
+use Rattle.acceptance.specs.declared.outcome.Outcome.the-variants.{SafeHolds, TraceHolds, FailsA, FailsB, FailsC, FailsD, FailsE, FailsF}
+use Rattle.notation.specs.Bytes.{bytes}
 use Rattle.admit.specs.Lines.{spelt}
-use Rattle.admit.proofs.Spelling.{whole-written, told-refusal}
+use Rattle.admit.proofs.Spelling.{told, told-refusal, refusal-fits}
 use Rattle.admit.proofs.line.put_line.Statement.{statement}
 use Rattle.admit.proofs.line.put_line.Tie as tie
 
@@ -90,69 +91,42 @@ cast-put-refusal : tie.Need-cast-put-refusal
 cast-put-refusal c = search needs
 
 put-refusal-requires : tie.Need-put-refusal-requires
-put-refusal-requires c κs = search needs
+put-refusal-requires c κs = refusal-fits (c .before .before .before .before .args .line .now) _ _ (omega arith)
 
 returns : tie.Need-returns
-unfolding spelt bytes wordingOf
-returns c =
-    let p = c .put in
-    let w = whole-written (c .before .before .before .before .before .args .line .now) (p .last .0) _ (p .result) (c .before .before .before .before .before .args .outcome) SafeHolds (p .ensures .0) (p .ensures .1) (c .before .before .before .enum-told .given .1) refl in
-    (w .0, w .1, omega (arith, p .ensures .1))
+unfolding spelt line others bytes wordingOf
+returns c = told (c .before .before .before .before .before .args .line .now) (c .put .last .0) _ (c .put .result) (c .before .before .before .before .before .args .outcome) SafeHolds (c .put .ensures) (c .before .before .before .enum-told .given .1) refl (omega arith)
 
 returns-2 : tie.Need-returns-2
-unfolding spelt bytes wordingOf
-returns-2 c =
-    let p = c .put2 in
-    let w = whole-written (c .before .before .before .before .before .args .line .now) (p .last .0) _ (p .result) (c .before .before .before .before .before .args .outcome) TraceHolds (p .ensures .0) (p .ensures .1) (c .before .before .before .enum-told2 .given .1) refl in
-    (w .0, w .1, omega (arith, p .ensures .1))
+unfolding spelt line others bytes wordingOf
+returns-2 c = told (c .before .before .before .before .before .args .line .now) (c .put2 .last .0) _ (c .put2 .result) (c .before .before .before .before .before .args .outcome) TraceHolds (c .put2 .ensures) (c .before .before .before .enum-told2 .given .1) refl (omega arith)
 
 returns-3 : tie.Need-returns-3
-unfolding spelt bytes wordingOf
-returns-3 c =
-    let p = c .put3 in
-    let w = whole-written (c .before .before .before .before .before .args .line .now) (p .last .0) _ (p .result) (c .before .before .before .before .before .args .outcome) FailsA (p .ensures .0) (p .ensures .1) (c .before .before .before .enum-told3 .given .1) refl in
-    (w .0, w .1, omega (arith, p .ensures .1))
+unfolding spelt line others bytes wordingOf
+returns-3 c = told (c .before .before .before .before .before .args .line .now) (c .put3 .last .0) _ (c .put3 .result) (c .before .before .before .before .before .args .outcome) FailsA (c .put3 .ensures) (c .before .before .before .enum-told3 .given .1) refl (omega arith)
 
 returns-4 : tie.Need-returns-4
-unfolding spelt bytes wordingOf
-returns-4 c =
-    let p = c .put4 in
-    let w = whole-written (c .before .before .before .before .before .args .line .now) (p .last .0) _ (p .result) (c .before .before .before .before .before .args .outcome) FailsB (p .ensures .0) (p .ensures .1) (c .before .before .before .enum-told4 .given .1) refl in
-    (w .0, w .1, omega (arith, p .ensures .1))
+unfolding spelt line others bytes wordingOf
+returns-4 c = told (c .before .before .before .before .before .args .line .now) (c .put4 .last .0) _ (c .put4 .result) (c .before .before .before .before .before .args .outcome) FailsB (c .put4 .ensures) (c .before .before .before .enum-told4 .given .1) refl (omega arith)
 
 returns-5 : tie.Need-returns-5
-unfolding spelt bytes wordingOf
-returns-5 c =
-    let p = c .put5 in
-    let w = whole-written (c .before .before .before .before .before .args .line .now) (p .last .0) _ (p .result) (c .before .before .before .before .before .args .outcome) FailsC (p .ensures .0) (p .ensures .1) (c .before .before .before .enum-told5 .given .1) refl in
-    (w .0, w .1, omega (arith, p .ensures .1))
+unfolding spelt line others bytes wordingOf
+returns-5 c = told (c .before .before .before .before .before .args .line .now) (c .put5 .last .0) _ (c .put5 .result) (c .before .before .before .before .before .args .outcome) FailsC (c .put5 .ensures) (c .before .before .before .enum-told5 .given .1) refl (omega arith)
 
 returns-6 : tie.Need-returns-6
-unfolding spelt bytes wordingOf
-returns-6 c =
-    let p = c .put6 in
-    let w = whole-written (c .before .before .before .before .before .args .line .now) (p .last .0) _ (p .result) (c .before .before .before .before .before .args .outcome) FailsD (p .ensures .0) (p .ensures .1) (c .before .before .before .enum-told6 .given .1) refl in
-    (w .0, w .1, omega (arith, p .ensures .1))
+unfolding spelt line others bytes wordingOf
+returns-6 c = told (c .before .before .before .before .before .args .line .now) (c .put6 .last .0) _ (c .put6 .result) (c .before .before .before .before .before .args .outcome) FailsD (c .put6 .ensures) (c .before .before .before .enum-told6 .given .1) refl (omega arith)
 
 returns-7 : tie.Need-returns-7
-unfolding spelt bytes wordingOf
-returns-7 c =
-    let p = c .put7 in
-    let w = whole-written (c .before .before .before .before .before .args .line .now) (p .last .0) _ (p .result) (c .before .before .before .before .before .args .outcome) FailsE (p .ensures .0) (p .ensures .1) (c .before .before .before .enum-told7 .given .1) refl in
-    (w .0, w .1, omega (arith, p .ensures .1))
+unfolding spelt line others bytes wordingOf
+returns-7 c = told (c .before .before .before .before .before .args .line .now) (c .put7 .last .0) _ (c .put7 .result) (c .before .before .before .before .before .args .outcome) FailsE (c .put7 .ensures) (c .before .before .before .enum-told7 .given .1) refl (omega arith)
 
 returns-8 : tie.Need-returns-8
-unfolding spelt bytes wordingOf
-returns-8 c =
-    let p = c .put8 in
-    let w = whole-written (c .before .before .before .before .before .args .line .now) (p .last .0) _ (p .result) (c .before .before .before .before .before .args .outcome) FailsF (p .ensures .0) (p .ensures .1) (c .before .before .before .enum-told8 .given .1) refl in
-    (w .0, w .1, omega (arith, p .ensures .1))
+unfolding spelt line others bytes wordingOf
+returns-8 c = told (c .before .before .before .before .before .args .line .now) (c .put8 .last .0) _ (c .put8 .result) (c .before .before .before .before .before .args .outcome) FailsF (c .put8 .ensures) (c .before .before .before .enum-told8 .given .1) refl (omega arith)
 
 returns-9 : tie.Need-returns-9
-returns-9 c =
-    let p = c .put-refusal in
-    let w = told-refusal (c .before .before .before .before .before .args .line .now) (p .last .0) (p .result) (c .before .before .before .before .before .args .outcome) _ _ (p .ensures .0) (p .ensures .1) (c .before .before .before .outcome .given .1) in
-    (w .0, w .1, p .ensures .2)
+returns-9 c = told-refusal (c .before .before .before .before .before .args .line .now) (c .put-refusal .last .0) (c .put-refusal .result) (c .before .before .before .before .before .args .outcome) _ _ (c .put-refusal .ensures) (c .before .before .before .outcome .given .1)
 
 pub put-line-spec : {M : Type 1} → statement M
 put-line-spec =
