@@ -24,6 +24,9 @@ pub fn put_line(line: &mut Line, outcome: Outcome) -> usize
         Outcome::FailsD => put(line, 0, b"D\n"),
         Outcome::FailsE => put(line, 0, b"E\n"),
         Outcome::FailsF => put(line, 0, b"F\n"),
-        Outcome::Refused(number, place) => put_refusal(line, 0, number as usize, place),
+        Outcome::Refused(number, place) => {
+            let n = number as usize;
+            put_refusal(line, 0, n, place)
+        }
     }
 }

@@ -87,8 +87,8 @@ put-requires-8 c κs = search needs
 enum-known-outcome : tie.Need-enum-known-outcome
 enum-known-outcome c = search needs
 
-cast-put-refusal : tie.Need-cast-put-refusal
-cast-put-refusal c = search needs
+cast-n : tie.Need-cast-n
+cast-n c = search needs
 
 put-refusal-requires : tie.Need-put-refusal-requires
 put-refusal-requires c κs = refusal-fits (c .before .before .before .before .args .line .now) _ _ (omega arith)
@@ -157,7 +157,7 @@ put-line-spec =
     slice-aggregate-put-8
     put-requires-8
     enum-known-outcome
-    cast-put-refusal
+    cast-n
     put-refusal-requires
     returns
     returns-2
