@@ -10,7 +10,7 @@ use Rattle.acceptance.specs.declared.outcome.Outcome.{Outcome}
 use Rattle.acceptance.specs.declared.outcome.Outcome.the-variants.{Refused}
 use Rattle.acceptance.specs.Outcomes.{wordingOf}
 use Rattle.lines.specs.Lines.{refusalLine}
-use Rattle.lines.specs.Puts.{Fits, Puts}
+use Rattle.lines.specs.Puts.{Puts}
 use Rattle.lines.proofs.Parts.{refusal-short}
 use Rattle.admit.specs.Lines.{spelt, lineOf}
 
@@ -26,9 +26,6 @@ told l x v r o t P e f h =
     let w : v ≡ lineOf o = f ∙ ap lineOf (sym e) in
     let z : r ≡ length v = omega (arith, P .ends) in
     (P .stored ∙ ap (sets l 0) w, z ∙ ap length w, omega arith)
-
-pub refusal-fits : (l : List ℕ) (n p : ℕ) → 64 ≤ length l → Fits l 0 (refusalLine n p)
-refusal-fits l n p h = record { room = omega (arith, refusal-short n p) }
 
 refused-line : (n p : ℕ) → refusalLine n p ≡ lineOf (Refused n p)
 unfolding spelt wordingOf

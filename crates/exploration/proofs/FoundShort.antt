@@ -30,7 +30,7 @@ module _ (M : System) where
   unfolding sheetBytes headerBytes mapBytes recordBytes little
   map-sheet-length map = omega arith
 
-  trace-sheet-length : (s : ℕ) (xs : List TraceStep) → length (sheetBytes M (trace s xs)) ≡ 17 + 10 * length xs
+  pub trace-sheet-length : (s : ℕ) (xs : List TraceStep) → length (sheetBytes M (trace s xs)) ≡ 17 + 10 * length xs
   unfolding sheetBytes headerBytes startBytes recordBytes little
   trace-sheet-length s xs = omega (arith, steps-length xs)
 

@@ -68,3 +68,6 @@ unfolding bytes
 refusal-short n p =
     omega
     (arith, line-length (bytes "refused") (decimalOf n ∷ decimalOf p ∷ []), others-length (decimalOf n) (decimalOf p ∷ []), others-length (decimalOf p) [], end-length, digits-within 19 n, digits-within 19 p)
+
+pub refusal-fits : (l : List ℕ) (n p : ℕ) → 50 ≤ length l → Fits l 0 (refusalLine n p)
+refusal-fits l n p h = record { room = omega (arith, refusal-short n p) }

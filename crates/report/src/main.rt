@@ -2,19 +2,19 @@
 // Where the input can't be read it writes nothing there, and a line to standard error.
 use libc::STDERR_FILENO;
 use libc::STDIN_FILENO;
-use reporting::put_report;
-use streams::output::flush;
+use libc::STDOUT_FILENO;
+use reporting::write_report;
 use streams::whole::Got;
 use streams::whole::read_file;
 
-// The report of a text.
+// Writes the report of a text to standard output.
 fn report(text: &[u8]) {
     let mut first = [0u16; 4096];
     let mut second = [0u16; 4096];
     let mut sheet = [0u8; 40967];
-    let mut out = [0u8; 65536];
-    let filled = put_report(&mut out, 0, text, &mut first, &mut second, &mut sheet);
-    flush(&out, filled);
+    let mut out = [0u8; 147457];
+    let n = write_report(text, &mut first, &mut second, &mut sheet, &mut out);
+    io::write_all(STDOUT_FILENO, &out[..n]);
 }
 
 // Reads the text into its room, and reports.

@@ -1,11 +1,12 @@
 // Reads texts from standard input, and writes the report of each.
 // A text comes as its length in digits, a newline, its bytes and a newline. At anything else the input ends.
-use reporting::put_report;
+use reporting::write_report;
 use streams::bounds::fitting;
 use streams::input::Head;
 use streams::input::Rest;
 use streams::input::whole_text;
 use streams::output::flush;
+use streams::output::put_bytes;
 
 // What is read or written at once.
 type Block = [u8; 65536];
@@ -30,8 +31,10 @@ fn put_answer(out: &mut Block, filled: usize, text: &[u8], n: usize) -> usize {
     let mut first = [0u16; 4096];
     let mut second = [0u16; 4096];
     let mut sheet = [0u8; 40967];
+    let mut report = [0u8; 147457];
     let k = fitting(n, text);
-    put_report(out, filled, &text[..k], &mut first, &mut second, &mut sheet)
+    let m = write_report(&text[..k], &mut first, &mut second, &mut sheet, &mut report);
+    put_bytes(out, filled, &report[..m])
 }
 
 // The next text and its report.

@@ -1,16 +1,24 @@
 // The report of a text: its counts, the verdict and the first breaking run, or its refusal.
-// It goes to standard output through a block, as the lines of `streams::output` do.
 mod names;
 mod run;
 
+ghost use mathlib.Core.Path.{_≡_};
+ghost use lib.ListN.{length};
+ghost use lib.Seq.{sets};
+ghost use Rattle.io.specs.Counts.{Counts};
+ghost use Rattle.lines.specs.Puts.{Fits, Puts};
+ghost use Rattle.reader.specs.Read.{readingOf};
+ghost use Rattle.search.specs.working.Searching.{searchOf};
+ghost use Rattle.reporting.specs.Reports.{countsLine};
+ghost use Rattle.reporting.specs.working.Writing.{safeReport, traceReport, Printable, LeavesTo};
+ghost use Rattle.reporting.specs.working.Reporting.{reportOf};
+use lines::put;
+use lines::put_number;
+use lines::put_refusal;
 use reader::read;
 use run::put_run;
 use search::finding::Finding;
 use search::search;
-use streams::output::put;
-use streams::output::put_bytes;
-use streams::output::put_number;
-use streams::output::put_refusal;
 
 // Every text's search can do with a table of this size: 12 names have 4,096 states.
 pub type Table = [u16; 4096];
@@ -18,57 +26,67 @@ pub type Table = [u16; 4096];
 // Room for the longest trace, 4,095 steps behind the 17 bytes of header and start state.
 pub type Sheet = [u8; 40967];
 
-// `refused NUMBER PLACE`.
-fn put_refused(out: &mut [u8; 65536], filled: usize, number: u8, place: usize) -> usize {
-    let said = put_refusal(out, filled, number, place);
-    put(out, said, b'\n')
-}
+// Room for the longest report: lines of 14, 12 and 11 bytes for counts, verdict and start state, and then
+// at most 4,095 steps of 36 bytes each. A step has a number and a state of 4 digits, a name of 16 bytes and a word of 3 digits.
+pub type Report = [u8; 147457];
 
 // `model`, and how many shared names, row names and commands there are.
-fn put_counts(
-    out: &mut [u8; 65536],
-    filled: usize,
-    shared: usize,
-    row: usize,
-    commands: usize,
-) -> usize {
-    let title = put_bytes(out, filled, b"model");
+fn put_counts(out: &mut [u8], at: usize, shared: usize, row: usize, commands: usize) -> usize
+    requires { ⌜ Fits (now out) at (countsLine shared row commands) ⌝ }
+    ensures { λ r. ⌜ Puts (now (out .entry)) at (countsLine shared row commands) (now (out .exit)) r ⌝ }
+{
+    let title = put(out, at, b"model");
     let first = put_number(out, title, shared);
     let second = put_number(out, first, row);
     let third = put_number(out, second, commands);
-    put(out, third, b'\n')
+    put(out, third, b"\n")
 }
 
-fn put_safe(out: &mut [u8; 65536], filled: usize, text: &[u8]) -> usize {
+// The report of a safe model.
+fn put_safe(out: &mut [u8], text: &[u8]) -> usize
+    requires { ⌜ Fits (now out) 0 (safeReport (readingOf (now text) .code)) ⌝ }
+    ensures { λ r. ⌜ Puts (now (out .entry)) 0 (safeReport (readingOf (now (text .entry)) .code)) (now (out .exit)) r ⌝ }
+{
     let code = read(text).code;
-    let counted = put_counts(out, filled, code.shared, code.row, code.commands);
-    put_bytes(out, counted, b"safe\n")
+    let counted = put_counts(out, 0, code.shared, code.row, code.commands);
+    put(out, counted, b"safe\n")
 }
 
-// The sheet has n bytes.
-fn put_unsafe(out: &mut [u8; 65536], filled: usize, text: &[u8], sheet: &Sheet, n: usize) -> usize {
+// The report of an unsafe model, whose trace is the sheet.
+fn put_unsafe(out: &mut [u8], text: &[u8], sheet: &[u8]) -> usize
+    requires { ⌜ Printable (now text) (readingOf (now text) .code) (now sheet) × Fits (now out) 0 (traceReport (now text) (readingOf (now text) .code) (now sheet)) ⌝ }
+    ensures { λ r. ⌜ Puts (now (out .entry)) 0 (traceReport (now (text .entry)) (readingOf (now (text .entry)) .code) (now (sheet .entry))) (now (out .exit)) r ⌝ }
+{
     let code = read(text).code;
     let shared = code.shared;
     let row = code.row;
-    let counted = put_counts(out, filled, shared, row, code.commands);
     let names = code.names;
-    put_run(out, counted, text, &names, shared, row, sheet, n)
+    let counted = put_counts(out, 0, shared, row, code.commands);
+    put_run(out, counted, text, &names, shared + row, sheet)
 }
 
-// Puts the report of a text behind the filled bytes of the block; how many are filled then.
-// Two tables and a sheet are lent for the search.
-pub fn put_report(
-    out: &mut [u8; 65536],
-    filled: usize,
+// Writes the report of a text at the front of `out`; how long it is.
+// Two tables and a sheet are lent to the search, and hold afterwards what it left there.
+pub fn write_report(
     text: &[u8],
     first: &mut Table,
     second: &mut Table,
     sheet: &mut Sheet,
-) -> usize {
+    out: &mut Report,
+) -> usize
+    ensures { λ r. ⌜ (now (out .exit) ≡ sets (now (out .entry)) 0 (reportOf (now (text .entry)))) × (r ≡ length (reportOf (now (text .entry)))) × LeavesTo (searchOf (now (text .entry)) (now (first .entry)) (now (second .entry)) (now (sheet .entry))) (now (first .exit)) (now (second .exit)) (now (sheet .exit)) ⌝ }
+    ensures { λ r. ⌜ Counts r (now (out .exit)) ⌝ }
+{
     let found = search(text, first, second, sheet);
     match found {
-        Finding::Refused(number, place) => put_refused(out, filled, number, place),
-        Finding::Safe(_) => put_safe(out, filled, text),
-        Finding::Unsafe(n) => put_unsafe(out, filled, text, sheet, n),
+        Finding::Refused(number, place) => {
+            let n = number as usize;
+            put_refusal(out, 0, n, place)
+        }
+        Finding::Safe(_) => put_safe(out, text),
+        Finding::Unsafe(n) => {
+            let bytes: &[u8] = sheet;
+            put_unsafe(out, text, &bytes[..n])
+        }
     }
 }

@@ -1,88 +1,97 @@
-// The run that a trace says: its start state, and a line for each step.
-use crate::names::Names;
-use crate::names::put_command;
-use streams::bounds::at_most;
-use streams::output::put;
-use streams::output::put_bytes;
-use streams::output::put_number;
+// The run that a trace says: the verdict, the start state, and a line for each step.
 ghost use Prim.Native.Nat.{_+_, _<_, _≤_};
-
-fn wide(x: u8) -> usize
-    ensures { λ r. ⌜ r < 256 ⌝ }
-{
-    x as usize
-}
-
-// The number that the two bytes at a place say, the low one first.
-fn two_at(sheet: &[u8; 40967], at: usize) -> usize
-    requires { ⌜ at + 2 ≤ 40967 ⌝ }
-{
-    wide(sheet[at]) + 256 * wide(sheet[at + 1])
-}
-
-// How many steps a trace of n bytes has.
-fn steps_in(n: usize) -> usize
-    ensures { λ r. ⌜ r ≤ 4095 ⌝ }
-{
-    if n < 17 {
-        return 0;
-    }
-    at_most((n - 17) / 10, 4095)
-}
-
-// `step`, its number from 1, the command's name, the choice word and the state after.
-fn put_step(
-    out: &mut [u8; 65536],
-    filled: usize,
-    text: &[u8],
-    names: &Names,
-    shared: usize,
-    row: usize,
-    sheet: &[u8; 40967],
-    i: usize,
-) -> usize
-    requires { ⌜ i < 4095 ⌝ }
-{
-    let at = 23 + 10 * i;
-    let title = put_bytes(out, filled, b"step");
-    let numbered = put_number(out, title, i + 1);
-    let named = put_command(out, numbered, text, names, shared, row, wide(sheet[at]));
-    let chosen = put_number(out, named, wide(sheet[at + 1]));
-    let reached = put_number(out, chosen, two_at(sheet, at + 2));
-    put(out, reached, b'\n')
-}
+ghost use lib.ListN.{length};
+ghost use Rattle.acceptance.specs.SheetTexts.{stepIn};
+ghost use Rattle.lines.specs.Puts.{Fits, Puts};
+ghost use Rattle.reporting.specs.Reports.{unsafeLine, startLine, stepLine};
+ghost use Rattle.reporting.specs.working.Writing.{nameIn, Named, recordLine, runLines, Shown};
+use crate::names::Names;
+use crate::names::put_name;
+use acceptance::sheets::two_at;
+use acceptance::sheets::wide;
+use lines::put;
+use lines::put_number;
 
 // `unsafe` and the number of steps.
-fn put_verdict(out: &mut [u8; 65536], filled: usize, steps: usize) -> usize {
-    let title = put_bytes(out, filled, b"unsafe");
+fn put_verdict(out: &mut [u8], at: usize, steps: usize) -> usize
+    requires { ⌜ Fits (now out) at (unsafeLine steps) ⌝ }
+    ensures { λ r. ⌜ Puts (now (out .entry)) at (unsafeLine steps) (now (out .exit)) r ⌝ }
+{
+    let title = put(out, at, b"unsafe");
     let counted = put_number(out, title, steps);
-    put(out, counted, b'\n')
+    put(out, counted, b"\n")
 }
 
 // `start` and the start state.
-fn put_start(out: &mut [u8; 65536], filled: usize, sheet: &[u8; 40967]) -> usize {
-    let title = put_bytes(out, filled, b"start");
-    let named = put_number(out, title, two_at(sheet, 15));
-    put(out, named, b'\n')
+fn put_start(out: &mut [u8], at: usize, s: usize) -> usize
+    requires { ⌜ Fits (now out) at (startLine s) ⌝ }
+    ensures { λ r. ⌜ Puts (now (out .entry)) at (startLine s) (now (out .exit)) r ⌝ }
+{
+    let title = put(out, at, b"start");
+    let named = put_number(out, title, s);
+    put(out, named, b"\n")
 }
 
-// The verdict and the run of a trace of n bytes.
-pub fn put_run(
-    out: &mut [u8; 65536],
-    filled: usize,
+// `step`, its number, the command's name, which is name i, the choice word and the state after.
+fn put_step(
+    out: &mut [u8],
+    at: usize,
     text: &[u8],
     names: &Names,
-    shared: usize,
-    row: usize,
-    sheet: &[u8; 40967],
-    n: usize,
-) -> usize {
-    let steps = steps_in(n);
-    let judged = put_verdict(out, filled, steps);
-    let mut end = put_start(out, judged, sheet);
+    number: usize,
+    i: usize,
+    chosen: usize,
+    after: usize,
+) -> usize
+    requires { ⌜ Named (now text) (now names) i × Fits (now out) at (stepLine number (nameIn (now text) (now names) i) chosen after) ⌝ }
+    ensures { λ r. ⌜ Puts (now (out .entry)) at (stepLine number (nameIn (now (text .entry)) (now (names .entry)) i) chosen after) (now (out .exit)) r ⌝ }
+{
+    let title = put(out, at, b"step");
+    let numbered = put_number(out, title, number);
+    let named = put_name(out, numbered, text, names, i);
+    let moved = put_number(out, named, chosen);
+    let reached = put_number(out, moved, after);
+    put(out, reached, b"\n")
+}
+
+// The line of the step whose payload stands at p in the sheet. The commands' names begin with name `base`.
+fn put_record(
+    out: &mut [u8],
+    at: usize,
+    text: &[u8],
+    names: &Names,
+    base: usize,
+    sheet: &[u8],
+    p: usize,
+    number: usize,
+) -> usize
+    requires { ⌜ (base ≤ 28) × (p + 4 ≤ length (now sheet)) × Named (now text) (now names) (base + stepIn (now sheet) p .command) × Fits (now out) at (recordLine (now text) (now names) base number (stepIn (now sheet) p)) ⌝ }
+    ensures { λ r. ⌜ Puts (now (out .entry)) at (recordLine (now (text .entry)) (now (names .entry)) base number (stepIn (now (sheet .entry)) p)) (now (out .exit)) r ⌝ }
+{
+    let command = wide(sheet[p]);
+    let chosen = wide(sheet[p + 1]);
+    let after = two_at(sheet, p + 2);
+    put_step(out, at, text, names, number, base + command, chosen, after)
+}
+
+// The verdict and the run of the trace that the sheet is.
+pub fn put_run(
+    out: &mut [u8],
+    at: usize,
+    text: &[u8],
+    names: &Names,
+    base: usize,
+    sheet: &[u8],
+) -> usize
+    requires { ⌜ Shown (now text) (now names) base (now sheet) × Fits (now out) at (runLines (now text) (now names) base (now sheet)) ⌝ }
+    ensures { λ r. ⌜ Puts (now (out .entry)) at (runLines (now (text .entry)) (now (names .entry)) base (now (sheet .entry))) (now (out .exit)) r ⌝ }
+{
+    let steps = (sheet.len() - 17) / 10;
+    let judged = put_verdict(out, at, steps);
+    let mut end = put_start(out, judged, two_at(sheet, 15));
     let mut i: usize = 0;
     'steps: while i < steps {
-        end = put_step(out, end, text, names, shared, row, sheet, i);
+        end = put_record(out, end, text, names, base, sheet, 23 + 10 * i, i + 1);
         i += 1;
     }
     end

@@ -39,7 +39,7 @@ record-bytes kind payload h =
     h
 
 module _ (m : Model) (g : Regular m) where
-  word-lt : (k w : ℕ) → k < length (m .commands) → w < wordCount (commandAt m k) → w < 256
+  pub word-lt : (k w : ℕ) → k < length (m .commands) → w < wordCount (commandAt m k) → w < 256
   word-lt k w h l =
       let f : length (stars (commandAt m k)) ≤ 8 = every-at _ (m .commands) idle k (g .fewStars) h in
       let p : 2 ^ length (stars (commandAt m k)) ≤ 2 ^ 8 = pow-mono {i = length (stars (commandAt m k))} {j = 8} f in

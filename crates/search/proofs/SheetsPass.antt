@@ -55,7 +55,7 @@ module _ (m : Model) (g : Regular m) (map : List ℕ) (E : ExactMap m map) where
       }
 
 -- What was written to the front of a buffer with room stands there.
-front : (l b : List ℕ) → length b ≤ length l → take (length b) (sets l 0 b) ≡ b
+pub front : (l b : List ℕ) → length b ≤ length l → take (length b) (sets l 0 b) ≡ b
 front l b h =
     let k : 0 + length b ≤ length l = omega arith in
     ap (take (length b)) (sets-eq b l 0 k) ∙ take-append-seam b (drop (0 + length b) l)

@@ -1,9 +1,8 @@
 -- `put` meets its contract: what is left of the bytes, stored behind those that are there, gives the whole.
 -- Assumes nothing.
 use Prim.Native.Nat.{_+_, _-_, _≤_, _<_}
-use mathlib.Core.Path.{_≡_, refl, sym, ap, _∙_}
+use mathlib.Core.Path.{_≡_, refl, sym, _∙_}
 use native.Mathlib.Omega.{arith}
-use borrow.Author.Needs.{needs}
 use lib.Seq.{sets}
 use lib.ListN.{length, getD, drop, length-set}
 use Rattle.lines.proofs.Stores.{sets-begun, sets-next, sets-done}
@@ -35,7 +34,8 @@ bytes-less : tie.Need-bytes-less Inv-bytes μ-bytes
 bytes-less c = omega arith
 
 bytes-again : tie.Need-bytes-again Inv-bytes μ-bytes
-bytes-again c = let a = c .before .before .before .args in
+bytes-again c =
+    let a = c .before .before .before .args in
     let l = c .before .before .bytes in
     let h : l .i < length (a .bytes .now) = omega arith in
     let k = length-set (l .out) (a .at + l .i) (getD (a .bytes .now) (l .i) 0) in
@@ -48,7 +48,8 @@ same-length : tie.Need-same-length Inv-bytes μ-bytes
 same-length c = c .before .bytes .inv .2
 
 returns : tie.Need-returns Inv-bytes μ-bytes
-returns c = let a = c .before .before .args in
+returns c =
+    let a = c .before .before .args in
     let l = c .before .bytes in
     let h : length (a .bytes .now) ≤ l .i = omega arith in
     record { stored = sym (sets-done (l .out) (a .bytes .now) (a .at) (l .i) h) ∙ l .inv .3; ends = omega arith }

@@ -19,7 +19,8 @@ slice-aggregate-put-word : tie.Need-slice-aggregate-put-word
 slice-aggregate-put-word c = search needs
 
 put-word-requires : tie.Need-put-word-requires
-put-word-requires c κs = let a = c .before .before .before .before .before .args in
+put-word-requires c κs =
+    let a = c .before .before .before .before .before .args in
     let d = c .before .before .decimal in
     let e = taken-decimal (a .n) (d .result) (d .last .1 .0) (omega arith) (d .ensures .1 .0) (d .ensures .1 .1) in
     subst (λ v. Fits (a .out .now) (a .at) (word v)) (sym e) (c .before .before .before .before .before .pre)
@@ -28,7 +29,8 @@ same-length : tie.Need-same-length
 same-length c = search needs
 
 returns : tie.Need-returns
-returns c = let a = c .before .before .before .before .before .before .before .before .args in
+returns c =
+    let a = c .before .before .before .before .before .before .before .before .args in
     let d = c .before .before .before .before .before .decimal in
     let p = c .before .before .put-word in
     let e = taken-decimal (a .n) (d .result) (d .last .1 .0) (omega arith) (d .ensures .1 .0) (d .ensures .1 .1) in

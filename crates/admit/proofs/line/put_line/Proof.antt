@@ -4,11 +4,12 @@ use mathlib.Core.Path.{refl}
 use native.Mathlib.Omega.{arith}
 use borrow.Author.Needs.{needs}
 use Rattle.lines.specs.Lines.{others, line}
+use Rattle.lines.proofs.Parts.{refusal-fits}
 use Rattle.acceptance.specs.Outcomes.{wordingOf}
 use Rattle.acceptance.specs.declared.outcome.Outcome.the-variants.{SafeHolds, TraceHolds, FailsA, FailsB, FailsC, FailsD, FailsE, FailsF}
 use Rattle.notation.specs.Bytes.{bytes}
 use Rattle.admit.specs.Lines.{spelt}
-use Rattle.admit.proofs.Spelling.{told, told-refusal, refusal-fits}
+use Rattle.admit.proofs.Spelling.{told, told-refusal}
 use Rattle.admit.proofs.line.put_line.Statement.{statement}
 use Rattle.admit.proofs.line.put_line.Tie as tie
 

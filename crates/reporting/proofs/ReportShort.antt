@@ -1,0 +1,131 @@
+-- No report is longer than the room for it.
+-- Assumes nothing.
+use mathlib.Core.Path.{_≡_, refl, sym, ap, _∙_, subst}
+use mathlib.Core.List.{List, [], _∷_, _++_}
+use Prim.Native.Nat.{ℕ, _+_, _*_, _≤_, _<_}
+use native.Mathlib.Omega.{arith}
+use lib.ListN.{length, length-append}
+use lib.Seq.{sets}
+use Rattle.notation.specs.Bytes.{bytes}
+use Rattle.notation.specs.Tokens.{Word}
+use Rattle.notation.specs.Notation.{Tree}
+use Rattle.notation.specs.Regular.{Every}
+use Rattle.notation.specs.Texts.{TextSaysTree, modelOf}
+use Rattle.notation.specs.working.Machine as N
+use Rattle.notation.specs.working.Answer.{answer}
+use Rattle.notation.proofs.Texts.{says-iff-answer}
+use Rattle.meaning.specs.OneRow.{TraceStep}
+use Rattle.meaning.specs.Evidence.{Sheet, safe, trace, StepFits}
+use Rattle.meaning.proofs.Lists.{weaken}
+use Rattle.acceptance.specs.Sheets.{systemOf}
+use Rattle.exploration.proofs.FoundShort.{trace-sheet-length}
+use Rattle.search.proofs.SheetBytes.{word-lt}
+use Rattle.io.specs.Counts.{Counts}
+use Rattle.lines.specs.Lines.{decimalOf, line}
+use Rattle.lines.specs.Puts.{Fits, Puts}
+use Rattle.lines.proofs.Stores.{front-counts}
+use Rattle.lines.proofs.Digits.{digits-below}
+use Rattle.lines.proofs.Parts.{line-length, others-length, end-length, refusal-short}
+use Rattle.reporting.specs.Reports.{countsLine, safeLine, unsafeLine, startLine, stepLine, stepLines, commandName, sheetLines, reportLines, longestReport}
+use Rattle.reporting.specs.Promises.{ReportsFit}
+use Rattle.reporting.specs.working.Reporting.{foundFor, reportOf}
+use Rattle.reporting.proofs.NameArrays.{told}
+use Rattle.reporting.proofs.ReportTells.{found-lines, refused-lines}
+use Rattle.reporting.proofs.TextReports.{regular, few, passes, sheet-short}
+
+-- How long lines of one, two, four and five words are.
+module _ (a : List ℕ) where
+  one-word : length (line (a ∷ [])) ≡ length a + 1
+  one-word = omega (arith, line-length a [], end-length)
+
+  module _ (b : List ℕ) where
+    two-words : length (line (a ∷ b ∷ [])) ≡ length a + length b + 2
+    two-words = omega (arith, line-length a (b ∷ []), others-length b [], end-length)
+
+    module _ (c d : List ℕ) where
+      four-words : length (line (a ∷ b ∷ c ∷ d ∷ [])) ≡ length a + length b + length c + length d + 4
+      four-words = omega (arith, line-length a (b ∷ c ∷ d ∷ []), others-length b (c ∷ d ∷ []), others-length c (d ∷ []), others-length d [], end-length)
+
+      five-words : (e : List ℕ) → length (line (a ∷ b ∷ c ∷ d ∷ e ∷ [])) ≡ length a + length b + length c + length d + length e + 5
+      five-words e =
+          omega
+          (arith, line-length a (b ∷ c ∷ d ∷ e ∷ []), others-length b (c ∷ d ∷ e ∷ []), others-length c (d ∷ e ∷ []), others-length d (e ∷ []), others-length e [], end-length)
+
+-- Lines with numbers of so many digits.
+counts-short : (a b c : ℕ) → a < 10 → b < 100 → c < 100 → length (countsLine a b c) ≤ 14
+unfolding bytes
+counts-short a b c h k l =
+    omega (arith, four-words (bytes "model") (decimalOf a) (decimalOf b) (decimalOf c), digits-below 0 19 a h, digits-below 1 19 b k, digits-below 1 19 c l)
+
+safe-short : length safeLine ≤ 5
+unfolding bytes
+safe-short = omega (arith, one-word (bytes "safe"))
+
+unsafe-short : (n : ℕ) → n < 10000 → length (unsafeLine n) ≤ 12
+unfolding bytes
+unsafe-short n h = omega (arith, two-words (bytes "unsafe") (decimalOf n), digits-below 3 19 n h)
+
+start-short : (s : ℕ) → s < 10000 → length (startLine s) ≤ 11
+unfolding bytes
+start-short s h = omega (arith, two-words (bytes "start") (decimalOf s), digits-below 3 19 s h)
+
+step-short : (i : ℕ) (w : Word) (c t : ℕ) → i < 10000 → length w ≤ 16 → c < 1000 → t < 10000 → length (stepLine i w c t) ≤ 36
+unfolding bytes
+step-short i w c t h k l g =
+    omega
+    (arith, five-words (bytes "step") (decimalOf i) w (decimalOf c) (decimalOf t), digits-below 3 19 i h, digits-below 2 19 c l, digits-below 3 19 t g)
+
+-- A step with a short name and small numbers.
+record Short (called : ℕ → Word) (x : TraceStep) : Type 0 where
+  name : length (called (x .command)) ≤ 16
+  word : x .word < 1000
+  after : x .after < 10000
+
+steps-short : (called : ℕ → Word) (i : ℕ) (xs : List TraceStep) → i + length xs ≤ 10000 → Every (Short called) xs → length (stepLines called i xs) ≤ 36 * length xs
+unfolding stepLines
+steps-short called i [] h f = omega arith
+steps-short called i (x ∷ xs) h f =
+    omega
+    (arith, length-append (stepLine i (called (x .command)) (x .word) (x .after)) (stepLines called (i + 1) xs), step-short i (called (x .command)) (x .word) (x .after) (omega arith) (f .0 .name) (f .0 .word) (f .0 .after), steps-short called (i + 1) xs (omega arith) (f .1))
+
+module _ (text : List ℕ) (x : Tree) (says : TextSaysTree text x) where
+  step-small : (y : TraceStep) → StepFits (modelOf x) y → Short (commandName x) y
+  step-small y f =
+      record {
+        name = told text x says (regular text x says) (y .command) (f .command) .short;
+        word = omega (arith, word-lt (modelOf x) (regular text x says) (y .command) (y .word) (f .command) (f .word));
+        after = omega (arith, f .after, few text x says);
+      }
+
+  found-short : (S : Sheet) → foundFor (modelOf x) ≡ S → length (reportLines x S) ≤ longestReport
+  unfolding reportLines sheetLines
+  found-short (safe map) e =
+      let g = regular text x says in
+      omega
+      (arith, length-append (countsLine (modelOf x .sharedNames) (modelOf x .rowNames) (length (modelOf x .commands))) safeLine, counts-short (modelOf x .sharedNames) (modelOf x .rowNames) (length (modelOf x .commands)) (omega (arith, g .fewShared)) (omega (arith, g .fewRow)) (omega (arith, g .fewCommands)), safe-short)
+  found-short (trace s xs) e =
+      let g = regular text x says in
+      let p = passes text x says s xs e in
+      let n : length xs ≤ 4095 = omega (arith, sheet-short text x says s xs e, trace-sheet-length (systemOf (modelOf x)) s xs, few text x says) in
+      let l = stepLines (commandName x) 1 xs in
+      omega
+      (arith, length-append (countsLine (modelOf x .sharedNames) (modelOf x .rowNames) (length (modelOf x .commands))) (unsafeLine (length xs) ++ (startLine s ++ l)), length-append (unsafeLine (length xs)) (startLine s ++ l), length-append (startLine s) l, counts-short (modelOf x .sharedNames) (modelOf x .rowNames) (length (modelOf x .commands)) (omega (arith, g .fewShared)) (omega (arith, g .fewRow)) (omega (arith, g .fewCommands)), unsafe-short (length xs) (omega arith), start-short s (omega (arith, p .startFits, few text x says)), steps-short (commandName x) 1 xs (omega arith) (weaken (StepFits (modelOf x)) (Short (commandName x)) step-small xs (p .stepsFit)))
+
+pub reports-fit : ReportsFit
+reports-fit text = go (answer text) refl
+  where
+    go : (o : N.Outcome) → answer text ≡ o → length (reportOf text) ≤ longestReport
+    go (N.read x) q =
+        let says = says-iff-answer text x .1 q in
+        subst (λ l. length l ≤ longestReport) (sym (found-lines text x says)) (found-short text x says (foundFor (modelOf x)) refl)
+    go (N.refused n p) q = subst (λ l. length l ≤ longestReport) (sym (refused-lines text n p q)) (omega (arith, refusal-short n p))
+
+-- What was put at the front of a buffer with that room, and is the report.
+module _ (text v : List ℕ) (e : v ≡ reportOf text) (l : List ℕ) (h : longestReport ≤ length l) where
+  pub report-fits : Fits l 0 v
+  report-fits = record { room = omega (arith, reports-fit text, ap length e) }
+
+  pub report-put : (x : List ℕ) (r : ℕ) → Puts l 0 v x r → ((x ≡ sets l 0 (reportOf text)) × (r ≡ length (reportOf text))) × Counts r x
+  report-put x r P =
+      let z : r ≡ length v = omega (arith, P .ends) in
+      ((P .stored ∙ ap (sets l 0) e, z ∙ ap length e), front-counts x l v r (P .stored) (omega (arith, reports-fit text, ap length e)))

@@ -1,0 +1,41 @@
+-- The report of a text has the lines of what there is to find of its model, or is the line of its first refusal.
+-- Assumes nothing.
+use mathlib.Core.Path.{_≡_, refl, ap, _∙_}
+use mathlib.Core.List.{List}
+use Prim.Native.Nat.{ℕ}
+use Rattle.notation.specs.Notation.{Tree}
+use Rattle.notation.specs.Texts.{TextSaysTree, modelOf}
+use Rattle.notation.specs.working.Machine.{refused}
+use Rattle.notation.specs.working.Answer.{answer}
+use Rattle.notation.proofs.Texts.{says-answer, refused-answer}
+use Rattle.notation.proofs.Regular.{all-regular}
+use Rattle.meaning.specs.Evidence.{Sheet}
+use Rattle.exploration.specs.Findings.{Finds}
+use Rattle.search.proofs.SearchTells.{finds}
+use Rattle.exploration.proofs.FindsOnce.{finds-once}
+use Rattle.lines.specs.Lines.{refusalLine}
+use Rattle.reporting.specs.Reports.{reportLines}
+use Rattle.reporting.specs.Promises.{ReportTells}
+use Rattle.reporting.specs.working.Reporting.{foundFor, reportIn, reportOf}
+
+-- A text that says a tree.
+module _ (text : List ℕ) (x : Tree) (says : TextSaysTree text x) where
+  pub found-lines : reportOf text ≡ reportLines x (foundFor (modelOf x))
+  unfolding reportIn
+  found-lines = ap reportIn (says-answer says)
+
+  found : (s : Sheet) → Finds (modelOf x) s → foundFor (modelOf x) ≡ s
+  found s F =
+      finds-once (modelOf x) (foundFor (modelOf x)) s
+      (finds (modelOf x) (all-regular text (modelOf x) (record { tree = x; says = says; meant = refl }))) F
+
+pub refused-lines : (text : List ℕ) (n i : ℕ) → answer text ≡ refused n i → reportOf text ≡ refusalLine n i
+unfolding reportIn
+refused-lines text n i e = ap reportIn e
+
+pub report-tells : ReportTells
+report-tells text =
+    record {
+      finds = λ x s says F. found-lines text x says ∙ ap (reportLines x) (found text x says s F);
+      refuses = λ n i r. refused-lines text n i (refused-answer r);
+    }

@@ -1,0 +1,145 @@
+-- The report over the flat form of a text's model and the bytes of what is found is the report of the text.
+-- Assumes nothing.
+use mathlib.Core.Path.{_≡_, refl, sym, ap, _∙_, subst}
+use mathlib.Core.List.{List, [], _∷_, _++_, append-assoc}
+use Prim.Native.Nat.{ℕ, _+_, _-_, _*_, _≤_, _<_}
+use native.Mathlib.Omega.{arith}
+use lib.ListN.{length}
+use Rattle.notation.specs.Tokens.{Word}
+use Rattle.notation.specs.Notation.{Tree}
+use Rattle.notation.specs.Model.{Model}
+use Rattle.notation.specs.Layout.{layoutOf}
+use Rattle.notation.specs.Regular.{Every, Regular}
+use Rattle.notation.specs.Texts.{TextSays, TextSaysTree, modelOf, namesOf}
+use Rattle.notation.specs.working.Machine as N
+use Rattle.notation.proofs.Texts.{says-answer}
+use Rattle.notation.proofs.Regular.{all-regular}
+use Rattle.meaning.specs.OneRow.{stateCount, TraceStep}
+use Rattle.meaning.specs.Evidence.{Sheet, safe, trace, StepFits, TracePasses}
+use Rattle.meaning.proofs.Lists.{weaken}
+use Rattle.evaluation.proofs.Powers.{pow-small}
+use Rattle.reader.specs.declared.Code.{Code}
+use Rattle.reader.specs.Read.{codeOf, nameArray, readingIn, readingOf}
+use Rattle.acceptance.specs.Sheets.{System, size, systemOf, sheetBytes, headerBytes, startBytes, stepsBytes, recordBytes, little}
+use Rattle.acceptance.specs.SheetTexts.{InRange, twoAt}
+use Rattle.acceptance.specs.working.SheetReading.{stepsIn}
+use Rattle.acceptance.proofs.SheetWritten.{two-little, steps-there}
+use Rattle.exploration.specs.Findings.{Finds}
+use Rattle.exploration.specs.working.Found.{transitionsOf}
+use Rattle.search.proofs.SearchTells.{own, finds}
+use Rattle.exploration.proofs.FoundShort.{found-short, trace-sheet-length}
+use Rattle.reporting.specs.Reports.{countsLine, unsafeLine, startLine, stepLine, stepLines, commandName, sheetLines, reportLines}
+use Rattle.reporting.specs.working.Reporting.{foundFor, reportOf}
+use Rattle.reporting.specs.working.Writing.{nameIn, Named, stepsOf, traceSteps, safeReport, traceReport, Printable}
+use Rattle.reporting.proofs.NameArrays.{told}
+use Rattle.reporting.proofs.ReportTells.{found-lines}
+
+-- The bytes of a trace say its start state and its steps.
+module _ (M : System) (s : ℕ) (xs : List TraceStep) where
+  start-read : s < 65536 → twoAt (sheetBytes M (trace s xs)) 15 ≡ s
+  unfolding sheetBytes headerBytes startBytes recordBytes little twoAt
+  start-read h = two-little s h
+
+  count-read : stepsOf (sheetBytes M (trace s xs)) ≡ length xs
+  count-read = omega (arith, trace-sheet-length M s xs)
+
+  head-long : length (headerBytes M ++ startBytes s) ≡ 17
+  unfolding headerBytes startBytes recordBytes little
+  head-long = refl
+
+  steps-read : size M ≤ 65536 → Every (InRange M) xs → traceSteps (sheetBytes M (trace s xs)) ≡ xs
+  unfolding sheetBytes
+  steps-read few f =
+      ap (stepsIn (sheetBytes M (trace s xs)) 17) count-read
+      ∙ ap (λ l. stepsIn l 17 (length xs)) (sym (append-assoc (headerBytes M) (startBytes s) (stepsBytes xs)))
+      ∙ steps-there M few xs (headerBytes M ++ startBytes s) 17 head-long f .1
+
+-- Steps whose commands have the same names have the same lines.
+lines-same : (f g : ℕ → Word) (i : ℕ) (xs : List TraceStep) → Every (λ (x : TraceStep). f (x .command) ≡ g (x .command)) xs → stepLines f i xs ≡ stepLines g i xs
+unfolding stepLines
+lines-same f g i [] h = refl
+lines-same f g i (x ∷ xs) h =
+    ap (λ w. stepLine i w (x .word) (x .after) ++ stepLines f (i + 1) xs) (h .0)
+    ∙ ap (λ l. stepLine i (g (x .command)) (x .word) (x .after) ++ l) (lines-same f g (i + 1) xs (h .1))
+
+-- A text that says a tree.
+module _ (text : List ℕ) (x : Tree) (says : TextSaysTree text x) where
+  abbrev m : Model
+  m = modelOf x
+
+  abbrev S : Sheet
+  S = foundFor m
+
+  pub model-said : TextSays text m
+  model-said = record { tree = x; says = says; meant = refl }
+
+  pub regular : Regular m
+  regular = all-regular text m model-said
+
+  pub few : stateCount m ≤ 4096
+  few = pow-small (m .sharedNames + m .rowNames) (stateCount m) (regular .fewNames) refl
+
+  -- The flat form is that of its model.
+  abbrev code : Code
+  code = codeOf (layoutOf m) (namesOf x)
+
+  code-read : readingOf text .code ≡ code
+  unfolding readingIn
+  code-read = ap (λ (o : N.Outcome). readingIn o .code) (says-answer says)
+
+  -- Where a map is found.
+  safe-lines : (map : List ℕ) → safeReport code ≡ reportLines x (safe map)
+  unfolding reportLines sheetLines codeOf layoutOf
+  safe-lines map = refl
+
+  pub safe-said : (map : List ℕ) → S ≡ safe map → safeReport (readingOf text .code) ≡ reportOf text
+  safe-said map e = ap safeReport code-read ∙ safe-lines map ∙ sym (found-lines text x says ∙ ap (reportLines x) e)
+
+  -- Where a trace is found.
+  module _ (s : ℕ) (xs : List TraceStep) (e : S ≡ trace s xs) where
+    abbrev pub sheet : List ℕ
+    sheet = sheetBytes (systemOf m) (trace s xs)
+
+    pub passes : TracePasses m s xs
+    passes = subst (Finds m) e (finds m regular) .1 .breaks
+
+    in-range : Every (InRange (systemOf m)) xs
+    in-range =
+        weaken (StepFits m) (InRange (systemOf m)) (λ y k. record { command = k .command; word = k .word; after = k .after }) xs (passes .stepsFit)
+
+    pub sheet-short : length sheet ≤ 7 + 10 * stateCount m
+    sheet-short = subst (λ y. length (sheetBytes (systemOf m) y) ≤ 7 + 10 * stateCount m) e (found-short (systemOf m) (transitionsOf (systemOf m)) m (own m))
+
+    shown : Printable text code sheet
+    unfolding codeOf layoutOf
+    shown =
+        record {
+          long = omega (arith, trace-sheet-length (systemOf m) s xs);
+          few = omega (arith, regular .fewNames);
+          named =
+              subst (Every (λ (y : TraceStep). Named text (nameArray (namesOf x)) (m .sharedNames + m .rowNames + y .command)))
+              (sym (steps-read (systemOf m) s xs (omega (arith, few)) in-range))
+              (weaken (InRange (systemOf m)) (λ (y : TraceStep). Named text (nameArray (namesOf x)) (m .sharedNames + m .rowNames + y .command)) (λ y k. told text x says regular (y .command) (k .command) .named) xs in-range);
+        }
+
+    abbrev called : ℕ → Word
+    called k = nameIn text (nameArray (namesOf x)) (m .sharedNames + m .rowNames + k)
+
+    abbrev counted : List ℕ
+    counted = countsLine (m .sharedNames) (m .rowNames) (length (m .commands))
+
+    trace-lines : traceReport text code sheet ≡ reportLines x (trace s xs)
+    unfolding reportLines sheetLines codeOf layoutOf
+    trace-lines =
+        ap (λ n. counted ++ (unsafeLine n ++ (startLine (twoAt sheet 15) ++ stepLines called 1 (traceSteps sheet)))) (count-read (systemOf m) s xs)
+        ∙ ap (λ t. counted ++ (unsafeLine (length xs) ++ (startLine t ++ stepLines called 1 (traceSteps sheet)))) (start-read (systemOf m) s xs (omega (arith, few, passes .startFits)))
+        ∙ ap (λ ys. counted ++ (unsafeLine (length xs) ++ (startLine s ++ stepLines called 1 ys))) (steps-read (systemOf m) s xs (omega (arith, few)) in-range)
+        ∙ ap (λ l. counted ++ (unsafeLine (length xs) ++ (startLine s ++ l)))
+        (lines-same called (commandName x) 1 xs
+        (weaken (InRange (systemOf m)) (λ (y : TraceStep). called (y .command) ≡ commandName x (y .command)) (λ y k. told text x says regular (y .command) (k .command) .word) xs in-range))
+
+    pub trace-shown : Printable text (readingOf text .code) sheet
+    trace-shown = subst (λ c. Printable text c sheet) (sym code-read) shown
+
+    pub trace-said : traceReport text (readingOf text .code) sheet ≡ reportOf text
+    trace-said = ap (λ c. traceReport text c sheet) code-read ∙ trace-lines ∙ sym (found-lines text x says ∙ ap (reportLines x) e)

@@ -1,0 +1,54 @@
+-- `put_counts` meets its contract: its words, one behind the other, are the line.
+-- Assumes nothing.
+use borrow.Author.Needs.{needs}
+use Rattle.lines.proofs.Parts.{line-put, word-put, end-put, line-first, line-rest, word-first, word-rest, end-fits}
+use Rattle.notation.specs.Bytes.{bytes}
+use Rattle.reporting.proofs.put_counts.Statement.{statement}
+use Rattle.reporting.proofs.put_counts.Tie as tie
+
+slice-aggregate-put : tie.Need-slice-aggregate-put
+slice-aggregate-put c = search needs
+
+put-requires : tie.Need-put-requires
+unfolding bytes
+put-requires c κs = line-first _ _ (c .before .before .before .pre)
+
+put-number-requires : tie.Need-put-number-requires
+unfolding bytes
+put-number-requires c κs = word-first _ _ (line-rest _ _ (c .before .before .before .put .ensures) (c .before .before .before .before .before .before .before .pre))
+
+put-number-requires-2 : tie.Need-put-number-requires-2
+unfolding bytes
+put-number-requires-2 c κs = word-first _ _ (word-rest _ _ (c .before .before .before .put-number .ensures) (line-rest _ _ (c .before .before .before .before .before .before .before .put .ensures) (c .before .before .before .before .before .before .before .before .before .before .before .pre)))
+
+put-number-requires-3 : tie.Need-put-number-requires-3
+unfolding bytes
+put-number-requires-3 c κs = word-first _ _ (word-rest _ _ (c .before .before .before .put-number2 .ensures) (word-rest _ _ (c .before .before .before .before .before .before .before .put-number .ensures) (line-rest _ _ (c .before .before .before .before .before .before .before .before .before .before .before .put .ensures) (c .before .before .before .before .before .before .before .before .before .before .before .before .before .before .before .pre))))
+
+slice-aggregate-put-2 : tie.Need-slice-aggregate-put-2
+slice-aggregate-put-2 c = search needs
+
+put-requires-2 : tie.Need-put-requires-2
+unfolding bytes
+put-requires-2 c κs = end-fits (word-rest _ _ (c .before .before .before .before .put-number3 .ensures) (word-rest _ _ (c .before .before .before .before .before .before .before .before .put-number2 .ensures) (word-rest _ _ (c .before .before .before .before .before .before .before .before .before .before .before .before .put-number .ensures) (line-rest _ _ (c .before .before .before .before .before .before .before .before .before .before .before .before .before .before .before .before .put .ensures) (c .before .before .before .before .before .before .before .before .before .before .before .before .before .before .before .before .before .before .before .before .pre)))))
+
+same-length : tie.Need-same-length
+same-length c = search needs
+
+returns : tie.Need-returns
+unfolding bytes
+returns c = line-put _ _ (c .before .before .before .before .before .before .before .before .before .before .before .before .before .before .before .before .before .before .before .put .ensures) (word-put _ _ (c .before .before .before .before .before .before .before .before .before .before .before .before .before .before .before .put-number .ensures) (word-put _ _ (c .before .before .before .before .before .before .before .before .before .before .before .put-number2 .ensures) (word-put _ _ (c .before .before .before .before .before .before .before .put-number3 .ensures) (end-put (c .before .before .put2 .ensures)))))
+
+pub put-counts-spec : {M : Type 1} → statement M
+put-counts-spec =
+    tie.close
+    (tie.spec
+    slice-aggregate-put
+    put-requires
+    put-number-requires
+    put-number-requires-2
+    put-number-requires-3
+    slice-aggregate-put-2
+    put-requires-2
+    same-length
+    returns)

@@ -1,0 +1,55 @@
+-- The lines of a report: the counts of a model, the verdict, and the first breaking run where there is one.
+-- Assumes nothing.
+use mathlib.Core.List.{List, [], _∷_, _++_, map}
+use Prim.Native.Nat.{ℕ, _+_}
+use lib.ListN.{length, getD}
+use Rattle.notation.specs.Bytes.{bytes}
+use Rattle.notation.specs.Tokens.{Word}
+use Rattle.notation.specs.Notation.{Tree, tree′}
+use Rattle.notation.specs.Texts.{modelOf, wordsOf, titleOf}
+use Rattle.meaning.specs.OneRow.{TraceStep}
+use Rattle.meaning.specs.Evidence.{Sheet, safe, trace}
+use Rattle.lines.specs.Lines.{decimalOf, line}
+
+-- How many shared names, row names and commands the model has.
+abbrev pub countsLine : ℕ → ℕ → ℕ → List ℕ
+countsLine shared row commands = line (bytes "model" ∷ decimalOf shared ∷ decimalOf row ∷ decimalOf commands ∷ [])
+
+-- The verdict where no run goes wrong.
+abbrev pub safeLine : List ℕ
+safeLine = line (bytes "safe" ∷ [])
+
+-- The verdict where one does, with the number of its steps.
+abbrev pub unsafeLine : ℕ → List ℕ
+unsafeLine steps = line (bytes "unsafe" ∷ decimalOf steps ∷ [])
+
+-- The state where the run starts.
+abbrev pub startLine : ℕ → List ℕ
+startLine s = line (bytes "start" ∷ decimalOf s ∷ [])
+
+-- A step of the run: its number, the name of its command, its choice word, and the state after it.
+abbrev pub stepLine : ℕ → Word → ℕ → ℕ → List ℕ
+stepLine number called chosen after = line (bytes "step" ∷ decimalOf number ∷ called ∷ decimalOf chosen ∷ decimalOf after ∷ [])
+
+-- Steps from some number on, where the commands have these names.
+unfoldable pub stepLines : (ℕ → Word) → ℕ → List TraceStep → List ℕ
+stepLines called number [] = []
+stepLines called number (x ∷ xs) = stepLine number (called (x .command)) (x .word) (x .after) ++ stepLines called (number + 1) xs
+
+-- The name of command i of a tree.
+unfoldable pub commandName : Tree → ℕ → Word
+commandName (tree′ ws vs s k cs) i = getD (wordsOf (map titleOf cs)) i []
+
+-- The lines of what is found: the verdict, and the run of a trace with its steps numbered from 1.
+unfoldable pub sheetLines : (ℕ → Word) → Sheet → List ℕ
+sheetLines called (safe map) = safeLine
+sheetLines called (trace s xs) = unsafeLine (length xs) ++ (startLine s ++ stepLines called 1 xs)
+
+-- THE REPORT of the model that a tree says, where this sheet is found.
+unfoldable pub reportLines : Tree → Sheet → List ℕ
+reportLines x s =
+    countsLine (modelOf x .sharedNames) (modelOf x .rowNames) (length (modelOf x .commands)) ++ sheetLines (commandName x) s
+
+-- The longest that a report can be: the first three lines, and 4,095 steps of 36 bytes.
+abbrev pub longestReport : ℕ
+longestReport = 147457

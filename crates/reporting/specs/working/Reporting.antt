@@ -1,0 +1,26 @@
+-- The report of a text as a computation.
+-- Assumes nothing.
+use mathlib.Core.List.{List}
+use Prim.Native.Nat.{ℕ}
+use Rattle.notation.specs.Model.{Model}
+use Rattle.notation.specs.Texts.{modelOf}
+use Rattle.notation.specs.working.Machine.{Outcome, read, refused}
+use Rattle.notation.specs.working.Answer.{answer}
+use Rattle.meaning.specs.Evidence.{Sheet}
+use Rattle.acceptance.specs.Sheets.{systemOf}
+use Rattle.exploration.specs.working.Found.{foundIn, transitionsOf}
+use Rattle.lines.specs.Lines.{refusalLine}
+use Rattle.reporting.specs.Reports.{reportLines}
+
+-- The sheet that is found of a model.
+abbrev pub foundFor : Model → Sheet
+foundFor m = foundIn (transitionsOf (systemOf m))
+
+-- The report of a text that was read or refused.
+unfoldable pub reportIn : Outcome → List ℕ
+reportIn (read x) = reportLines x (foundFor (modelOf x))
+reportIn (refused n p) = refusalLine n p
+
+-- The report of a text.
+abbrev pub reportOf : List ℕ → List ℕ
+reportOf text = reportIn (answer text)

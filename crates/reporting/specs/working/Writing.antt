@@ -1,0 +1,73 @@
+-- The report over the flat form of a model and the bytes of a sheet, as the code writes it.
+-- Assumes nothing.
+use mathlib.Core.Path.{_≡_}
+use mathlib.Core.List.{List, _++_}
+use Prim.Native.Nat.{ℕ, _+_, _-_, _/_, _<_, _≤_}
+use lib.ListN.{length, getD, take, drop}
+use Rattle.notation.specs.Tokens.{Word}
+use Rattle.notation.specs.Regular.{Every}
+use Rattle.meaning.specs.OneRow.{TraceStep}
+use Rattle.reader.specs.declared.Code.{Code}
+use Rattle.acceptance.specs.SheetTexts.{twoAt}
+use Rattle.acceptance.specs.working.SheetReading.{stepsIn}
+use Rattle.search.specs.working.Searching.{Left}
+use Rattle.reporting.specs.Reports.{countsLine, safeLine, unsafeLine, startLine, stepLine, stepLines}
+
+-- The bytes of name i in the text.
+abbrev pub nameIn : List ℕ → List ℕ → ℕ → Word
+nameIn text names i = take (getD names (28 + i) 0) (drop (getD names i 0) text)
+
+-- There is a name i, and it lies in the text.
+pub record Named (text names : List ℕ) (i : ℕ) : Type 0 where
+  pub index : i < 28
+  pub inside : getD names i 0 + getD names (28 + i) 0 ≤ length text
+
+-- The line of a step, where the commands' names begin with name `base`.
+abbrev pub recordLine : List ℕ → List ℕ → ℕ → ℕ → TraceStep → List ℕ
+recordLine text names base number x = stepLine number (nameIn text names (base + x .command)) (x .word) (x .after)
+
+-- How many steps the bytes of a trace have.
+abbrev pub stepsOf : List ℕ → ℕ
+stepsOf sheet = (length sheet - 17) / 10
+
+-- The steps that the bytes of a trace say.
+abbrev pub traceSteps : List ℕ → List TraceStep
+traceSteps sheet = stepsIn sheet 17 (stepsOf sheet)
+
+-- Their lines, where the commands' names begin with name `base`.
+abbrev pub stepsShown : List ℕ → List ℕ → ℕ → List ℕ → List ℕ
+stepsShown text names base sheet = stepLines (λ k. nameIn text names (base + k)) 1 (traceSteps sheet)
+
+-- The run that the bytes of a trace say.
+abbrev pub runLines : List ℕ → List ℕ → ℕ → List ℕ → List ℕ
+runLines text names base sheet = unsafeLine (stepsOf sheet) ++ (startLine (twoAt sheet 15) ++ stepsShown text names base sheet)
+
+-- A start state stands there, and the command of each step has a name.
+pub record Shown (text names : List ℕ) (base : ℕ) (sheet : List ℕ) : Type 0 where
+  pub long : 17 ≤ length sheet
+  pub few : base ≤ 28
+  pub named : Every (λ (x : TraceStep). Named text names (base + x .command)) (traceSteps sheet)
+
+-- The line of the counts.
+abbrev pub counts : Code → List ℕ
+counts c = countsLine (c .shared) (c .row) (c .commands)
+
+-- The run with the names of the flat form.
+abbrev pub runOf : List ℕ → List ℕ → Code → List ℕ
+runOf text sheet c = runLines text (c .names) (c .shared + c .row) sheet
+
+-- The report of a safe model.
+abbrev pub safeReport : Code → List ℕ
+safeReport c = counts c ++ safeLine
+
+-- The report of an unsafe model, whose trace is the sheet.
+abbrev pub traceReport : List ℕ → Code → List ℕ → List ℕ
+traceReport text c sheet = counts c ++ runOf text sheet c
+
+-- What it asks of the names and the sheet.
+abbrev pub Printable : List ℕ → Code → List ℕ → Type 0
+Printable text c sheet = Shown text (c .names) (c .shared + c .row) sheet
+
+-- The buffers that the search was lent hold what it left.
+abbrev pub LeavesTo : Left → List ℕ → List ℕ → List ℕ → Type 0
+LeavesTo L first second sheet = (first ≡ L .first) × (second ≡ L .second) × (sheet ≡ L .sheet)
