@@ -230,15 +230,3 @@ reads-written M few b (safe map) w =
 reads-written M few b (trace s xs) w =
     let h : length (headerBytes M ++ (recordBytes 3 (little 2 s) ++ stepsBytes xs)) ≤ 65536 = subst (λ (l : List ℕ). length l ≤ 65536) (w .bytes) (w .short) in
     ap (sheetOf M) (w .bytes) ∙ header-read M few (recordBytes 3 (little 2 s) ++ stepsBytes xs) h ∙ trace-read M few s xs (w .fits .0) (w .fits .1)
-
--- What a writer of short records stores.
-pub head-bytes : (kind : ℕ) (payload : List ℕ) → length payload < 65536 → kind < 256
-    → recordBytes kind payload ≡ (length payload % 256 ∷ length payload / 256 ∷ 0 ∷ 0 ∷ kind ∷ 0 ∷ []) ++ payload
-unfolding recordBytes little
-head-bytes kind payload h k =
-    let n = length payload in
-    let a : length payload / 256 / 256 ≡ 0 = omega arith in
-    let c : length payload / 256 % 256 ≡ length payload / 256 = omega arith in
-    let d : kind / 256 ≡ 0 = omega arith in
-    let e : kind % 256 ≡ kind = omega arith in
-    rw (a, c, d, e)
