@@ -2,6 +2,9 @@
 // One table is the queue of the states met; the other has for each of them the number of the state it was met from, plus 1.
 ghost use mathlib.Core.Path.{_≡_};
 ghost use Prim.Native.Nat.{_^_, _≤_};
+ghost use lib.ListN.{length};
+ghost use lib.Seq.{slice};
+ghost use Rattle.evaluation.specs.working.Batches.{filledOf};
 ghost use Rattle.evaluation.specs.working.CodeSystem.{startsIn, breaksIn, Parted};
 ghost use Rattle.acceptance.specs.working.Shapes.{Few};
 ghost use Rattle.search.specs.working.CodeTransitions.{transitionsIn, still};
@@ -52,6 +55,16 @@ fn take_in(
     }
 }
 
+// The rows for a word, as `fill` has them. Its test for a new batch is made here too, so that no call is made for the other words.
+fn renew(rows: &mut [u64; 16], ops: &[u16], from: usize, to: usize, state: u32, n: usize, w: u32)
+    requires { ⌜ (from ≤ to) × (to ≤ length (now ops)) × (n ≤ 16) ⌝ }
+    ensures { λ r. ⌜ now (rows .exit) ≡ filledOf (slice from to (now (ops .entry))) state n w (now (rows .entry)) ⌝ }
+{
+    if w % 64 == 0 {
+        fill(rows, ops, from, to, state, n, w);
+    }
+}
+
 // Goes through the queue: every command under every word, 64 words at a time, from each of its states in turn.
 // A state that is met for the first time goes to the queue's end; the first that violates `keep` ends the search.
 fn explore(
@@ -80,7 +93,7 @@ fn explore(
             let mut rows = [0u64; 16];
             'words: for w in 0..words {
                 let word = w as u32;
-                fill(&mut rows, ops, from, to, state, bits, word);
+                renew(&mut rows, ops, from, to, state, bits, word);
                 let t = pick(&rows, word % 64) as u16;
                 let at = t as usize;
                 if parent[at] == 0 {

@@ -43,7 +43,7 @@ s-below : (c : tie.After-slice-known3 Inv-words μ-words Inv-commands μ-command
 s-below c = c .before .before .search .inv .1 .kept .ready .below (c .before .before .search .head) (c .before .search-test .taken)
 
 reached : (c : tie.After-pick Inv-words μ-words Inv-commands μ-commands Inv-search μ-search) → c .pick .result ≡ nextIn (c .before .before .before .before .before .before .before .before .before .before .before .before .before .before .before .before .before .before .before .before .args .ops .now) (c .before .before .before .before .before .before .before .before .before .before .before .before .before .before .before .before .before .before .before .before .args .ends .now) (c .before .before .before .before .before .before .before .before .before .before .before .before .before .before .before .before .before .before .before .before .args .bits) (getD (c .before .before .before .before .before .before .before .before .before .before .before .before .before .before .before .before .before .search .queue) (c .before .before .before .before .before .before .before .before .before .before .before .before .before .before .before .before .before .search .head) 0) (c .before .before .before .before .before .before .before .before .before .before .before .before .before .before .commands .k) (c .before .before .before .before .before .before .words .w)
-reached c = step-picked _ _ _ _ _ _ _ _ _ (c .before .before .before .before .before .before .before .before .before .before .before .before .begin .ensures) (c .before .before .before .before .before .before .before .before .before .before .count .ensures) (c .pick .ensures ∙ B.picked _ _ (c .before .before .before .before .before .before .before .before .before .before .before .before .before .before .before .before .before .before .before .before .args .bits) _ _ _ (omega (arith, c .before .before .before .before .before .before .before .before .before .before .before .before .before .before .before .before .before .before .before .before .pre .0)) (s-below (c .before .before .before .before .before .before .before .before .before .before .before .before .before .before .before)) (c .before .before .fill .ensures) (c .before .before .before .before .before .before .words .inv .3))
+reached c = step-picked _ _ _ _ _ _ _ _ _ (c .before .before .before .before .before .before .before .before .before .before .before .before .begin .ensures) (c .before .before .before .before .before .before .before .before .before .before .count .ensures) (c .pick .ensures ∙ B.picked _ _ (c .before .before .before .before .before .before .before .before .before .before .before .before .before .before .before .before .before .before .before .before .args .bits) _ _ _ (omega (arith, c .before .before .before .before .before .before .before .before .before .before .before .before .before .before .before .before .before .before .before .before .pre .0)) (s-below (c .before .before .before .before .before .before .before .before .before .before .before .before .before .before .before)) (c .before .before .renew .ensures) (c .before .before .before .before .before .before .words .inv .3))
 
 t-below : (c : tie.After-pick Inv-words μ-words Inv-commands μ-commands Inv-search μ-search) → c .pick .result < 2 ^ c .before .before .before .before .before .before .before .before .before .before .before .before .before .before .before .before .before .before .before .before .args .bits
 t-below c = step-below _ _ _ _ _ _ _ (reached c)
@@ -118,9 +118,9 @@ words-holds c = (omega arith, refl, words-start _ _ (c .before .before .before .
 cast-word : tie.Need-cast-word Inv-words μ-words Inv-commands μ-commands Inv-search μ-search
 cast-word c = omega (arith, words-few (c .before .before .before .count2 .result) (c .before .before .power .result) (c .before .before .before .before .before .before .before .before .before .before .before .before .before .before .before .pre .1 .fewStars (c .before .before .before .before .before .before .before .before .before .commands .k) (c .before .before .before .before .before .before .before .before .commands-test .taken)) (c .before .before .before .count2 .ensures) (c .before .before .power .ensures))
 
-fill-requires :
-    tie.Need-fill-requires Inv-words μ-words Inv-commands μ-commands Inv-search μ-search
-fill-requires c κs = (part-rises (c .before .before .before .before .before .before .before .before .before .before .before .before .before .before .before .before .before .args .commands) _ (c .before .before .before .before .before .before .before .before .before .before .before .before .before .before .before .before .before .pre .2) (4 + c .before .before .before .before .before .before .before .before .before .before .before .commands .k) _ _ (omega arith) (c .before .before .before .before .before .before .before .count .ensures) (c .before .before .before .before .before .before .before .before .before .begin .ensures), omega (arith, part-short (c .before .before .before .before .before .before .before .before .before .before .before .before .before .before .before .before .before .args .commands) _ (c .before .before .before .before .before .before .before .before .before .before .before .before .before .before .before .before .before .pre .2) (4 + c .before .before .before .before .before .before .before .before .before .before .before .commands .k) 0 _ (omega arith) (c .before .before .before .before .before .before .before .count .ensures)), omega (arith, c .before .before .before .before .before .before .before .before .before .before .before .before .before .before .before .before .before .pre .0))
+renew-requires :
+    tie.Need-renew-requires Inv-words μ-words Inv-commands μ-commands Inv-search μ-search
+renew-requires c κs = (part-rises (c .before .before .before .before .before .before .before .before .before .before .before .before .before .before .before .before .before .args .commands) _ (c .before .before .before .before .before .before .before .before .before .before .before .before .before .before .before .before .before .pre .2) (4 + c .before .before .before .before .before .before .before .before .before .before .before .commands .k) _ _ (omega arith) (c .before .before .before .before .before .before .before .count .ensures) (c .before .before .before .before .before .before .before .before .before .begin .ensures), omega (arith, part-short (c .before .before .before .before .before .before .before .before .before .before .before .before .before .before .before .before .before .args .commands) _ (c .before .before .before .before .before .before .before .before .before .before .before .before .before .before .before .before .before .pre .2) (4 + c .before .before .before .before .before .before .before .before .before .before .before .commands .k) 0 _ (omega arith) (c .before .before .before .before .before .before .before .count .ensures)), omega (arith, c .before .before .before .before .before .before .before .before .before .before .before .before .before .before .before .before .before .pre .0))
 
 pick-requires :
     tie.Need-pick-requires Inv-words μ-words Inv-commands μ-commands Inv-search μ-search
@@ -170,7 +170,7 @@ words-less : tie.Need-words-less Inv-words μ-words Inv-commands μ-commands Inv
 words-less c = omega arith
 
 words-again : tie.Need-words-again Inv-words μ-words Inv-commands μ-commands Inv-search μ-search
-words-again c = (omega arith, c .before .before .before .before .before .before .before .before .words .inv .1, ⊎-elim (λ w. rw (w .3, w .4, w .5) (tried-new _ _ _ (c .before .before .before .before .before .before .before .before .words .inv .2) (c .before .before .before .before .before .before .before .words-test .taken) _ (reached (c .before .before)) (t-below (c .before .before)) (w .0 .taken) (sym (w .1 .ensures) ∙ w .2 .left))) (λ w. rw (w .1, w .2, w .3) (tried-old _ _ _ (c .before .before .before .before .before .before .before .before .words .inv .2) (c .before .before .before .before .before .before .before .words-test .taken) _ (reached (c .before .before)) (t-below (c .before .before)) (w .0 .left))) (c .if1 .came), B.ready-next _ _ _ _ _ _ (c .before .before .before .before .fill .ensures) (c .before .before .before .before .before .before .before .before .words .inv .3))
+words-again c = (omega arith, c .before .before .before .before .before .before .before .before .words .inv .1, ⊎-elim (λ w. rw (w .3, w .4, w .5) (tried-new _ _ _ (c .before .before .before .before .before .before .before .before .words .inv .2) (c .before .before .before .before .before .before .before .words-test .taken) _ (reached (c .before .before)) (t-below (c .before .before)) (w .0 .taken) (sym (w .1 .ensures) ∙ w .2 .left))) (λ w. rw (w .1, w .2, w .3) (tried-old _ _ _ (c .before .before .before .before .before .before .before .before .words .inv .2) (c .before .before .before .before .before .before .before .words-test .taken) _ (reached (c .before .before)) (t-below (c .before .before)) (w .0 .left))) (c .if1 .came), B.ready-next _ _ _ _ _ _ (c .before .before .before .before .renew .ensures) (c .before .before .before .before .before .before .before .before .words .inv .3))
 
 add-k : tie.Need-add-k Inv-words μ-words Inv-commands μ-commands Inv-search μ-search
 add-k c = omega arith
@@ -240,7 +240,7 @@ explore-spec =
     power-requires
     words-holds
     cast-word
-    fill-requires
+    renew-requires
     pick-requires
     cast-t
     cast-at
