@@ -1,7 +1,7 @@
 """Texts at each limit and one beyond it."""
 
-from inputs.phrases import (LONG, TOO_LONG, command, expression, list_of, loop, model,
-                     nested, numbered, stars)
+from inputs.phrases import (LONG, TOO_LONG, command, expression, list_of, loop,
+                            model, nested, numbered, stars)
 
 
 def name_limits():

@@ -1,7 +1,7 @@
 """Texts with two faults, of which one comes first."""
 
-from inputs.phrases import (TOO_LONG, command, expression, list_of, model, nested,
-                     numbered, stars)
+from inputs.phrases import (TOO_LONG, command, expression, list_of, model,
+                            nested, numbered, stars)
 
 
 def order():

@@ -1,7 +1,8 @@
 """The table of one row in numbers: a state is a number with a bit for each
 name, shared names lowest, and a choice word has a bit for each star."""
 
-from reader.model import Assignment, Chain, Constant, For, Not, Row, Shared, Star
+from reader.model import (Assignment, Chain, Constant, For, Not, Row, Shared,
+                          Star)
 
 
 class OneRow:

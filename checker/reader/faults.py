@@ -7,7 +7,7 @@ meaningless, which does no harm as they stand at later tokens.
 
 from reader.model import Refusal
 from reader.notation import (ITEMS, OPERANDS, OPERATORS, ROW_ITEMS,
-                      SHARED_EXPRESSIONS)
+                             SHARED_EXPRESSIONS)
 from reader.tokens import NAME
 
 MOST_SHARED = 8

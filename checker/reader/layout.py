@@ -1,7 +1,7 @@
 """The flat form of a read model, and the answer line for a text."""
 
-from reader.model import (Assignment, Chain, Constant, Not, Refusal, Row, Shared,
-                   Skip, Star)
+from reader.model import (Assignment, Chain, Constant, Not, Refusal, Row,
+                          Shared, Skip, Star)
 from reader.reading import read
 
 NAMES = 32

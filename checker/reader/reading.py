@@ -3,8 +3,8 @@
 from itertools import groupby
 
 from reader.faults import by_command, faults, named
-from reader.model import (Assignment, Chain, Clause, Command, Constant, For, Model,
-                   Name, Not, Refusal, Row, Shared, Skip, Star)
+from reader.model import (Assignment, Chain, Clause, Command, Constant, For,
+                          Model, Name, Not, Refusal, Row, Shared, Skip, Star)
 from reader.notation import walk
 from reader.tokens import BAD, NAME, cut
 

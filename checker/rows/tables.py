@@ -7,7 +7,8 @@ and each star inside one value for every row.
 
 from itertools import product
 
-from reader.model import Assignment, Chain, Constant, For, Not, Row, Shared, Star
+from reader.model import (Assignment, Chain, Constant, For, Not, Row, Shared,
+                          Star)
 
 
 def stars_in(tree):

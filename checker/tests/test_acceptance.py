@@ -8,7 +8,7 @@ from collections import Counter
 from evidence.acceptance import answer
 from evidence.searching import search
 from evidence.sheets import (Map, Trace, contents, header, map_sheet, record,
-                    step_record, trace_sheet)
+                             step_record, trace_sheet)
 from inputs.cases import G, G_SHEET, H, map_for, table_of
 from inputs.phrases import model
 from inputs.small_models import small_text
@@ -18,6 +18,13 @@ from rows.tables import goes_wrong
 
 def by_map(text, *members):
     return answer(text.encode(), map_for(text, members))
+
+
+def small_tables(rng, count):
+    """Random texts, each with its model's table."""
+    for _ in range(count):
+        text = small_text(rng)
+        yield text, table_of(text)
 
 
 class Cases(unittest.TestCase):
@@ -139,11 +146,8 @@ class Sheets(unittest.TestCase):
 
 class ManyRows(unittest.TestCase):
     def test_one_row_tells_of_three(self):
-        rng = random.Random(7)
         met = Counter()
-        for _ in range(300):
-            text = small_text(rng)
-            table = table_of(text)
+        for text, table in small_tables(random.Random(7), 300):
             found = search(table)
             wrong = isinstance(found, tuple)
             for rows in (1, 2, 3):
@@ -165,9 +169,7 @@ class ManyRows(unittest.TestCase):
     def test_any_passing_sheet_is_right(self):
         rng = random.Random(8)
         met = Counter()
-        for _ in range(400):
-            text = small_text(rng)
-            table = table_of(text)
+        for text, table in small_tables(rng, 400):
             members = {state for state in range(table.states)
                        if rng.random() < 0.8 and not table.breaks(state)}
             said = by_map(text, *members)

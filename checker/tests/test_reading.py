@@ -6,8 +6,8 @@ import random
 import unittest
 
 from reader.layout import line
-from reader.model import (Assignment, Chain, Clause, Command, Constant, For, Model,
-                   Name, Not, Refusal, Row, Shared, Skip, Star)
+from reader.model import (Assignment, Chain, Clause, Command, Constant, For,
+                          Model, Name, Not, Refusal, Row, Shared, Skip, Star)
 from reader.notation import walk
 from reader.reading import read
 from reader.tokens import BAD, MISFIT, NAME, RESERVED, cut

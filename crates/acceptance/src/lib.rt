@@ -1,7 +1,8 @@
 // The acceptance test: whether a sheet is evidence for the model that a text says.
+pub mod fields;
 mod maps;
 pub mod outcome;
-pub mod sheets;
+mod sheets;
 mod traces;
 
 ghost use mathlib.Core.Path.{_≡_};
@@ -10,12 +11,12 @@ ghost use Rattle.evaluation.specs.working.CodeSystem.{Parted};
 ghost use Rattle.acceptance.specs.working.Shapes.{Few};
 ghost use Rattle.acceptance.specs.working.Test.{systemIn, outcomeOf, testOf};
 use evaluation::numbers::power;
+use fields::map_length;
 use maps::test_map;
 use outcome::Outcome;
 use reader::Answer;
 use reader::read;
 use sheets::Shape;
-use sheets::map_length;
 use sheets::shape_of;
 use traces::test_trace;
 

@@ -1,7 +1,6 @@
 // The conditions A, B and C on a map, whose n bytes stand in the sheet from p on.
 ghost use mathlib.Core.Path.{_≡_};
 ghost use Prim.Native.Nat.{_+_, _*_, _/_, _^_, _<_, _≤_};
-ghost use lib.ListN.{length};
 ghost use lib.Seq.{slice};
 ghost use Rattle.meaning.specs.Evidence.{inMap};
 ghost use Rattle.meaning.specs.working.Conditions.{every, testA, testB, testC, closedAt};
@@ -10,8 +9,8 @@ ghost use Rattle.evaluation.specs.working.CodeSystem.{startsIn, breaksIn, nextI
 ghost use Rattle.acceptance.specs.working.SheetReading.{mapIn};
 ghost use Rattle.acceptance.specs.working.Shapes.{starsIn, Few};
 ghost use Rattle.acceptance.specs.working.Test.{mapAnswer};
+use crate::fields::wide;
 use crate::outcome::Outcome;
-use crate::sheets::wide;
 use evaluation::lanes::fill;
 use evaluation::lanes::pick;
 use evaluation::numbers::count;

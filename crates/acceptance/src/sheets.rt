@@ -1,10 +1,13 @@
 // A sheet's bytes: whether they are refused with 9 or 10, and if not, which kind of sheet they are.
 ghost use mathlib.Core.Path.{_≡_};
-ghost use Prim.Native.Nat.{_+_, _^_, _<_, _≤_};
+ghost use Prim.Native.Nat.{_+_, _<_, _≤_};
 ghost use Rattle.acceptance.specs.Sheets.{mapLength};
-ghost use Rattle.acceptance.specs.SheetTexts.{twoAt, isRecord, sameCounts, unusedClear, stepIn, stepFits};
+ghost use Rattle.acceptance.specs.SheetTexts.{isRecord, sameCounts, unusedClear, stepIn, stepFits};
 ghost use Rattle.acceptance.specs.working.SheetReading.{mapAt, traceAt, bodyAt, sheetIn};
 ghost use Rattle.acceptance.specs.working.Shapes.{shapeOf, starsIn, Few};
+use crate::fields::map_length;
+use crate::fields::two_at;
+use crate::fields::wide;
 use evaluation::numbers::count;
 use evaluation::numbers::power;
 
@@ -16,21 +19,6 @@ pub enum Shape {
     Bad(u8, usize),
     Map,
     Trace,
-}
-
-// A byte as a number.
-pub fn wide(x: u8) -> usize
-    ensures { λ r. ⌜ (r ≡ x) × (r < 256) ⌝ }
-{
-    x as usize
-}
-
-// The two-byte number at p.
-pub fn two_at(b: &[u8], p: usize) -> usize
-    requires { do ⌜ p + 2 ≤ (← ⟦b.len()⟧) ⌝ }
-    ensures { λ r. ⌜ (r ≡ twoAt (now (b .entry)) p) × (r < 65536) ⌝ }
-{
-    wide(b[p]) + 256 * wide(b[p + 1])
 }
 
 // Whether a record of this kind, with n bytes of payload, stands whole at p.
@@ -61,17 +49,6 @@ fn same_counts(b: &[u8], shared: usize, row: usize, commands: usize) -> bool
         return false;
     }
     wide(b[8]) == commands
-}
-
-// How many bytes a map has.
-pub fn map_length(states: usize) -> usize
-    ensures { λ r. ⌜ r ≡ mapLength states ⌝ }
-{
-    let n = states / 8;
-    if n == 0 {
-        return 1;
-    }
-    n
 }
 
 // Whether the bits of a map's first byte that no state uses are 0.

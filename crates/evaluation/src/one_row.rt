@@ -1,6 +1,6 @@
 // The table of one row, computed from a model's code: start states, states that violate `keep`, and steps.
 ghost use mathlib.Core.Path.{_≡_};
-ghost use Prim.Native.Nat.{_+_, _^_, _<_, _≤_};
+ghost use Prim.Native.Nat.{_+_, _<_, _≤_};
 ghost use Rattle.evaluation.specs.working.CodeSystem.{beginOf, clauseIn, startsIn, breaksIn, nextIn, Parted};
 use crate::machine::run;
 use crate::machine::value;

@@ -1,7 +1,6 @@
 // Declarations, and the clauses `start` and `keep`.
 ghost use mathlib.Core.Path.{_≡_};
-ghost use Prim.Native.Nat.{_+_, _≤_, _<_};
-ghost use lib.ListN.{length};
+ghost use Prim.Native.Nat.{_+_, _<_};
 ghost use Rattle.reader.specs.working.Cursors.{Ready};
 ghost use Rattle.reader.specs.working.Clauses.{Listing, NameSays, NamesSay, listAt, SegmentSays, ClauseSays};
 use crate::cursor::Cursor;

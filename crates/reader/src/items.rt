@@ -4,7 +4,7 @@ ghost use Prim.Native.Nat.{_<_};
 ghost use mathlib.Core.Bool.{true, false};
 ghost use Rattle.reader.specs.working.Cursors.{Ready};
 ghost use Rattle.reader.specs.working.Expressions.{roomed};
-ghost use Rattle.reader.specs.working.Items.{Skipped, Marked, SaysAssign, assignAt, SaysRowItem, rowItemAt, SaysRowItems, rowItemsAt, SaysItem, itemAt, SaysItems, itemsAt};
+ghost use Rattle.reader.specs.working.Items.{Skipped, Marked, SaysAssign, SaysRowItem, rowItemAt, SaysRowItems, rowItemsAt, SaysItem, itemAt, SaysItems, itemsAt};
 use crate::cursor::Cursor;
 use crate::cursor::Ledger;
 use crate::cursor::Parsed;

@@ -2,7 +2,7 @@
 ghost use mathlib.Core.Path.{_≡_};
 ghost use mathlib.Core.Bool.{cond};
 ghost use Prim.Native.Nat.{_+_, _-_, _≤_, _<_, _^_};
-ghost use lib.ListN.{length, set};
+ghost use lib.ListN.{set};
 ghost use Rattle.notation.specs.Bytes.{sameWord};
 ghost use Rattle.notation.specs.Texts.{placeOf};
 ghost use Rattle.reader.specs.working.Pieces.{nameIn, Fresh};

@@ -7,8 +7,8 @@ ghost use Rattle.reporting.specs.Reports.{unsafeLine, startLine, stepLin
 ghost use Rattle.reporting.specs.working.Writing.{nameIn, Named, recordLine, runLines, Shown};
 use crate::names::Names;
 use crate::names::put_name;
-use acceptance::sheets::two_at;
-use acceptance::sheets::wide;
+use acceptance::fields::two_at;
+use acceptance::fields::wide;
 use lines::put;
 use lines::put_number;
 

@@ -13,7 +13,7 @@ ghost use Rattle.acceptance.specs.working.Shapes.{Few};
 ghost use Rattle.acceptance.specs.working.Test.{systemIn};
 ghost use Rattle.exploration.specs.working.Found.{foundIn, transitionsOf};
 ghost use Rattle.search.specs.working.Searching.{leftWith, Leaves, searchFor, searchOf};
-use acceptance::sheets::map_length;
+use acceptance::fields::map_length;
 use evaluation::numbers::power;
 use exploring::run;
 use finding::Finding;

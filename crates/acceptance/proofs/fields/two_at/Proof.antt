@@ -3,8 +3,8 @@
 use Rattle.acceptance.specs.SheetTexts.{twoAt}
 use native.Mathlib.Omega.{arith}
 use borrow.Author.Needs.{needs}
-use Rattle.acceptance.proofs.sheets.two_at.Statement.{statement}
-use Rattle.acceptance.proofs.sheets.two_at.Tie as tie
+use Rattle.acceptance.proofs.fields.two_at.Statement.{statement}
+use Rattle.acceptance.proofs.fields.two_at.Tie as tie
 
 shared-slice-read-wide : tie.Need-shared-slice-read-wide
 shared-slice-read-wide c = search needs

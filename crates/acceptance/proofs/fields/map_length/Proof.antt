@@ -1,8 +1,8 @@
 -- `map_length` meets its contract: the greater of 1 and an eighth of the states.
 -- Assumes nothing.
 use Rattle.acceptance.proofs.SheetLaws.{length-one, length-many}
-use Rattle.acceptance.proofs.sheets.map_length.Statement.{statement}
-use Rattle.acceptance.proofs.sheets.map_length.Tie as tie
+use Rattle.acceptance.proofs.fields.map_length.Statement.{statement}
+use Rattle.acceptance.proofs.fields.map_length.Tie as tie
 
 returns : tie.Need-returns
 returns c = length-one _ (c .if1 .taken)

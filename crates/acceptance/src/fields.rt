@@ -1,0 +1,31 @@
+// Numbers in a sheet's bytes, and how long a map is: what the crates above need of sheets too.
+ghost use mathlib.Core.Path.{_≡_};
+ghost use Prim.Native.Nat.{_+_, _<_, _≤_};
+ghost use Rattle.acceptance.specs.Sheets.{mapLength};
+ghost use Rattle.acceptance.specs.SheetTexts.{twoAt};
+
+// A byte as a number.
+pub fn wide(x: u8) -> usize
+    ensures { λ r. ⌜ (r ≡ x) × (r < 256) ⌝ }
+{
+    x as usize
+}
+
+// The two-byte number at p.
+pub fn two_at(b: &[u8], p: usize) -> usize
+    requires { do ⌜ p + 2 ≤ (← ⟦b.len()⟧) ⌝ }
+    ensures { λ r. ⌜ (r ≡ twoAt (now (b .entry)) p) × (r < 65536) ⌝ }
+{
+    wide(b[p]) + 256 * wide(b[p + 1])
+}
+
+// How many bytes a map has.
+pub fn map_length(states: usize) -> usize
+    ensures { λ r. ⌜ r ≡ mapLength states ⌝ }
+{
+    let n = states / 8;
+    if n == 0 {
+        return 1;
+    }
+    n
+}
