@@ -1,4 +1,4 @@
--- A step keeps the number of bits in a state.
+-- A step keeps the number of bits in a state, and so does a run.
 -- Assumes nothing.
 use mathlib.Core.Path.{_≡_, refl, _∙_}
 use mathlib.Core.Bool.{Bool}
@@ -6,7 +6,8 @@ use mathlib.Core.List.{List, [], _∷_}
 use Prim.Native.Nat.{ℕ}
 use lib.ListN.{length, set, length-set}
 use Rattle.notation.specs.Model.{RowItem, skipRow, putRow, Item, skip, put, for, Command, Model}
-use Rattle.meaning.specs.Meaning.{State, Choice, rowScope, eval, runRow, runItem, runItems, step, Fits}
+use Rattle.meaning.specs.Meaning.{State, Choice, Move, rowScope, eval, runRow, runItem, runItems, step, commandAt, Fits, AreSteps, last}
+use Rattle.meaning.specs.Rows.{RunsFit}
 
 pub row-length : (c : ℕ → Bool) (g : List Bool) (xs : List RowItem) (r : List Bool) → length (runRow c g xs r) ≡ length r
 unfolding runRow
@@ -29,3 +30,10 @@ module _ {I : Type 0} (m : Model) (c : Choice I) where
   pub step-fits : (k : Command) (s : State I) → Fits m s → Fits m (step k c s)
   unfolding step
   step-fits k s h = items-fit _ s h
+
+steps-fit : {I : Type 0} (m : Model) (s : State I) (xs : List (Move I)) → Fits m s → AreSteps m s xs → Fits m (last s xs)
+steps-fit m s [] h q = h
+steps-fit m s (x ∷ xs) h q = steps-fit m (x .after) xs (rw (q .1) (step-fits m (x .choice) (commandAt m (x .command)) s h)) (q .2)
+
+pub runs-fit : RunsFit
+runs-fit m n s xs r = steps-fit m s xs (r .start .fits) (r .steps)

@@ -2,13 +2,13 @@
 -- Assumes nothing.
 use mathlib.Core.Path.{_≡_, refl, sym, ap, _∙_}
 use mathlib.Core.Logic.{inl, inr}
-use mathlib.Core.Bool.{Bool, false, true≢false}
+use mathlib.Core.Bool.{Bool, true, false, true≢false}
 use mathlib.Core.List.{List, [], _∷_}
-use Prim.Native.Nat.{ℕ, zero, suc, _<_, zero-le}
+use Prim.Native.Nat.{ℕ, zero, suc, _<_, zero-le, suc-le-suc}
 use native.Mathlib.Nat.{not-suc-le-zero}
 use native.Mathlib.Omega.{arith}
 use lib.Dec.{lit<}
-use lib.ListN.{getD, set}
+use lib.ListN.{length, getD, set}
 use Rattle.notation.specs.Bytes.{bytes, sameWord}
 use Rattle.notation.specs.Tokens.{reserved, wordIn, wordToken}
 use Rattle.notation.specs.Rules.{sameKind, allowed, nameCounts, has, elem}
@@ -16,10 +16,10 @@ use Rattle.notation.specs.Rules as R
 use Rattle.notation.specs.Model.{starsExpr, starsItems, stars}
 use Rattle.notation.specs.Texts.{TextSays, exprOf, rowItemOf, rowItemsOf, itemOf, itemsOf, commandOf, clauseOf, modelOf, placeOf, among, nameOf}
 use Rattle.meaning.specs.Bits.{bit, number}
-use Rattle.meaning.specs.Meaning.{State, Move, eval, runRow, runItem, runItems, step, commandAt, Breaks, AreSteps, last, Choice}
+use Rattle.meaning.specs.Meaning.{Row, State, Move, eval, runRow, runItem, runItems, step, commandAt, eachOf, Breaks, AreSteps, last, Choice}
 use Rattle.meaning.specs.OneRow.{One, theRow, stateNumber, spread, spreadWord, starts, breaks, next, lastOf}
 use Rattle.meaning.specs.Evidence.{inMap, safe, NotFromZero}
-use Rattle.meaning.specs.Readings.{StarByRow, ConditionByRow, ItemsInOrder, BreakAtStart, cured, UnreachedMember, still, ZeroRows, barred, barredText}
+use Rattle.meaning.specs.Readings.{StarByRow, ConditionByRow, ItemsInOrder, RowsByThemselves, parting, unlike, parts, upper, BreakAtStart, cured, UnreachedMember, still, ZeroRows, barred, barredText}
 use Rattle.meaning.specs.working.Conditions.{every, implies, testA, testB, wordsStay, closedAt, testC}
 use Rattle.meaning.proofs.Accept.{all-tests-tell}
 use Rattle.meaning.proofs.Number.{spread-stateNumber}
@@ -43,6 +43,32 @@ condition-by-row = (refl, refl)
 pub items-in-order : ItemsInOrder
 unfolding step runItems runItem runRow eval
 items-in-order = (refl, refl, refl)
+
+unlike-fits : (i : Row 2) → length (unlike .rows i) ≡ 2
+unlike-fits (zero, h) = refl
+unlike-fits (suc n, h) = refl
+
+unlike-starts : (i : Row 2) → eachOf (parting .start) unlike i ≡ true
+unfolding eval
+unlike-starts (zero, h) = refl
+unlike-starts (suc n, h) = refl
+
+parts-rows : (i : Row 2) → parts .after .rows i ≡ step (commandAt parting 0) (parts .choice) unlike .rows i
+unfolding step runItems runItem runRow eval
+parts-rows (zero, h) = refl
+parts-rows (suc n, h) = refl
+
+pub rows-by-themselves : RowsByThemselves
+unfolding step runItems runItem runRow eval
+rows-by-themselves =
+    record {
+      run = record {
+        start = record { fits = record { sharedBits = refl; rowBits = unlike-fits }; whole = refl; each = unlike-starts };
+        steps = (suc-le-suc zero-le, (λ t. record { shared = []; rows = λ i. parts-rows i t }), tt);
+      };
+      breaks = inr (upper, refl);
+      lowerKeeps = refl;
+    }
 
 -- Whatever it was, bit 0 is false once it was set to false.
 cleared : (g : List Bool) → getD (set g 0 false) 0 false ≡ false

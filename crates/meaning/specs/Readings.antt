@@ -4,11 +4,10 @@ use mathlib.Core.Path.{_≡_}
 use mathlib.Core.Bool.{Bool, true, false}
 use mathlib.Core.List.{List, [], _∷_}
 use Prim.Native.Nat.{ℕ, zero, suc, zero-le, suc-le-suc}
-use lib.Dec.{eqb}
 use Rattle.notation.specs.Bytes.{bytes}
 use Rattle.notation.specs.Model.{Expr, lit, star, shared, row, neg, skipRow, putRow, Item, skip, put, for, Command, Clause, Model}
 use Rattle.notation.specs.Texts.{TextSays}
-use Rattle.meaning.specs.Meaning.{Row, State, Choice, Move, step, IsStart, Breaks, IsRun, last, Unsafe}
+use Rattle.meaning.specs.Meaning.{Row, State, Choice, Move, step, eachOf, IsStart, Breaks, IsRun, last, Unsafe}
 use Rattle.meaning.specs.OneRow.{One, stateNumber}
 use Rattle.meaning.specs.Evidence.{safe, trace, ConditionA, ConditionB, ConditionC, Passes}
 
@@ -24,7 +23,7 @@ table g r q = record { shared = g; rows = λ i. elim (i .0) [ zero ↦ r | suc n
 
 -- Stars come out true in the upper row and false in the lower.
 abbrev pub apart : Choice (Row 2)
-apart = record { outer = λ j. true; inner = λ i j. eqb (i .0) 0 }
+apart = record { outer = λ j. true; inner = λ i j. elim (i .0) [ zero ↦ true | suc n ↦ false ] }
 
 -- The command that runs these items, whatever the state.
 abbrev pub always : List Item → Command
@@ -52,6 +51,28 @@ afterCopies =
 
 abbrev pub ItemsInOrder : Type 0
 ItemsInOrder = (afterCopies .shared ≡ true ∷ true ∷ []) × (afterCopies .rows upper ≡ true ∷ true ∷ []) × (afterCopies .rows lower ≡ false ∷ false ∷ [])
+
+-- Astray: the rows of a run begin alike, or choose alike, or break all together. Here they begin unlike and choose unlike, and one of them breaks.
+abbrev pub parting : Model
+parting =
+    record {
+      sharedNames = 0;
+      rowNames = 2;
+      start = record { whole = lit true; each = neg (row 0) };
+      keep = record { whole = lit true; each = neg (row 0) };
+      commands = always (for (row 1) (putRow 0 (star 0) ∷ []) (putRow 0 (star 0) ∷ []) ∷ []) ∷ [];
+    }
+
+abbrev pub unlike : State (Row 2)
+unlike = table [] (false ∷ true ∷ []) (false ∷ false ∷ [])
+
+abbrev pub parts : Move (Row 2)
+parts = record { command = 0; choice = apart; after = table [] (true ∷ true ∷ []) (false ∷ false ∷ []) }
+
+pub record RowsByThemselves : Type 0 where
+  pub run : IsRun parting unlike (parts ∷ [])
+  pub breaks : Breaks parting (last unlike (parts ∷ []))
+  pub lowerKeeps : eachOf (parting .keep) (last unlike (parts ∷ [])) lower ≡ true
 
 -- A clause that only speaks of shared names, and a model with one shared name, no row names and one command.
 abbrev pub sharedClause : Expr → Clause

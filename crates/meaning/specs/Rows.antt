@@ -6,7 +6,7 @@ use Prim.Native.Nat.{ℕ, _<_}
 use lib.ListN.{length}
 use Rattle.notation.specs.Model.{Model}
 use Rattle.notation.specs.Regular.{Regular}
-use Rattle.meaning.specs.Meaning.{Row, State, Choice, step, commandAt, Safe, Unsafe}
+use Rattle.meaning.specs.Meaning.{Row, State, Choice, Move, step, commandAt, Fits, IsRun, last, Safe, Unsafe}
 use Rattle.meaning.specs.OneRow.{One, spreadWord, wordCount, TraceStep}
 use Rattle.meaning.specs.Evidence.{MapPasses, TracePasses, TraceHolds}
 
@@ -21,6 +21,10 @@ Projection =
     → (w : ℕ)
     × (w < wordCount (commandAt m k))
     × ((s : State (Row n)) → only i (step (commandAt m k) c s) ≡ step (commandAt m k) (spreadWord One w) (only i s))
+
+-- Every state that a run reaches has exactly one bit for every name of the model, in each row.
+abbrev pub RunsFit : Type 0
+RunsFit = (m : Model) (n : ℕ) (s : State (Row n)) (xs : List (Move (Row n))) → IsRun m s xs → Fits m (last s xs)
 
 -- Where a map passes, tables of every size are safe.
 abbrev pub MapsHold : Type 0
