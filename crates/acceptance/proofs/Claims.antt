@@ -103,6 +103,7 @@ text-comes-first text n i refused b = ap (λ (o : N.Outcome). wordingOf (testIn 
 pub claim-of-test : ClaimOfTest
 claim-of-test text m says b hb n₁ n₂ h₁ h₂ =
     record {
+      means = test-tells text m says b hb;
       safeSheet = λ e. let (map, says-map, passes) = pass-tells text m says b hb .safeSheet .0 e in (map, says-map, claim text m says (safe map) passes n₁ n₂ h₁ h₂);
       traceSheet = λ e.
           let (s, xs, says-trace, passes) = pass-tells text m says b hb .traceSheet .0 e in (s, xs, says-trace, claim text m says (trace s xs) passes n₁ n₂ h₁ h₂);

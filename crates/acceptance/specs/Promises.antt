@@ -88,14 +88,15 @@ Bounded (returned n p) = (1 ≤ n) × (n ≤ 10) × (p ≤ longest)
 abbrev pub AnswersBounded : Type 0
 AnswersBounded = (text b : List ℕ) → Bounded (answerTo text b)
 
--- The claim, said of the test: where it answers that a sheet holds, what the bytes say holds of both tables,
--- and for no text of the model and no bytes does it answer that a sheet of the other kind holds.
+-- The claim, said of the test: each answer is given exactly where it is due; where the answer is that a sheet holds, what the bytes say
+-- holds of both tables; and for no text of the model and no bytes is the answer that a sheet of the other kind holds.
 pub record TestPromise (text : List ℕ) (m : Model) (b : List ℕ) (n₁ n₂ : ℕ) : Type 0 where
+  pub means : TestMeans m b (answerTo text b)
   pub safeSheet : answerTo text b ≡ words "safe holds" → MapThat m b λ map. Promise m (safe map) n₁ n₂
   pub traceSheet : answerTo text b ≡ words "trace holds" → TraceThat m b λ s xs. Promise m (trace s xs) n₁ n₂
   pub oneKind : (other c : List ℕ) → TextSays other m → AreBytes c → answerTo text b ≡ words "safe holds" → ¬ (answerTo other c ≡ words "trace holds")
 
--- For every text, the model that it says, all bytes, and all pairs of tables of one row or more.
+-- For every text, the model that it says, all bytes, and all pairs of tables of one row or more. Whatever `test` is handed are bytes: its contract says so.
 abbrev pub ClaimOfTest : Type 0
 ClaimOfTest =
     (text : List ℕ) (m : Model) → TextSays text m → (b : List ℕ) → AreBytes b → (n₁ n₂ : ℕ) → 1 ≤ n₁ → 1 ≤ n₂ → TestPromise text m b n₁ n₂

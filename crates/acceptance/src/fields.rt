@@ -2,7 +2,17 @@
 ghost use mathlib.Core.Path.{_≡_};
 ghost use Prim.Native.Nat.{_+_, _<_, _≤_};
 ghost use Rattle.acceptance.specs.Sheets.{mapLength};
-ghost use Rattle.acceptance.specs.SheetTexts.{twoAt};
+ghost use Rattle.acceptance.specs.SheetTexts.{twoAt, AreBytes};
+
+// That what was handed over are bytes: to have read one of them tells it of all.
+pub fn bytes_known(b: &[u8])
+    ensures { λ _. ⌜ AreBytes (now (b .entry)) ⌝ }
+{
+    if b.len() == 0 {
+        return;
+    }
+    let first = b[0];
+}
 
 // A byte as a number.
 pub fn wide(x: u8) -> usize

@@ -8,9 +8,11 @@ mod traces;
 ghost use mathlib.Core.Path.{_≡_};
 ghost use Prim.Native.Nat.{_+_, _≤_};
 ghost use Rattle.evaluation.specs.working.CodeSystem.{Parted};
+ghost use Rattle.acceptance.specs.SheetTexts.{AreBytes};
 ghost use Rattle.acceptance.specs.working.Shapes.{Few};
 ghost use Rattle.acceptance.specs.working.Test.{systemIn, outcomeOf, testOf};
 use evaluation::numbers::power;
+use fields::bytes_known;
 use fields::map_length;
 use maps::test_map;
 use outcome::Outcome;
@@ -51,10 +53,12 @@ fn test_sheet(
     }
 }
 
-// What the test answers for a text and a sheet.
+// What the test answers for a text and a sheet. Its promises are about bytes, and what it is handed are bytes.
 pub fn test(text: &[u8], sheet: &[u8]) -> Outcome
     ensures { λ r. ⌜ r ≡ testOf (now (text .entry)) (now (sheet .entry)) ⌝ }
+    ensures bytes { λ _. ⌜ AreBytes (now (sheet .entry)) ⌝ }
 {
+    bytes_known(sheet);
     let reading = read(text);
     let answer = reading.answer;
     match answer {

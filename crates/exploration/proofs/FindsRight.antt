@@ -1,12 +1,12 @@
 -- The sheet that the search finds is what there is to find of the model.
 -- Assumes nothing.
 use mathlib.Core.Path.{_≡_, sym, ap, _∙_, subst}
-use mathlib.Core.Logic.{_↔_}
+use mathlib.Core.Logic.{_↔_, ⊎-elim}
 use mathlib.Core.Bool.{Bool, true, false, false≢true}
 use mathlib.Core.List.{List, map}
 use Prim.Native.Nat.{ℕ, _+_, _*_, _^_, _<_, _≤_}
 use native.Mathlib.Omega.{arith}
-use lib.ListN.{getD}
+use lib.ListN.{length, getD}
 use Rattle.notation.specs.Model.{Model}
 use Rattle.notation.specs.Regular.{Regular}
 use Rattle.meaning.specs.Meaning.{Safe, Unsafe}
@@ -18,14 +18,15 @@ use Rattle.acceptance.proofs.SheetOpened.{eighths}
 use Rattle.exploration.specs.Findings.{Reaches, ExactMap, FirstBreak, Finds}
 use Rattle.exploration.specs.Promises.{FoundIsRight}
 use Rattle.exploration.specs.working.Transitions.{Transitions}
-use Rattle.exploration.specs.working.Runs.{Run, startsAt, First, startOf}
+use Rattle.exploration.specs.working.Runs.{Run, startsAt, First, steps, startOf}
 use Rattle.exploration.specs.working.Verdicts.{Verdict, firstRun, reached, verdict, AllReached, Right}
 use Rattle.exploration.specs.working.Written.{mapFrom}
 use Rattle.exploration.specs.working.Found.{stepsOf, sheetFor, foundIn, Agrees}
 use Rattle.exploration.proofs.Right.{verdict-right}
 use Rattle.exploration.proofs.Map.{map-length}
 use Rattle.exploration.proofs.RunsOfModels.{onBy, lawful, trace-passes, run-reaches, trace-valid, trace-breaks, run-told, reaches-run, break-told}
-use Rattle.exploration.proofs.TracesInOrder.{run-before}
+use Rattle.exploration.proofs.Order.{lt-or-ge, shorter}
+use Rattle.exploration.proofs.TracesInOrder.{run-before, steps-count}
 use Rattle.exploration.proofs.MapsFound.{map-bytes, map-has, map-clear}
 
 -- A trace that passes is a run of the table of one row that goes wrong.
@@ -37,13 +38,19 @@ unfolding mapLength
 some-byte states = omega arith
 
 module _ (T : Transitions) (m : Model) (A : Agrees T m) where
-  first-break : (r : Run) → First T r → FirstBreak m (startOf r) (stepsOf T r)
-  first-break r F =
+  first-break : Regular m → (r : Run) → First T r → FirstBreak m (startOf r) (stepsOf T r)
+  first-break g r F =
       record {
         breaks = trace-passes T m A r (F .valid) (F .breaking);
         first = λ t ys p h.
             false≢true
             (sym (F .first (onBy (startsAt t) ys) (trace-valid T m A t ys p) (run-before T t ys r h)) ∙ trace-breaks T m A t ys p);
+        shortest = λ q ys run b.
+            let t = run-told T m A g q ys run in
+            ⊎-elim
+            (λ (h : steps (t .run) < steps r). absurd (false≢true (sym (F .first (t .run) (t .valid) (shorter (t .run) r h)) ∙ break-told T m A g q ys run b)))
+            (λ (h : steps r ≤ steps (t .run)). omega (arith, t .long, steps-count T r))
+            (lt-or-ge (steps (t .run)) (steps r));
       }
 
   module _ (g : Regular m) (b : List Bool) (R : AllReached T b) where
@@ -81,7 +88,7 @@ module _ (T : Transitions) (m : Model) (A : Agrees T m) where
 
   finds-for : Regular m → (v : Verdict) → Right T v → Finds m (sheetFor T v)
   unfolding sheetFor found
-  finds-for g (firstRun r) F = let f = first-break r F in (trace-unsafe m (startOf r) (stepsOf T r) (f .breaks), f)
+  finds-for g (firstRun r) F = let f = first-break g r F in (trace-unsafe m (startOf r) (stepsOf T r) (f .breaks), f)
   finds-for g (reached b) R = (all-safe g b R, exact-map g b R)
 
 pub finds-right : FoundIsRight

@@ -3,7 +3,8 @@
 use mathlib.Core.Path.{_≡_, refl, sym, ap, _∙_, subst}
 use mathlib.Core.Bool.{true}
 use mathlib.Core.List.{List, [], _∷_, map}
-use Prim.Native.Nat.{ℕ, _<_}
+use Prim.Native.Nat.{ℕ, suc, _+_, _<_}
+use native.Mathlib.Omega.{arith}
 use lib.ListN.{length}
 use borrow.Author.Tests.{eqb-true}
 use Rattle.notation.specs.Model.{Model, stars}
@@ -20,7 +21,7 @@ use Rattle.meaning.proofs.OneRow.{and-split, starts-tell, breaks-tell, next-sta
 use Rattle.meaning.proofs.Accept.{all-tests-tell}
 use Rattle.exploration.specs.Findings.{Reaches}
 use Rattle.exploration.specs.working.Transitions.{Transitions, Lawful, moveOf}
-use Rattle.exploration.specs.working.Runs.{Run, startsAt, goesOn, final, Valid, startOf}
+use Rattle.exploration.specs.working.Runs.{Run, startsAt, goesOn, final, Valid, steps, startOf}
 use Rattle.exploration.specs.working.Verdicts.{Reached}
 use Rattle.exploration.specs.working.Found.{stepsOf, Agrees}
 use Rattle.exploration.proofs.TraceSteps.{every-snoc, last-snoc, tests-snoc}
@@ -150,9 +151,10 @@ module _ (T : Transitions) (m : Model) (A : Agrees T m) where
         ∙ all-tests-tell m .tellsF s xs .1 (p .breaks)
 
   -- A run of the table of one row gives a run to the number of its last state.
-  pub record Told (s : State One) : Type 0 where
+  pub record Told (s : State One) (n : ℕ) : Type 0 where
     pub run : Run
     pub valid : Valid T run
+    pub long : steps run ≡ n
     pub ends : final T run ≡ stateNumber s
     pub fits : Fits m s
 
@@ -160,13 +162,14 @@ module _ (T : Transitions) (m : Model) (A : Agrees T m) where
     numbered-at : (k : ℕ) → k < length (m .commands) → NumberedFrom 0 (stars (commandAt m k))
     numbered-at k h = every-at _ (m .commands) idle k (g .numbered) h
 
-    told-step : (s : State One) → Told s → (k : ℕ) (c : Choice One) → k < length (m .commands) → Told (step (commandAt m k) c s)
+    told-step : (s : State One) (n : ℕ) → Told s n → (k : ℕ) (c : Choice One) → k < length (m .commands) → Told (step (commandAt m k) c s) (suc n)
     unfolding next
-    told-step s t k c h =
+    told-step s n t k c h =
         let w = wordOf (commandAt m k) c in
         record {
           run = goesOn (t .run) (moveOf k w);
           valid = (t .valid, (of-command h, of-word h (wordOf-lt (commandAt m k) c)));
+          long = ap suc (t .long);
           ends = A .step (final T (t .run)) k w (final-below (t .run) (t .valid)) h
               ∙ ap (λ (n : ℕ). next m n k w) (t .ends)
               ∙ ap (λ (q : State One). stateNumber (step (commandAt m k) (spreadWord One w) q)) (spread-stateNumber m s (t .fits))
@@ -174,22 +177,26 @@ module _ (T : Transitions) (m : Model) (A : Agrees T m) where
           fits = step-fits m c (commandAt m k) s (t .fits);
         }
 
-    told-last : (s : State One) (xs : List (Move One)) → Told s → AreSteps m s xs → Told (last s xs)
-    told-last s [] t q = t
-    told-last s (x ∷ xs) t q = told-last (x .after) xs (subst Told (sym (q .1)) (told-step s t (x .command) (x .choice) (q .0))) (q .2)
+    told-last : (s : State One) (n : ℕ) (xs : List (Move One)) → Told s n → AreSteps m s xs → Told (last s xs) (n + length xs)
+    told-last s n [] t q = subst (Told s) (omega arith) t
+    told-last s n (x ∷ xs) t q =
+        subst (Told (last (x .after) xs)) (omega arith)
+        (told-last (x .after) (suc n) xs (subst (λ (y : State One). Told y (suc n)) (sym (q .1)) (told-step s n t (x .command) (x .choice) (q .0))) (q .2))
 
-    pub run-told : (s : State One) (xs : List (Move One)) → IsRun m s xs → Told (last s xs)
+    pub run-told : (s : State One) (xs : List (Move One)) → IsRun m s xs → Told (last s xs) (length xs)
     run-told s xs r =
         let f = r .start .fits in
         let n = stateNumber s in
-        told-last s xs
+        subst (Told (last s xs)) (omega arith)
+        (told-last s 0 xs
         (record {
           run = startsAt n;
           valid = start-valid n (stateNumber-lt m s f) (starts-tell m n .1 (rw (spread-stateNumber m s f) (r .start)));
+          long = refl;
           ends = refl;
           fits = f;
         })
-        (r .steps)
+        (r .steps))
 
     pub reaches-run : (t : ℕ) → Reaches m t → Reached T t
     reaches-run t (s, xs, r, e) =

@@ -4,10 +4,10 @@ use mathlib.Core.Path.{_≡_}
 use mathlib.Core.Logic.{_↔_}
 use mathlib.Core.Bool.{true}
 use mathlib.Core.List.{List}
-use Prim.Native.Nat.{ℕ, _<_}
+use Prim.Native.Nat.{ℕ, _<_, _≤_}
 use lib.ListN.{length, getD}
 use Rattle.notation.specs.Model.{Model}
-use Rattle.meaning.specs.Meaning.{State, Move, IsRun, last, Safe, Unsafe}
+use Rattle.meaning.specs.Meaning.{State, Move, IsRun, Breaks, last, Safe, Unsafe}
 use Rattle.meaning.specs.OneRow.{One, stateNumber, stateCount, TraceStep}
 use Rattle.meaning.specs.Evidence.{Sheet, safe, trace, inMap, TracePasses}
 use Rattle.acceptance.specs.Sheets.{mapLength}
@@ -29,6 +29,7 @@ pub record ExactMap (m : Model) (map : List ℕ) : Type 0 where
 pub record FirstBreak (m : Model) (s : ℕ) (xs : List TraceStep) : Type 0 where
   pub breaks : TracePasses m s xs
   pub first : (t : ℕ) (ys : List TraceStep) → TracePasses m t ys → ¬ (RunBefore t ys s xs)
+  pub shortest : (q : State One) (ys : List (Move One)) → IsRun m q ys → Breaks m (last q ys) → length xs ≤ length ys
 
 -- What the search finds: a map where no run goes wrong, the first run that goes wrong where one does.
 abbrev pub Finds : Model → Sheet → Type 0

@@ -4,6 +4,7 @@ ghost use mathlib.Core.Path.{_≡_};
 ghost use Prim.Native.Nat.{_+_, _≤_};
 ghost use Rattle.acceptance.specs.Outcomes.{wordingOf};
 ghost use Rattle.acceptance.specs.Promises.{answerTo, Bounded};
+ghost use Rattle.acceptance.specs.SheetTexts.{AreBytes};
 ghost use Rattle.loader.specs.Numbers.{testNumber, modelNumber, readNumber};
 use acceptance::outcome::Outcome;
 use acceptance::test;
@@ -33,6 +34,7 @@ fn outcome_number(outcome: Outcome) -> u64
 #[no_mangle]
 pub extern "C" fn nutseason_test(text: &[u8], sheet: &[u8]) -> u64
     ensures { λ r. ⌜ r ≡ testNumber (answerTo (now (text .entry)) (now (sheet .entry))) ⌝ }
+    ensures bytes { λ _. ⌜ AreBytes (now (sheet .entry)) ⌝ }
 {
     outcome_number(test(text, sheet))
 }

@@ -13,7 +13,7 @@ use Rattle.notation.specs.Tokens.{Lexeme, Cut}
 use Rattle.notation.specs.Notation.{Tree}
 use Rattle.notation.specs.Model.{Model}
 use Rattle.notation.specs.Texts.{longestText, modelOf, TextSaysTree, TextSays, TextRefused, tooLong, inside}
-use Rattle.notation.specs.Promises.{OneModel, OneAnswer, SaysIffAnswer, RefusedIffAnswer}
+use Rattle.notation.specs.Promises.{OneTree, OneModel, OneAnswer, SaysIffAnswer, RefusedIffAnswer}
 use Rattle.notation.specs.working.Lexing.{choose, tokens}
 use Rattle.notation.specs.working.Machine.{Outcome, read, refused, reading}
 use Rattle.notation.specs.working.Answer.{answer}
@@ -54,11 +54,11 @@ answer-right text = go (leb (length text) longestText) refl
     go false e = tooLong (leb-false _ _ e)
 
 -- No text says two trees, and none says two models.
-pub one-tree : {text : List ℕ} {x y : Tree} → TextSaysTree text x → TextSaysTree text y → x ≡ y
-one-tree s t = let e = says-answer s in let f = says-answer t in cc
+pub one-tree : OneTree
+one-tree text x y s t = let e = says-answer s in let f = says-answer t in cc
 
 pub one-model : OneModel
-one-model text m n s t = sym (s .meant) ∙ ap modelOf (one-tree (s .says) (t .says)) ∙ t .meant
+one-model text m n s t = sym (s .meant) ∙ ap modelOf (one-tree text _ _ (s .says) (t .says)) ∙ t .meant
 
 pub says-iff-answer : SaysIffAnswer
 says-iff-answer text x = (says-answer, λ e. subst (Right text) e (answer-right text))

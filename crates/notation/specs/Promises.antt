@@ -13,6 +13,10 @@ use Rattle.notation.specs.Texts.{TextSaysTree, TextSays, TextRefused, lo
 use Rattle.notation.specs.working.Machine.{read, refused}
 use Rattle.notation.specs.working.Answer.{answer}
 
+-- No text says two trees: what it says is one down to the names and the places where they stand.
+abbrev pub OneTree : Type 0
+OneTree = (text : List ℕ) (x y : Tree) → TextSaysTree text x → TextSaysTree text y → x ≡ y
+
 -- No text says two models.
 abbrev pub OneModel : Type 0
 OneModel = (text : List ℕ) (m n : Model) → TextSays text m → TextSays text n → m ≡ n
@@ -33,7 +37,7 @@ SaysIffAnswer = (text : List ℕ) (x : Tree) → TextSaysTree text x ↔ (answer
 abbrev pub RefusedIffAnswer : Type 0
 RefusedIffAnswer = (text : List ℕ) (n i : ℕ) → TextRefused text n i ↔ (answer text ≡ refused n i)
 
--- A model that a text says has its names in range, its stars numbered in text order and its counts within the limits.
+-- A model that a text says has its names in range, its stars numbered in text order, and no more names, commands and stars than the limits allow.
 abbrev pub AllRegular : Type 0
 AllRegular = (text : List ℕ) (m : Model) → TextSays text m → Regular m
 

@@ -24,10 +24,11 @@ module _ (text : List ℕ) (x : Tree) (says : TextSaysTree text x) where
   unfolding reportIn
   found-lines = ap reportIn (says-answer says)
 
+  some : Finds (modelOf x) (foundFor (modelOf x))
+  some = finds (modelOf x) (all-regular text (modelOf x) (record { tree = x; says = says; meant = refl }))
+
   found : (s : Sheet) → Finds (modelOf x) s → foundFor (modelOf x) ≡ s
-  found s F =
-      finds-once (modelOf x) (foundFor (modelOf x)) s
-      (finds (modelOf x) (all-regular text (modelOf x) (record { tree = x; says = says; meant = refl }))) F
+  found s F = finds-once (modelOf x) (foundFor (modelOf x)) s some F
 
 pub refused-lines : (text : List ℕ) (n i : ℕ) → answer text ≡ refused n i → reportOf text ≡ refusalLine n i
 unfolding reportIn
@@ -36,6 +37,7 @@ refused-lines text n i e = ap reportIn e
 pub report-tells : ReportTells
 report-tells text =
     record {
+      some = λ x says. (foundFor (modelOf x), some text x says);
       finds = λ x s says F. found-lines text x says ∙ ap (reportLines x) (found text x says s F);
       refuses = λ n i r. refused-lines text n i (refused-answer r);
     }

@@ -18,7 +18,8 @@ use Rattle.acceptance.specs.Sheets.{systemOf, sheetBytes}
 use Rattle.search.specs.declared.finding.Finding.{Finding}
 use Rattle.search.specs.declared.finding.Finding.the-variants.{Safe, Unsafe, Refused}
 use Rattle.search.specs.Promises.{Room}
-use Rattle.search.specs.working.Searching.{Left, verdictOf, leftWith, searchOf, searchIn}
+use Rattle.search.specs.Left.{Left}
+use Rattle.search.specs.working.Searching.{verdictOf, leftWith, searchOf, searchIn}
 use Rattle.search.proofs.SearchTells.{said, with-room}
 use Rattle.search.proofs.SheetsPass.{front}
 use Rattle.lines.specs.Lines.{refusalLine}

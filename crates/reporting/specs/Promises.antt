@@ -12,9 +12,10 @@ use Rattle.lines.specs.Lines.{refusalLine}
 use Rattle.reporting.specs.Reports.{reportLines, longestReport}
 use Rattle.reporting.specs.working.Reporting.{reportOf}
 
--- The report of a text that says a tree has the lines of what there is to find of the tree's model;
+-- There is something to find of the model of every tree that a text says, and the text's report has its lines;
 -- the report of a text that is refused is the line of its first refusal.
 pub record Tells (text : List ℕ) : Type 0 where
+  pub some : (x : Tree) → TextSaysTree text x → (s : Sheet) × Finds (modelOf x) s
   pub finds : (x : Tree) (s : Sheet) → TextSaysTree text x → Finds (modelOf x) s → reportOf text ≡ reportLines x s
   pub refuses : (n i : ℕ) → TextRefused text n i → reportOf text ≡ refusalLine n i
 

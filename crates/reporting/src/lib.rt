@@ -8,9 +8,10 @@ ghost use lib.Seq.{sets};
 ghost use Rattle.io.specs.Counts.{Counts};
 ghost use Rattle.lines.specs.Puts.{Fits, Puts};
 ghost use Rattle.reader.specs.Read.{readingOf};
+ghost use Rattle.search.specs.Left.{Leaves};
 ghost use Rattle.search.specs.working.Searching.{searchOf};
 ghost use Rattle.reporting.specs.Reports.{countsLine};
-ghost use Rattle.reporting.specs.working.Writing.{safeReport, traceReport, Printable, LeavesTo};
+ghost use Rattle.reporting.specs.working.Writing.{safeReport, traceReport, Printable};
 ghost use Rattle.reporting.specs.working.Reporting.{reportOf};
 use lines::put;
 use lines::put_number;
@@ -74,8 +75,9 @@ pub fn write_report(
     sheet: &mut Sheet,
     out: &mut Report,
 ) -> usize
-    ensures { λ r. ⌜ (now (out .exit) ≡ sets (now (out .entry)) 0 (reportOf (now (text .entry)))) × (r ≡ length (reportOf (now (text .entry)))) × LeavesTo (searchOf (now (text .entry)) (now (first .entry)) (now (second .entry)) (now (sheet .entry))) (now (first .exit)) (now (second .exit)) (now (sheet .exit)) ⌝ }
-    ensures { λ r. ⌜ Counts r (now (out .exit)) ⌝ }
+    ensures { λ r. ⌜ (now (out .exit) ≡ sets (now (out .entry)) 0 (reportOf (now (text .entry)))) × (r ≡ length (reportOf (now (text .entry)))) ⌝ }
+    ensures within { λ r. ⌜ Counts r (now (out .exit)) ⌝ }
+    ensures left { λ _. ⌜ Leaves (searchOf (now (text .entry)) (now (first .entry)) (now (second .entry)) (now (sheet .entry))) (now (first .exit)) (now (second .exit)) (now (sheet .exit)) ⌝ }
 {
     let found = search(text, first, second, sheet);
     match found {

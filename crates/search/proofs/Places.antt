@@ -16,7 +16,8 @@ use Rattle.acceptance.specs.Sheets.{systemOf, sheetBytes}
 use Rattle.search.specs.Answers.{wordingOf}
 use Rattle.search.specs.Promises.{answerOf, Bounded, AnswersBounded}
 use Rattle.exploration.specs.working.Found.{foundIn, transitionsOf}
-use Rattle.search.specs.working.Searching.{Left, roomy, verdictOf, searchOf}
+use Rattle.search.specs.Left.{Left}
+use Rattle.search.specs.working.Searching.{roomy, verdictOf, searchOf}
 use Rattle.search.proofs.SearchTells.{said, room-tells, own, with-room, search-tells, text-refused-first}
 use Rattle.exploration.proofs.FoundShort.{found-short}
 use Rattle.search.proofs.SheetsPass.{few}

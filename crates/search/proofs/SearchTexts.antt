@@ -27,7 +27,8 @@ use Rattle.acceptance.specs.working.Shapes.{Few}
 use Rattle.acceptance.specs.working.Test.{systemIn}
 use Rattle.acceptance.proofs.TestTexts.{counts, star-count, flat-code, flat}
 use Rattle.exploration.specs.working.Found.{foundIn, transitionsOf, Agrees}
-use Rattle.search.specs.working.Searching.{Left, roomy, zeroed, verdictOf, leftWith, leftAlone, Leaves, searchFor, searchIn, searchOf}
+use Rattle.search.specs.Left.{Left, zeroed}
+use Rattle.search.specs.working.Searching.{roomy, verdictOf, leftWith, leftAlone, Ends, searchFor, searchIn, searchOf}
 use Rattle.search.specs.declared.finding.Finding.{Finding}
 use Rattle.search.specs.declared.finding.Finding.the-variants.{Refused}
 use Rattle.exploration.proofs.FindsRight.{finds-right}
@@ -125,9 +126,9 @@ module _ (text : List ℕ) (r : Reading) where
 
     -- What is left for a text that was read is what is left over its code, and for one that was refused every buffer is as it was.
     pub search-read : A.Read ≡ r .answer → (a b c : List ℕ) (f : Finding) (a₁ b₁ c₁ : List ℕ)
-        → Leaves (searchFor (systemIn (r .code .shared) (r .code .row) (r .code .commands) (r .code .ops) (r .code .ends) (r .code .stars)) a b c) f a₁ b₁ c₁
-        → Leaves (searchOf text a b c) f a₁ b₁ c₁
-    search-read h a b c f a₁ b₁ c₁ l = subst (λ (L : Left). Leaves L f a₁ b₁ c₁) (was-read h .same a b c) l
+        → Ends (searchFor (systemIn (r .code .shared) (r .code .row) (r .code .commands) (r .code .ops) (r .code .ends) (r .code .stars)) a b c) f a₁ b₁ c₁
+        → Ends (searchOf text a b c) f a₁ b₁ c₁
+    search-read h a b c f a₁ b₁ c₁ l = subst (λ (L : Left). Ends L f a₁ b₁ c₁) (was-read h .same a b c) l
 
-    pub search-refused : (n i : ℕ) → A.Refused n i ≡ r .answer → (a b c : List ℕ) → Leaves (searchOf text a b c) (Refused n i) a b c
-    search-refused n i h a b c = subst (λ (L : Left). Leaves L (Refused n i) a b c) (refused-told n i (answer text) e refl h a b c) (refl, refl, refl, refl)
+    pub search-refused : (n i : ℕ) → A.Refused n i ≡ r .answer → (a b c : List ℕ) → Ends (searchOf text a b c) (Refused n i) a b c
+    search-refused n i h a b c = subst (λ (L : Left). Ends L (Refused n i) a b c) (refused-told n i (answer text) e refl h a b c) (refl, (refl, refl, refl))

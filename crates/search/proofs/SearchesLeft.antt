@@ -21,7 +21,8 @@ use Rattle.exploration.specs.working.Runs.{runTo, steps}
 use Rattle.exploration.specs.working.Tables.{Ran}
 use Rattle.exploration.specs.working.Written.{headBytes, countBytes, runBytes, mapFrom, RecordedTo}
 use Rattle.exploration.specs.working.Found.{foundIn, transitionsOf}
-use Rattle.search.specs.working.Searching.{Left, roomy, leftWith, leftAlone, Leaves, searchFor}
+use Rattle.search.specs.Left.{Left}
+use Rattle.search.specs.working.Searching.{roomy, leftWith, leftAlone, Ends, searchFor}
 use Rattle.search.specs.declared.finding.Finding.{Finding}
 use Rattle.search.specs.declared.finding.Finding.the-variants.{Safe, Unsafe, Refused}
 use Rattle.search.proofs.CodeSteps.{code-lawful}
@@ -103,11 +104,11 @@ module _ (shared row commands : ℕ) (ops ends stars : List ℕ) (states : ℕ) 
     module _ (o₀ : List ℕ) {o₁ : List ℕ} (h : o₁ ≡ sets o₀ 0 (countBytes shared row commands)) {q₁ p₁ : List ℕ} (eq : q₁ ≡ replicate states 0 ++ drop states q) (ep : p₁ ≡ replicate states 0 ++ drop states p) where
       pub unsafe-left : b ≡ true → {o : List ℕ} {len : ℕ}
           → (o ≡ sets o₁ 9 (runBytes T (runTo T (take (2 ^ (shared + row)) p) (2 ^ (shared + row)) (getD q (n - 1) 0)))) × (len ≡ 17 + 10 * steps (runTo T (take (2 ^ (shared + row)) p) (2 ^ (shared + row)) (getD q (n - 1) 0)))
-          → Leaves (leftWith M (foundIn (transitionsOf M)) q₀ p₀ o₀) (Unsafe len) q₁ p₁ o
+          → Ends (leftWith M (foundIn (transitionsOf M)) q₀ p₀ o₀) (Unsafe len) q₁ p₁ o
       unsafe-left f w = left-unsafe M law small o₀ h (answered-unsafe law R f (w .0) refl (w .1) (sized q q₁ eq) (sized p p₁ ep)) f
 
       pub safe-left : b ≡ false → {k : ℕ} → k ≡ mapLength states → {o₂ o : List ℕ}
-          → o₂ ≡ sets o₁ 9 (headBytes k 2) → o ≡ sets o₂ 15 (mapFrom (map (ltb 0) (take states p)) 0 k) → Leaves (leftWith M (foundIn (transitionsOf M)) q₀ p₀ o₀) (Safe (15 + k)) q₁ p₁ o
+          → o₂ ≡ sets o₁ 9 (headBytes k 2) → o ≡ sets o₂ 15 (mapFrom (map (ltb 0) (take states p)) 0 k) → Ends (leftWith M (foundIn (transitionsOf M)) q₀ p₀ o₀) (Safe (15 + k)) q₁ p₁ o
       safe-left f {k} g {o₂} {o} x y =
           let d : k ≡ mapLength (2 ^ (shared + row)) = g ∙ ap mapLength e in
           left-safe M law small o₀ h
@@ -121,24 +122,24 @@ module _ (shared row commands : ℕ) (ops ends stars : List ℕ) (states : ℕ) 
 
 -- Whether there is room.
 module _ (M : System) (states : ℕ) (e : states ≡ size M) (q p o : List ℕ) where
-  no-room : roomy states q p o ≡ false → Leaves (searchFor M q p o) (Refused 8 0) q p o
+  no-room : roomy states q p o ≡ false → Ends (searchFor M q p o) (Refused 8 0) q p o
   unfolding searchFor
   no-room h =
       let d : searchFor M q p o ≡ leftAlone 8 0 q p o = ap (λ (t : Bool). cond t (leftWith M (foundIn (transitionsOf M)) q p o) (leftAlone 8 0 q p o)) (subst (λ (k : ℕ). roomy k q p o ≡ false) e h) in
-      subst (λ (L : Left). Leaves L (Refused 8 0) q p o) (sym d) (refl, refl, refl, refl)
+      subst (λ (L : Left). Ends L (Refused 8 0) q p o) (sym d) (refl, (refl, refl, refl))
 
-  pub first-short : length q < states → Leaves (searchFor M q p o) (Refused 8 0) q p o
+  pub first-short : length q < states → Ends (searchFor M q p o) (Refused 8 0) q p o
   unfolding roomy
   first-short a = no-room (ap (λ (t : Bool). t && (leb states (length p) && leb (7 + 10 * states) (length o))) (lt-leb states (length q) a))
 
-  pub second-short : states ≤ length q → length p < states → Leaves (searchFor M q p o) (Refused 8 0) q p o
+  pub second-short : states ≤ length q → length p < states → Ends (searchFor M q p o) (Refused 8 0) q p o
   unfolding roomy
   second-short a b =
       no-room
       (ap (λ (t : Bool). t && (leb states (length p) && leb (7 + 10 * states) (length o))) (le-leb states (length q) a)
       ∙ ap (λ (t : Bool). t && leb (7 + 10 * states) (length o)) (lt-leb states (length p) b))
 
-  pub sheet-short : states ≤ length q → states ≤ length p → length o < 7 + 10 * states → Leaves (searchFor M q p o) (Refused 8 0) q p o
+  pub sheet-short : states ≤ length q → states ≤ length p → length o < 7 + 10 * states → Ends (searchFor M q p o) (Refused 8 0) q p o
   unfolding roomy
   sheet-short a b d =
       no-room
@@ -154,8 +155,8 @@ module _ (M : System) (states : ℕ) (e : states ≡ size M) (q p o : List ℕ) 
       ∙ le-leb (7 + 10 * states) (length o) d
 
   pub room-for : states ≤ length q → states ≤ length p → 7 + 10 * states ≤ length o → (r : Finding) (q₁ p₁ o₁ : List ℕ)
-      → Leaves (leftWith M (foundIn (transitionsOf M)) q p o) r q₁ p₁ o₁ → Leaves (searchFor M q p o) r q₁ p₁ o₁
+      → Ends (leftWith M (foundIn (transitionsOf M)) q p o) r q₁ p₁ o₁ → Ends (searchFor M q p o) r q₁ p₁ o₁
   unfolding searchFor
   room-for a b d r q₁ p₁ o₁ l =
       let f : searchFor M q p o ≡ leftWith M (foundIn (transitionsOf M)) q p o = ap (λ (t : Bool). cond t (leftWith M (foundIn (transitionsOf M)) q p o) (leftAlone 8 0 q p o)) (subst (λ (k : ℕ). roomy k q p o ≡ true) e (is-roomy a b d)) in
-      subst (λ (L : Left). Leaves L r q₁ p₁ o₁) (sym f) l
+      subst (λ (L : Left). Ends L r q₁ p₁ o₁) (sym f) l

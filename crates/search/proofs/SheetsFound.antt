@@ -15,7 +15,7 @@ use Rattle.exploration.specs.working.Runs.{Run, startsAt, goesOn, final, Valid,
 use Rattle.exploration.specs.working.Verdicts.{Verdict, firstRun, reached, verdict, Right}
 use Rattle.exploration.specs.working.Written.{headBytes, countBytes, startBytes, stepBytes, runBytes, mapFrom, verdictBytes, isUnsafe, Answered}
 use Rattle.exploration.specs.working.Found.{stepsOf, sheetFor, foundIn, transitionsOf}
-use Rattle.search.specs.working.Searching.{verdictOf, leftWith, Leaves}
+use Rattle.search.specs.working.Searching.{verdictOf, leftWith, Ends}
 use Rattle.search.specs.declared.finding.Finding.the-variants.{Safe, Unsafe}
 use Rattle.exploration.proofs.First.{final-below}
 use Rattle.exploration.proofs.Right.{verdict-right}
@@ -117,12 +117,12 @@ module _ (M : System) (law : Lawful (transitionsOf M)) (few : size M ≤ 4096) (
         ∙ sym (length-append (countBytes (M .shared) (M .row) (M .commands)) (verdictBytes (transitionsOf M) (verdict (transitionsOf M))))
         ∙ ap (λ (u : List ℕ). length u) (sheet-found (transitionsOf M) law few M)
 
-    pub left-unsafe : b ≡ true → Leaves (leftWith M (foundIn (transitionsOf M)) q₀ p₀ o₀) (Unsafe len) q p o
+    pub left-unsafe : b ≡ true → Ends (leftWith M (foundIn (transitionsOf M)) q₀ p₀ o₀) (Unsafe len) q p o
     unfolding foundIn
     left-unsafe e =
-        (ap Unsafe found-long ∙ said-unsafe (transitionsOf M) (verdict (transitionsOf M)) _ (sym e ∙ A .flag), A .queue, A .parent, found-bytes)
+        (ap Unsafe found-long ∙ said-unsafe (transitionsOf M) (verdict (transitionsOf M)) _ (sym e ∙ A .flag), (A .queue, A .parent, found-bytes))
 
-    pub left-safe : b ≡ false → Leaves (leftWith M (foundIn (transitionsOf M)) q₀ p₀ o₀) (Safe len) q p o
+    pub left-safe : b ≡ false → Ends (leftWith M (foundIn (transitionsOf M)) q₀ p₀ o₀) (Safe len) q p o
     unfolding foundIn
     left-safe e =
-        (ap Safe found-long ∙ said-safe (transitionsOf M) (verdict (transitionsOf M)) _ (sym e ∙ A .flag), A .queue, A .parent, found-bytes)
+        (ap Safe found-long ∙ said-safe (transitionsOf M) (verdict (transitionsOf M)) _ (sym e ∙ A .flag), (A .queue, A .parent, found-bytes))

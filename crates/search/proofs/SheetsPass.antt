@@ -31,7 +31,8 @@ use Rattle.search.specs.Promises.{answerOf, FrontPasses, SheetsPass}
 use Rattle.exploration.specs.working.Transitions.{moveOf}
 use Rattle.exploration.specs.working.Runs.{goesOn}
 use Rattle.exploration.specs.working.Found.{foundIn, transitionsOf}
-use Rattle.search.specs.working.Searching.{Left, roomy, verdictOf, leftWith, searchOf}
+use Rattle.search.specs.Left.{Left}
+use Rattle.search.specs.working.Searching.{roomy, verdictOf, leftWith, searchOf}
 use Rattle.exploration.proofs.RunsOfModels.{run-told, run-reaches, reaches-run}
 use Rattle.search.proofs.SearchTells.{said, room-tells, not-safe, not-verdict, own, finds, with-room, search-tells, text-refused-first}
 use Rattle.exploration.proofs.FoundShort.{found-short}

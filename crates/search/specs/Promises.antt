@@ -18,7 +18,8 @@ use Rattle.acceptance.specs.Outcomes.{words}
 use Rattle.acceptance.specs.Promises.{answerTo, TestPromise}
 use Rattle.exploration.specs.Findings.{Finds}
 use Rattle.search.specs.Answers.{Wording, verdict, returned, wordingOf}
-use Rattle.search.specs.working.Searching.{Left, roomy, zeroed, searchOf}
+use Rattle.search.specs.Left.{Left, zeroed}
+use Rattle.search.specs.working.Searching.{roomy, searchOf}
 
 -- The two lent tables have an entry for each state, and the lent sheet buffer has ten bytes for each state and seven more.
 abbrev pub Room : Model → List ℕ → List ℕ → List ℕ → Type 0
@@ -84,7 +85,7 @@ pub record FrontPasses (text : List ℕ) (left : Left) : Type 0 where
 abbrev pub SheetsPass : Type 0
 SheetsPass = (text first second sheet : List ℕ) → FrontPasses text (searchOf text first second sheet)
 
--- All that is claimed of a text, its model, the bytes of a sheet, and tables of n₁ and of n₂ rows: the test keeps its promise,
+-- All that is claimed of a text, its model, the bytes of a sheet, and tables of n₁ and of n₂ rows: the test keeps its promise, each answer exactly where it is due,
 -- and with all lent buffers that have room the search finds a sheet that the test lets pass.
 pub record WholePromise (text : List ℕ) (m : Model) (b : List ℕ) (n₁ n₂ : ℕ) : Type 0 where
   pub tested : TestPromise text m b n₁ n₂
@@ -92,6 +93,7 @@ pub record WholePromise (text : List ℕ) (m : Model) (b : List ℕ) (n₁ n₂ 
   pub written : (first second sheet : List ℕ) → FrontPasses text (searchOf text first second sheet)
 
 -- THE WHOLE CLAIM: for every text, the model that it says, all bytes, and all pairs of tables of one row or more.
+-- What `test` is handed are bytes, and so is what `search` leaves in the sheet buffer: their contracts say so.
 abbrev pub WholeClaim : Type 0
 WholeClaim =
     (text : List ℕ) (m : Model) → TextSays text m → (b : List ℕ) → AreBytes b → (n₁ n₂ : ℕ) → 1 ≤ n₁ → 1 ≤ n₂ → WholePromise text m b n₁ n₂

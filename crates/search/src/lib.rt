@@ -9,10 +9,13 @@ mod traces;
 ghost use mathlib.Core.Path.{_≡_};
 ghost use Prim.Native.Nat.{_+_, _*_, _^_, _≤_};
 ghost use Rattle.evaluation.specs.working.CodeSystem.{Parted};
+ghost use Rattle.acceptance.specs.SheetTexts.{AreBytes};
 ghost use Rattle.acceptance.specs.working.Shapes.{Few};
 ghost use Rattle.acceptance.specs.working.Test.{systemIn};
 ghost use Rattle.exploration.specs.working.Found.{foundIn, transitionsOf};
-ghost use Rattle.search.specs.working.Searching.{leftWith, Leaves, searchFor, searchOf};
+ghost use Rattle.search.specs.Left.{Leaves};
+ghost use Rattle.search.specs.working.Searching.{leftWith, Ends, searchFor, searchOf};
+use acceptance::fields::bytes_known;
 use acceptance::fields::map_length;
 use evaluation::numbers::power;
 use exploring::run;
@@ -39,7 +42,7 @@ fn search_roomy(
     sheet: &mut [u8],
 ) -> Finding
     requires { do ⌜ (shared + row ≤ 12) × Few commands (now stars) × Parted commands (now ends) × (states ≡ 2 ^ (shared + row)) × (states ≤ (← ⟦first.len()⟧)) × (states ≤ (← ⟦second.len()⟧)) × (7 + 10 * states ≤ (← ⟦sheet.len()⟧)) ⌝ }
-    ensures { λ r. ⌜ Leaves (leftWith (systemIn shared row commands (now (ops .entry)) (now (ends .entry)) (now (stars .entry))) (foundIn (transitionsOf (systemIn shared row commands (now (ops .entry)) (now (ends .entry)) (now (stars .entry))))) (now (first .entry)) (now (second .entry)) (now (sheet .entry))) r (now (first .exit)) (now (second .exit)) (now (sheet .exit)) ⌝ }
+    ensures { λ r. ⌜ Ends (leftWith (systemIn shared row commands (now (ops .entry)) (now (ends .entry)) (now (stars .entry))) (foundIn (transitionsOf (systemIn shared row commands (now (ops .entry)) (now (ends .entry)) (now (stars .entry))))) (now (first .entry)) (now (second .entry)) (now (sheet .entry))) r (now (first .exit)) (now (second .exit)) (now (sheet .exit)) ⌝ }
 {
     let bits = shared + row;
     put_header(sheet, shared, row, commands);
@@ -72,7 +75,7 @@ fn search_code(
     sheet: &mut [u8],
 ) -> Finding
     requires { ⌜ (shared + row ≤ 12) × Few commands (now stars) × Parted commands (now ends) ⌝ }
-    ensures { λ r. ⌜ Leaves (searchFor (systemIn shared row commands (now (ops .entry)) (now (ends .entry)) (now (stars .entry))) (now (first .entry)) (now (second .entry)) (now (sheet .entry))) r (now (first .exit)) (now (second .exit)) (now (sheet .exit)) ⌝ }
+    ensures { λ r. ⌜ Ends (searchFor (systemIn shared row commands (now (ops .entry)) (now (ends .entry)) (now (stars .entry))) (now (first .entry)) (now (second .entry)) (now (sheet .entry))) r (now (first .exit)) (now (second .exit)) (now (sheet .exit)) ⌝ }
 {
     let states = power(shared + row);
     if first.len() < states {
@@ -98,9 +101,9 @@ fn search_code(
     )
 }
 
-// What the search answers for a text, with what it leaves in the lent buffers.
-pub fn search(text: &[u8], first: &mut [u16], second: &mut [u16], sheet: &mut [u8]) -> Finding
-    ensures { λ r. ⌜ Leaves (searchOf (now (text .entry)) (now (first .entry)) (now (second .entry)) (now (sheet .entry))) r (now (first .exit)) (now (second .exit)) (now (sheet .exit)) ⌝ }
+// The search over the model that a text says, or the text's refusal.
+fn search_text(text: &[u8], first: &mut [u16], second: &mut [u16], sheet: &mut [u8]) -> Finding
+    ensures { λ r. ⌜ Ends (searchOf (now (text .entry)) (now (first .entry)) (now (second .entry)) (now (sheet .entry))) r (now (first .exit)) (now (second .exit)) (now (sheet .exit)) ⌝ }
 {
     let reading = read(text);
     let answer = reading.answer;
@@ -124,4 +127,15 @@ pub fn search(text: &[u8], first: &mut [u16], second: &mut [u16], sheet: &mut [u
             )
         }
     }
+}
+
+// What the search answers for a text, with what it leaves in the lent buffers. What stands in the sheet buffer are bytes, as the test's promises ask.
+pub fn search(text: &[u8], first: &mut [u16], second: &mut [u16], sheet: &mut [u8]) -> Finding
+    ensures { λ r. ⌜ r ≡ searchOf (now (text .entry)) (now (first .entry)) (now (second .entry)) (now (sheet .entry)) .answer ⌝ }
+    ensures left { λ _. ⌜ Leaves (searchOf (now (text .entry)) (now (first .entry)) (now (second .entry)) (now (sheet .entry))) (now (first .exit)) (now (second .exit)) (now (sheet .exit)) ⌝ }
+    ensures bytes { λ _. ⌜ AreBytes (now (sheet .exit)) ⌝ }
+{
+    let found = search_text(text, first, second, sheet);
+    bytes_known(sheet);
+    found
 }

@@ -7,17 +7,13 @@ use Prim.Native.Nat.{ℕ, _/_, _%_}
 use lib.Dec.{eqb}
 use Rattle.search.specs.Answers.{Wording, verdict, returned}
 use Rattle.search.specs.Promises.{answerOf}
-use Rattle.search.specs.working.Searching.{Left, searchOf}
+use Rattle.search.specs.working.Searching.{searchOf}
 use Rattle.packing.specs.Packed.{packed, initial}
 
 -- An answer: the verdict's first letter with the sheet's length above, or a refusal's number with its place above.
 unfoldable pub searchNumber : Wording → ℕ
 searchNumber (verdict s n) = packed (initial s) n
 searchNumber (returned n p) = packed n p
-
--- A call leaves this number and these contents.
-abbrev pub Leaves : Left → ℕ → List ℕ → List ℕ → List ℕ → Type 0
-Leaves L r first second sheet = (r ≡ searchNumber (answerOf L)) × (first ≡ L .first) × (second ≡ L .second) × (sheet ≡ L .sheet)
 
 -- The answer that a number stands for.
 abbrev pub wordingFor : ℕ → Wording

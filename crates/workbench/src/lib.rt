@@ -1,9 +1,11 @@
 // The search for programs in C and Python: a slice is a pointer and a length there, and the answer is one number.
 ghost use mathlib.Core.Path.{_≡_};
+ghost use Rattle.acceptance.specs.SheetTexts.{AreBytes};
 ghost use Rattle.search.specs.Answers.{wordingOf};
-ghost use Rattle.search.specs.Promises.{Bounded};
+ghost use Rattle.search.specs.Left.{Leaves};
+ghost use Rattle.search.specs.Promises.{Bounded, answerOf};
 ghost use Rattle.search.specs.working.Searching.{searchOf};
-ghost use Rattle.workbench.specs.Numbers.{searchNumber, Leaves};
+ghost use Rattle.workbench.specs.Numbers.{searchNumber};
 use packing::pack;
 use search::finding::Finding;
 use search::search;
@@ -28,7 +30,9 @@ pub extern "C" fn nutseason_search(
     second: &mut [u16],
     sheet: &mut [u8],
 ) -> u64
-    ensures { λ r. ⌜ Leaves (searchOf (now (text .entry)) (now (first .entry)) (now (second .entry)) (now (sheet .entry))) r (now (first .exit)) (now (second .exit)) (now (sheet .exit)) ⌝ }
+    ensures { λ r. ⌜ r ≡ searchNumber (answerOf (searchOf (now (text .entry)) (now (first .entry)) (now (second .entry)) (now (sheet .entry)))) ⌝ }
+    ensures left { λ _. ⌜ Leaves (searchOf (now (text .entry)) (now (first .entry)) (now (second .entry)) (now (sheet .entry))) (now (first .exit)) (now (second .exit)) (now (sheet .exit)) ⌝ }
+    ensures bytes { λ _. ⌜ AreBytes (now (sheet .exit)) ⌝ }
 {
     finding_number(search(text, first, second, sheet))
 }

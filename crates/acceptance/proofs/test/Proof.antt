@@ -7,6 +7,9 @@ use borrow.Author.Needs.{needs}
 use Rattle.acceptance.proofs.test.Statement.{statement}
 use Rattle.acceptance.proofs.test.Tie as tie
 
+bytes-known-requires : tie.Need-bytes-known-requires
+bytes-known-requires c κs = search needs
+
 read-requires : tie.Need-read-requires
 read-requires c κs = search needs
 
@@ -17,15 +20,28 @@ enum-told : tie.Need-enum-told
 enum-told c = search needs
 
 test-sheet-requires : tie.Need-test-sheet-requires
-test-sheet-requires c κs = (was-read _ [] _ (c .before .before .before .before .before .before .before .before .before .read .ensures) (sym (c .before .before .before .before .before .before .before .enum-told .given .1)) .flat .fewNames, was-read _ [] _ (c .before .before .before .before .before .before .before .before .before .read .ensures) (sym (c .before .before .before .before .before .before .before .enum-told .given .1)) .flat .few, was-read _ [] _ (c .before .before .before .before .before .before .before .before .before .read .ensures) (sym (c .before .before .before .before .before .before .before .enum-told .given .1)) .flat .parted)
+test-sheet-requires c κs =
+    let after-read : tie.After-read = search in
+    let after-enum-told : tie.After-enum-told = search in
+    let known = was-read _ [] _ (after-read .read .ensures) (sym (after-enum-told .enum-told .given .1)) .flat in
+    (known .fewNames, known .few, known .parted)
 
 returns : tie.Need-returns
-returns c = test-refused _ _ _ (c .before .before .before .read .ensures) _ _ (sym (c .before .answer .given .1))
+returns c =
+    let after-bytes-known : tie.After-bytes-known = search in
+    let after-read : tie.After-read = search in
+    (test-refused _ _ _ (after-read .read .ensures) _ _ (sym (c .before .answer .given .1)), after-bytes-known .bytes-known .ensures)
 
 returns-2 : tie.Need-returns-2
-returns-2 c = test-read _ _ _ (c .before .before .before .before .before .before .before .before .before .before .read .ensures) (sym (c .before .before .before .before .before .before .before .before .enum-told .given .1)) _ (c .test-sheet .ensures)
+returns-2 c =
+    let after-bytes-known : tie.After-bytes-known = search in
+    let after-read : tie.After-read = search in
+    let after-enum-told : tie.After-enum-told = search in (
+      test-read _ _ _ (after-read .read .ensures) (sym (after-enum-told .enum-told .given .1)) _ (c .test-sheet .ensures),
+      after-bytes-known .bytes-known .ensures,
+    )
 
 pub test-spec : {M : Type 1} → statement M
 test-spec =
     tie.close
-    (tie.spec read-requires enum-known-answer enum-told test-sheet-requires returns returns-2)
+    (tie.spec bytes-known-requires read-requires enum-known-answer enum-told test-sheet-requires returns returns-2)

@@ -14,10 +14,10 @@ test-requires : tie.Need-test-requires
 test-requires c κs = search needs
 
 outcome-number-requires : tie.Need-outcome-number-requires
-outcome-number-requires c κs = subst (λ (o : Outcome). Bounded (wordingOf o)) (sym (c .test .ensures)) (answers-bounded _ _)
+outcome-number-requires c κs = subst (λ (o : Outcome). Bounded (wordingOf o)) (sym (c .test .ensures .0)) (answers-bounded _ _)
 
 returns : tie.Need-returns
-returns c = c .outcome-number .ensures ∙ ap (λ (o : Outcome). testNumber (wordingOf o)) (c .before .test .ensures)
+returns c = (c .outcome-number .ensures ∙ ap (λ (o : Outcome). testNumber (wordingOf o)) (c .before .test .ensures .0), c .before .test .ensures .1)
 
 pub nutseason-test-spec : {M : Type 1} → statement M
 nutseason-test-spec = tie.close (tie.spec test-requires outcome-number-requires returns)

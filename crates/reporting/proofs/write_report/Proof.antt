@@ -39,7 +39,7 @@ slice-aggregate-put-unsafe c =
     let a = c .before .before .before .before .before .before .before .before .before .before .before .before .args in
     let s = c .before .before .before .before .before .before .before .search in
     let e = sym (c .before .before .before .before .before .found2 .given .1) ∙ s .ensures .0 in
-    let t = trace-told (a .text .now) (a .first .now) (a .second .now) (a .sheet .now) (omega arith) (omega arith) (omega arith) _ (s .last .1 .1 .1 .0) e (s .ensures .3) in
+    let t = trace-told (a .text .now) (a .first .now) (a .second .now) (a .sheet .now) (omega arith) (omega arith) (omega arith) _ (s .last .1 .1 .1 .0) e (s .ensures .1 .0 .2) in
     sym (length-take-le _ _ (t .within))
 
 put-unsafe-requires : tie.Need-put-unsafe-requires
@@ -47,7 +47,7 @@ put-unsafe-requires c κs =
     let a = c .before .before .before .before .before .before .before .before .before .before .before .before .args in
     let s = c .before .before .before .before .before .before .before .search in
     let e = sym (c .before .before .before .before .before .found2 .given .1) ∙ s .ensures .0 in
-    let t = trace-told (a .text .now) (a .first .now) (a .second .now) (a .sheet .now) (omega arith) (omega arith) (omega arith) _ (s .last .1 .1 .1 .0) e (s .ensures .3) in
+    let t = trace-told (a .text .now) (a .first .now) (a .second .now) (a .sheet .now) (omega arith) (omega arith) (omega arith) _ (s .last .1 .1 .1 .0) e (s .ensures .1 .0 .2) in
     (t .shown, report-fits (a .text .now) _ (t .lines) (a .out .now) (omega arith))
 
 returns : tie.Need-returns
@@ -57,7 +57,7 @@ returns c =
     let e = sym (c .before .before .before .found .given .1) ∙ s .ensures .0 in
     let t = refusal-told (a .text .now) (a .first .now) (a .second .now) (a .sheet .now) (omega arith) (omega arith) (omega arith) _ _ e in
     let w = report-put (a .text .now) _ t (a .out .now) (omega arith) (c .put-refusal .last .0) (c .put-refusal .result) (c .put-refusal .ensures) in
-    ((w .0 .0, w .0 .1, (s .ensures .1, s .ensures .2, s .ensures .3)), w .1)
+    (w .0, (w .1, s .ensures .1 .0))
 
 returns-2 : tie.Need-returns-2
 returns-2 c =
@@ -66,16 +66,16 @@ returns-2 c =
     let e = sym (c .before .before .enum-told .given .1) ∙ s .ensures .0 in
     let t = safe-told (a .text .now) (a .first .now) (a .second .now) (a .sheet .now) (omega arith) (omega arith) (omega arith) _ e in
     let w = report-put (a .text .now) _ t (a .out .now) (omega arith) (c .put-safe .last .0) (c .put-safe .result) (c .put-safe .ensures) in
-    ((w .0 .0, w .0 .1, (s .ensures .1, s .ensures .2, s .ensures .3)), w .1)
+    (w .0, (w .1, s .ensures .1 .0))
 
 returns-3 : tie.Need-returns-3
 returns-3 c =
     let a = c .before .before .before .before .before .before .before .before .before .before .before .before .before .args in
     let s = c .before .before .before .before .before .before .before .before .search in
     let e = sym (c .before .before .before .before .before .before .found2 .given .1) ∙ s .ensures .0 in
-    let t = trace-told (a .text .now) (a .first .now) (a .second .now) (a .sheet .now) (omega arith) (omega arith) (omega arith) _ (s .last .1 .1 .1 .0) e (s .ensures .3) in
+    let t = trace-told (a .text .now) (a .first .now) (a .second .now) (a .sheet .now) (omega arith) (omega arith) (omega arith) _ (s .last .1 .1 .1 .0) e (s .ensures .1 .0 .2) in
     let w = report-put (a .text .now) _ (t .lines) (a .out .now) (omega arith) (c .put-unsafe .last .0) (c .put-unsafe .result) (c .put-unsafe .ensures) in
-    ((w .0 .0, w .0 .1, (s .ensures .1, s .ensures .2, s .ensures .3)), w .1)
+    (w .0, (w .1, s .ensures .1 .0))
 
 pub write-report-spec : {M : Type 1} → statement M
 write-report-spec =

@@ -10,7 +10,6 @@ use Rattle.meaning.specs.OneRow.{TraceStep}
 use Rattle.reader.specs.declared.Code.{Code}
 use Rattle.acceptance.specs.SheetTexts.{twoAt}
 use Rattle.acceptance.specs.working.SheetReading.{stepsIn}
-use Rattle.search.specs.working.Searching.{Left}
 use Rattle.reporting.specs.Reports.{countsLine, safeLine, unsafeLine, startLine, stepLine, stepLines}
 
 -- The bytes of name i in the text.
@@ -67,7 +66,3 @@ traceReport text c sheet = counts c ++ runOf text sheet c
 -- What it asks of the names and the sheet.
 abbrev pub Printable : List ℕ → Code → List ℕ → Type 0
 Printable text c sheet = Shown text (c .names) (c .shared + c .row) sheet
-
--- The buffers that the search was lent hold what it left.
-abbrev pub LeavesTo : Left → List ℕ → List ℕ → List ℕ → Type 0
-LeavesTo L first second sheet = (first ≡ L .first) × (second ≡ L .second) × (sheet ≡ L .sheet)

@@ -1,11 +1,11 @@
--- What a call of the search leaves: its answer, and the contents of the lent buffers.
+-- What a call of the search leaves, as a computation.
 -- Assumes nothing.
 use mathlib.Core.Path.{_≡_}
 use mathlib.Core.Bool.{Bool, cond, _&&_}
-use mathlib.Core.List.{List, _++_}
+use mathlib.Core.List.{List}
 use Prim.Native.Nat.{ℕ, _+_, _*_}
 use lib.Dec.{leb}
-use lib.ListN.{length, drop, replicate}
+use lib.ListN.{length}
 use lib.Seq.{sets}
 use Rattle.notation.specs.Texts.{modelOf}
 use Rattle.notation.specs.working.Machine as N
@@ -15,20 +15,11 @@ use Rattle.acceptance.specs.Sheets.{System, size, systemOf, sheetBytes}
 use Rattle.exploration.specs.working.Found.{foundIn, transitionsOf}
 use Rattle.search.specs.declared.finding.Finding.{Finding}
 use Rattle.search.specs.declared.finding.Finding.the-variants.{Safe, Unsafe, Refused}
-
-pub record Left : Type 0 where
-  pub answer : Finding
-  pub first : List ℕ
-  pub second : List ℕ
-  pub sheet : List ℕ
+use Rattle.search.specs.Left.{Left, Leaves, zeroed}
 
 -- Whether the lent tables have an entry for each state, and the lent buffer has room for every sheet.
 unfoldable pub roomy : ℕ → List ℕ → List ℕ → List ℕ → Bool
 roomy states first second sheet = leb states (length first) && (leb states (length second) && leb (7 + 10 * states) (length sheet))
-
--- The first n entries made 0.
-abbrev pub zeroed : ℕ → List ℕ → List ℕ
-zeroed n l = replicate n 0 ++ drop n l
 
 -- The verdict of a sheet that has so many bytes.
 unfoldable pub verdictOf : Sheet → ℕ → Finding
@@ -49,9 +40,9 @@ leftWith M x first second sheet =
 abbrev pub leftAlone : ℕ → ℕ → List ℕ → List ℕ → List ℕ → Left
 leftAlone n p first second sheet = record { answer = Refused n p; first = first; second = second; sheet = sheet }
 
--- A call leaves this answer and these contents.
-abbrev pub Leaves : Left → Finding → List ℕ → List ℕ → List ℕ → Type 0
-Leaves L r first second sheet = (r ≡ L .answer) × (first ≡ L .first) × (second ≡ L .second) × (sheet ≡ L .sheet)
+-- A call ends with this answer and these contents.
+abbrev pub Ends : Left → Finding → List ℕ → List ℕ → List ℕ → Type 0
+Ends L r first second sheet = (r ≡ L .answer) × Leaves L first second sheet
 
 -- For a system.
 unfoldable pub searchFor : System → List ℕ → List ℕ → List ℕ → Left

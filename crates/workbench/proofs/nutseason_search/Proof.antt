@@ -29,7 +29,7 @@ same-length-3 c = search needs
 returns : tie.Need-returns
 returns c =
     let left = c .before .before .before .before .before .before .before .search .ensures in
-    (c .finding-number .ensures ∙ ap (λ (f : Finding). searchNumber (wordingOf f)) (left .0), left .1, left .2, left .3)
+    (c .finding-number .ensures ∙ ap (λ (f : Finding). searchNumber (wordingOf f)) (left .0), left .1)
 
 pub nutseason-search-spec : {M : Type 1} → statement M
 nutseason-search-spec =

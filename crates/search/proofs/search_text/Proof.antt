@@ -1,10 +1,10 @@
--- `search` meets its contract: the text's refusal, or what is left over the flat form that was read.
+-- `search_text` meets its contract: the text's refusal, or what is left over the flat form that was read.
 -- Assumes nothing.
 use Rattle.search.proofs.SearchTexts.{was-read, search-read, search-refused}
 use mathlib.Core.Path.{sym}
 use borrow.Author.Needs.{needs}
-use Rattle.search.proofs.search.Statement.{statement}
-use Rattle.search.proofs.search.Tie as tie
+use Rattle.search.proofs.search_text.Statement.{statement}
+use Rattle.search.proofs.search_text.Tie as tie
 
 read-requires : tie.Need-read-requires
 read-requires c κs = search needs
@@ -33,8 +33,8 @@ same-length-3 c = search needs
 returns-2 : tie.Need-returns-2
 returns-2 c = search-read _ _ (c .before .before .before .before .before .before .before .before .before .before .before .before .before .before .before .before .before .before .before .read .ensures) (sym (c .before .before .before .before .before .before .before .before .before .before .before .before .before .before .before .before .before .enum-told .given .1)) _ _ _ _ _ _ _ (c .before .before .before .before .before .before .search-code .ensures)
 
-pub search-spec : {M : Type 1} → statement M
-search-spec =
+pub search-text-spec : {M : Type 1} → statement M
+search-text-spec =
     tie.close
     (tie.spec
     read-requires
