@@ -10,7 +10,7 @@ use lib.Dec.{eqb, ltb}
 use lib.Pow.{pow-mono}
 use borrow.Author.Tests.{ltb-true, leb-true, eqb-true, eq-eqb, ne-eqb, lt-ltb, le-ltb, le-leb, lt-leb}
 use Rattle.meaning.specs.OneRow.{TraceStep}
-use Rattle.meaning.proofs.OneRow.{and-split}
+use Rattle.notation.proofs.Booleans.{and-split}
 use Rattle.acceptance.specs.SheetTexts.{twoAt, fourAt, isRecord, sameCounts, unusedClear, stepIn, stepFits}
 use Rattle.acceptance.specs.Sheets.{mapLength}
 use Rattle.acceptance.specs.working.SheetReading.{Reading, refused, demand, either, stepsAt, stepCount, mapAt, traceAt, bodyAt, sheetIn}

@@ -8,7 +8,7 @@ use acceptance::outcome::Outcome;
 use lines::put;
 use lines::put_refusal;
 
-// Room for the longest line: a refusal's number and place have at most 20 digits each.
+// Room for every line: a refusal's number and place have at most 20 digits each.
 pub type Line = [u8; 64];
 
 // Puts the line of an outcome at the front; how long it is.

@@ -13,7 +13,7 @@ use Rattle.notation.specs.Model.{Model}
 use Rattle.meaning.specs.OneRow.{next, TraceStep}
 use Rattle.meaning.specs.Evidence.{safe, trace, TracePasses}
 use Rattle.meaning.specs.working.Conditions.{testE}
-use Rattle.meaning.proofs.OneRow.{and-split}
+use Rattle.notation.proofs.Booleans.{and-split}
 use Rattle.meaning.proofs.Accept.{all-tests-tell}
 use Rattle.exploration.specs.Order.{StepBefore, StepsBefore, RunBefore}
 use Rattle.exploration.specs.Findings.{FirstBreak, FindsOnce}

@@ -17,7 +17,8 @@ use Rattle.meaning.proofs.Lists.{every-at}
 use Rattle.meaning.proofs.Number.{stateNumber-lt, spread-stateNumber, stateNumber-spread}
 use Rattle.meaning.proofs.Words.{wordOf, wordOf-lt, step-word}
 use Rattle.meaning.proofs.Fits.{step-fits}
-use Rattle.meaning.proofs.OneRow.{and-split, starts-tell, breaks-tell, next-stays, last-is}
+use Rattle.notation.proofs.Booleans.{and-split}
+use Rattle.meaning.proofs.OneRow.{starts-tell, breaks-tell, next-stays, last-is}
 use Rattle.meaning.proofs.Accept.{all-tests-tell}
 use Rattle.exploration.specs.Findings.{Reaches}
 use Rattle.exploration.specs.working.Transitions.{Transitions, Lawful, moveOf}

@@ -9,7 +9,7 @@ use borrow.Author.Tests.{eq-eqb}
 use Rattle.notation.specs.Regular.{Every}
 use Rattle.meaning.specs.OneRow.{TraceStep, lastOf}
 use Rattle.meaning.specs.working.Conditions.{testE}
-use Rattle.meaning.proofs.OneRow.{and-split, and-join}
+use Rattle.notation.proofs.Booleans.{and-split, and-join}
 
 pub every-snoc : {A : Type 0} (P : A → Type 0) (l : List A) (x : A) → Every P l → P x → Every P (l ++ x ∷ [])
 every-snoc P [] x h p = (p, tt)

@@ -1,20 +1,24 @@
 -- The numbers that C is given tell the answers, and fit.
 -- Assumes nothing.
 use mathlib.Core.Path.{_≡_, refl, sym, ap, _∙_, subst}
+use mathlib.Core.Logic.{_⊎_, inl, inr}
 use mathlib.Core.List.{List, []}
-use Prim.Native.Nat.{ℕ, _+_, _≤_}
+use Prim.Native.Nat.{ℕ, _+_, _*_, _/_, _%_, _≤_}
 use native.Mathlib.Omega.{arith}
 use lib.ListN.{length}
 use borrow.Author.Tests.{ne-eqb}
 use Rattle.notation.specs.Bytes.{bytes}
 use Rattle.notation.specs.Model.{Model}
-use Rattle.notation.specs.Layout.{layoutOf}
+use Rattle.notation.specs.Texts.{TextSays, TextRefused}
+use Rattle.notation.proofs.Texts.{one-answer}
+use Rattle.notation.proofs.Regular.{all-regular}
 use Rattle.notation.proofs.Places.{refusals-bounded}
 use Rattle.reader.specs.declared.Answer.{Answer}
 use Rattle.reader.specs.declared.Answer.the-variants.{Read, Refused}
 use Rattle.reader.specs.declared.Reading.{Reading}
-use Rattle.reader.specs.Read.{codeOf, readingOf}
-use Rattle.reader.proofs.Promised.{read-answers}
+use Rattle.reader.specs.Read.{readingOf}
+use Rattle.reader.specs.Answers as R
+use Rattle.reader.proofs.Promised.{model-called, refusal-called, read-answers}
 use Rattle.acceptance.specs.declared.outcome.Outcome.{Outcome}
 use Rattle.acceptance.specs.declared.outcome.Outcome.the-variants as O
 use Rattle.acceptance.specs.Outcomes.{wordingOf}
@@ -22,10 +26,10 @@ use Rattle.acceptance.specs.Promises.{Bounded}
 use Rattle.acceptance.specs.working.Test.{testOf}
 use Rattle.acceptance.proofs.TestTexts.{was-read}
 use Rattle.acceptance.proofs.Places.{answers-bounded}
-use Rattle.packing.specs.Packed.{mostAbove}
+use Rattle.packing.specs.Packed.{packed, mostAbove}
 use Rattle.packing.proofs.Packed.{low-back, above-back}
-use Rattle.loader.specs.Numbers.{testNumber, modelNumber, answerNumber, readNumber, wordingFor}
-use Rattle.loader.specs.Promises.{TestNumbersTell, ReadNumbersTell}
+use Rattle.loader.specs.Numbers.{testNumber, modelNumber, readNumber, wordingFor, readingFor}
+use Rattle.loader.specs.Promises.{TestNumbersTell, readingTo, ReadNumbersTell}
 
 told : (o : Outcome) → Bounded (wordingOf o) → wordingFor (testNumber (wordingOf o)) ≡ wordingOf o
 unfolding wordingOf testNumber bytes
@@ -60,25 +64,47 @@ pub place-fits : (o : Outcome) (n p : ℕ) → Bounded (wordingOf o) → o ≡ O
 unfolding wordingOf
 place-fits o n p b e = let c = subst (λ (x : Outcome). Bounded (wordingOf x)) e b in omega (arith, c .2)
 
+-- The counts are bytes, and so the number tells them.
+model-back : (a b k : ℕ) → a ≤ 255 → b ≤ 255 → k ≤ 255 → readingFor (modelNumber a b k) ≡ R.model a b k
+model-back a b k ha hb hk =
+    let above = a + 256 * b + 65536 * k in
+    let low : modelNumber a b k % 256 ≡ 109 = low-back 109 above (omega arith) in
+    let high : modelNumber a b k / 256 ≡ above = above-back 109 above (omega arith) in
+    let first : above % 256 ≡ a = omega arith in
+    let rest : above / 256 ≡ b + 256 * k = omega arith in
+    let second : (b + 256 * k) % 256 ≡ b = omega arith in
+    let third : above / 65536 ≡ k = omega arith in
+    rw (low, high, first, rest, second, third)
+
+refusal-back : (n i : ℕ) → n ≤ 7 → readingFor (packed n i) ≡ R.returned n i
+refusal-back n i h = rw (low-back n i (omega arith), above-back n i (omega arith), ne-eqb n 109 (omega arith))
+
+read-back : (text : List ℕ) → ((m : Model) × TextSays text m) ⊎ ((n i : ℕ) × TextRefused text n i) → readingFor (readNumber (readingTo text)) ≡ readingTo text
+unfolding readNumber
+read-back text (inl (m, s)) =
+    let g = all-regular text m s in
+    rw (model-called text m s) (model-back (m .sharedNames) (m .rowNames) (length (m .commands)) (omega (arith, g .fewShared)) (omega (arith, g .fewRow)) (omega (arith, g .fewCommands)))
+read-back text (inr (n, i, r)) = rw (refusal-called text n i r) (refusal-back n i (refusals-bounded text n i r .high))
+
 pub read-numbers-tell : ReadNumbersTell
-unfolding answerNumber codeOf layoutOf
+unfolding readNumber
 read-numbers-tell text =
     record {
-      model = λ m s.
-          ap (λ (r : Reading). answerNumber (r .answer) (r .code)) (read-answers text .code (s .tree) (s .says))
-          ∙ ap (λ (n : Model). modelNumber (n .sharedNames) (n .rowNames) (length (n .commands))) (s .meant);
-      refusal = λ n i r. ap (λ (x : Reading). answerNumber (x .answer) (x .code)) (read-answers text .empty n i r);
+      back = read-back text (one-answer text .some);
+      model = λ m s. ap readNumber (model-called text m s);
+      refusal = λ n i r. ap readNumber (refusal-called text n i r);
     }
 
 module _ (text : List ℕ) (r : Reading) (e : r ≡ readingOf text) where
   pub near : (n i : ℕ) → Refused n i ≡ r .answer → i ≤ mostAbove
+  unfolding R.wordingIn
   near n i h =
-      let b = refusals-bounded text n i (read-answers text .refuses n i .1 (sym (ap (λ (x : Reading). x .answer) e) ∙ sym h)) in
+      let b = refusals-bounded text n i (read-answers text .refuses n i .0 (sym (ap R.wordingOf e) ∙ ap (λ (a : Answer). R.wordingIn a (r .code)) (sym h))) in
       omega (arith, b .near)
 
   -- The number of an answer of the reader.
-  pub answered : (a : Answer) (n : ℕ) → a ≡ r .answer → n ≡ answerNumber a (r .code) → n ≡ readNumber text
-  answered a n h f = f ∙ ap (λ (x : Answer). answerNumber x (r .code)) h ∙ ap (λ (x : Reading). answerNumber (x .answer) (x .code)) e
+  pub answered : (a : Answer) (n : ℕ) → a ≡ r .answer → n ≡ readNumber (R.wordingIn a (r .code)) → n ≡ readNumber (readingTo text)
+  answered a n h f = f ∙ ap (λ (x : Answer). readNumber (R.wordingIn x (r .code))) h ∙ ap (λ (x : Reading). readNumber (R.wordingOf x)) e
 
   pub counts-fit : Read ≡ r .answer → (r .code .shared + r .code .row ≤ 12) × (r .code .commands ≤ 16)
   counts-fit h = let f = was-read text [] r e h .flat in (f .fewNames, f .few .fewCommands)

@@ -1,14 +1,10 @@
 -- The numbers that stand for answers.
 -- Assumes nothing.
 use mathlib.Core.Bool.{cond}
-use mathlib.Core.List.{List}
 use Prim.Native.Nat.{ℕ, _+_, _*_, _/_, _%_}
 use lib.Dec.{eqb}
 use Rattle.acceptance.specs.Outcomes.{Wording, words, letter, returned}
-use Rattle.reader.specs.declared.Answer.{Answer}
-use Rattle.reader.specs.declared.Answer.the-variants.{Read, Refused}
-use Rattle.reader.specs.declared.Code.{Code}
-use Rattle.reader.specs.Read.{readingOf}
+use Rattle.reader.specs.Answers as R
 use Rattle.packing.specs.Packed.{packed, initial}
 
 -- An answer of the test: the letter, the first letter of the words, or a refusal's number with its place above.
@@ -21,13 +17,10 @@ testNumber (returned n p) = packed n p
 abbrev pub modelNumber : ℕ → ℕ → ℕ → ℕ
 modelNumber shared row commands = packed 109 (shared + 256 * row + 65536 * commands)
 
--- An answer of the reader.
-unfoldable pub answerNumber : Answer → Code → ℕ
-answerNumber Read c = modelNumber (c .shared) (c .row) (c .commands)
-answerNumber (Refused n i) c = packed n i
-
-abbrev pub readNumber : List ℕ → ℕ
-readNumber text = answerNumber (readingOf text .answer) (readingOf text .code)
+-- An answer of the reader: a model, or a refusal's number with its place above.
+unfoldable pub readNumber : R.Wording → ℕ
+readNumber (R.model shared row commands) = modelNumber shared row commands
+readNumber (R.returned n i) = packed n i
 
 -- The answer of the test that a number stands for.
 abbrev pub wordingFor : ℕ → Wording
@@ -42,3 +35,10 @@ wordingFor x =
     (cond (eqb low 69) (letter "E")
     (cond (eqb low 70) (letter "F")
     (returned low (x / 256)))))))))
+
+-- The answer of the reader that a number stands for.
+abbrev pub readingFor : ℕ → R.Wording
+readingFor x =
+    let low = x % 256 in
+    let above = x / 256 in
+    cond (eqb low 109) (R.model (above % 256) (above / 256 % 256) (above / 65536)) (R.returned low above)

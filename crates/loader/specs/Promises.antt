@@ -6,18 +6,25 @@ use Prim.Native.Nat.{ℕ}
 use lib.ListN.{length}
 use Rattle.notation.specs.Model.{Model}
 use Rattle.notation.specs.Texts.{TextSays, TextRefused}
+use Rattle.reader.specs.Read.{readingOf}
+use Rattle.reader.specs.Answers as R
 use Rattle.acceptance.specs.Promises.{answerTo}
 use Rattle.packing.specs.Packed.{packed}
-use Rattle.loader.specs.Numbers.{testNumber, modelNumber, readNumber, wordingFor}
+use Rattle.loader.specs.Numbers.{testNumber, modelNumber, readNumber, wordingFor, readingFor}
 
 -- The number of an answer of the test tells the answer.
 abbrev pub TestNumbersTell : Type 0
 TestNumbersTell = (text b : List ℕ) → wordingFor (testNumber (answerTo text b)) ≡ answerTo text b
 
--- The number for a text has the counts of the model that it says, or its first refusal.
+-- What the reader answers to a text.
+abbrev pub readingTo : List ℕ → R.Wording
+readingTo text = R.wordingOf (readingOf text)
+
+-- The number of an answer of the reader tells the answer: it has the counts of the model that the text says, or the text's first refusal.
 pub record ReadTold (text : List ℕ) : Type 0 where
-  pub model : (m : Model) → TextSays text m → readNumber text ≡ modelNumber (m .sharedNames) (m .rowNames) (length (m .commands))
-  pub refusal : (n i : ℕ) → TextRefused text n i → readNumber text ≡ packed n i
+  pub back : readingFor (readNumber (readingTo text)) ≡ readingTo text
+  pub model : (m : Model) → TextSays text m → readNumber (readingTo text) ≡ modelNumber (m .sharedNames) (m .rowNames) (length (m .commands))
+  pub refusal : (n i : ℕ) → TextRefused text n i → readNumber (readingTo text) ≡ packed n i
 
 abbrev pub ReadNumbersTell : Type 0
 ReadNumbersTell = (text : List ℕ) → ReadTold text

@@ -6,6 +6,7 @@ ghost use Rattle.acceptance.specs.Outcomes.{wordingOf};
 ghost use Rattle.acceptance.specs.Promises.{answerTo, Bounded};
 ghost use Rattle.acceptance.specs.SheetTexts.{AreBytes};
 ghost use Rattle.loader.specs.Numbers.{testNumber, modelNumber, readNumber};
+ghost use Rattle.loader.specs.Promises.{readingTo};
 use acceptance::outcome::Outcome;
 use acceptance::test;
 use packing::pack;
@@ -50,7 +51,7 @@ fn model_number(shared: usize, row: usize, commands: usize) -> u64
 // The counts of the model that a text says, or the text's first refusal.
 #[no_mangle]
 pub extern "C" fn nutseason_read(text: &[u8]) -> u64
-    ensures { λ r. ⌜ r ≡ readNumber (now (text .entry)) ⌝ }
+    ensures { λ r. ⌜ r ≡ readNumber (readingTo (now (text .entry))) ⌝ }
 {
     let reading = read(text);
     let answer = reading.answer;

@@ -16,7 +16,8 @@ use Rattle.meaning.specs.OneRow.{One, stateNumber, stateCount, wordCount
 use Rattle.meaning.specs.Evidence.{inMap, ConditionA, ConditionB, ConditionC, ConditionE, ConditionF, StepFits}
 use Rattle.meaning.specs.working.Conditions.{every, implies, testA, testB, wordsStay, closedAt, testC, testE, AllTestsTell}
 use Rattle.meaning.proofs.Number.{stateNumber-spread}
-use Rattle.meaning.proofs.OneRow.{and-split, and-join, starts-tell, breaks-tell, next-tells, last-is}
+use Rattle.notation.proofs.Booleans.{and-split, and-join}
+use Rattle.meaning.proofs.OneRow.{starts-tell, breaks-tell, next-tells, last-is}
 
 pub below : (n : ℕ) (f : ℕ → Bool) → every n f ≡ true → (i : ℕ) → i < n → f i ≡ true
 unfolding every

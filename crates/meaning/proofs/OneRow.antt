@@ -6,17 +6,11 @@ use mathlib.Core.Bool.{Bool, true, false, not, _&&_}
 use mathlib.Core.List.{List, [], _∷_, map}
 use Prim.Native.Nat.{ℕ}
 use Rattle.notation.specs.Model.{Model}
+use Rattle.notation.proofs.Booleans.{and-split, and-join}
 use Rattle.meaning.specs.Meaning.{step, commandAt, Fits, last}
 use Rattle.meaning.specs.OneRow.{One, theRow, spread, spreadWord, starts, breaks, next, TraceStep, spreadStep, lastOf, StartsTell, BreaksTell, NextTells, NextStays}
 use Rattle.meaning.proofs.Number.{first-length, stateNumber-lt, spread-stateNumber}
 use Rattle.meaning.proofs.Fits.{step-fits}
-
-pub and-split : (a b : Bool) → a && b ≡ true → (a ≡ true) × (b ≡ true)
-and-split true b e = (refl, e)
-and-split false b e = (e, cc)
-
-pub and-join : (a b : Bool) → a ≡ true → b ≡ true → a && b ≡ true
-and-join a b p q = rw (p, q)
 
 pub spread-fits : (m : Model) (I : Type 0) (s : ℕ) → Fits m (spread m I s)
 unfolding spread

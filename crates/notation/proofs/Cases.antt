@@ -9,20 +9,22 @@ use Prim.Native.Char.{code}
 use Prim.Native.String as S
 use Prim.Native.String.{String}
 use Rattle.notation.specs.Bytes.{bytes, sameWord}
-use Rattle.notation.specs.Tokens.{reserved, wordIn, wordToken}
+use Rattle.notation.specs.Tokens.{Name, reserved, wordIn, wordToken}
 use Rattle.notation.specs.Notation.{Tree}
 use Rattle.notation.specs.Rules.{sameKind, allowed, nameCounts, view, has, elem}
 use Rattle.notation.specs.Model.{Expr, lit, star, shared, row, neg, conj, disj, skipRow, putRow, skip, put, for, Model}
-use Rattle.notation.specs.Texts.{placeOf, among, nameOf, exprOf, rowItemOf, rowItemsOf, itemOf, itemsOf, commandOf, clauseOf, modelOf}
+use Rattle.notation.specs.Texts.{placeOf, among, nameOf, exprOf, rowItemOf, rowItemsOf, itemOf, itemsOf, commandOf, clauseOf, modelOf, namesOf}
 use Rattle.notation.specs.working.Lexing.{span, mark, front, lexemes, tokensFrom}
 use Rattle.notation.specs.working.Ledger.{tally, note, exceeds, fault}
 use Rattle.notation.specs.working.Table.{lines, skips, find, step, ending}
 use Rattle.notation.specs.working.Machine.{Outcome, read, refused, reads}
 use Rattle.notation.specs.working.Answer.{answer}
 
--- What is expected of a text: the model that it says; that it says some model; or its first refusal, by number and place.
+-- What is expected of a text: the model that it says; the names that it declares, each with the place where it stands;
+-- that it says some model; or its first refusal, by number and place.
 pub data Expected : Type 0 where
   saysModel : Model → Expected
+  hasNames : List Name → Expected
   isRead : Expected
   isRefused : ℕ → ℕ → Expected
 
@@ -37,6 +39,7 @@ _gives_ t e = record { text = t; expected = e }
 -- What came of a text, told as far as was expected: its model only where one is named.
 abbrev pub cameRead : Expected → Tree → Expected
 cameRead (saysModel m) x = saysModel (modelOf x)
+cameRead (hasNames ns) x = hasNames (namesOf x)
 cameRead isRead x = isRead
 cameRead (isRefused n i) x = isRead
 
@@ -91,6 +94,10 @@ startsWith e = record {
   commands = record { test = lit true; doItems = skip ∷ []; elseItems = skip ∷ [] } ∷ [];
 }
 
+-- A name where it stands.
+abbrev pub standing : ℕ → String → Name
+standing i s = record { place = i; word = bytes s }
+
 unfoldable pub cases : List Case
 cases =
     -- G, H and the empty text
@@ -108,6 +115,9 @@ cases =
     starting "not (m and n) or not not 1" gives saysModel (startsWith (disj (neg (conj (shared 0) (shared 1))) (neg (neg (lit true))))) ∷
     -- stars are numbered on through the branches of `for` and past `else`, and from 0 in each command
     begun "command c if * do for * do x := *; w := x and * else w := * end; m := * else m := * or *. command d if 1 do skip; m := not * else skip." gives saysModel starred ∷
+    -- where names stand
+    bytes "shared m. row w x. start m each x. keep 1 each 1. command grant if 1 do skip else skip. command c if 1 do skip else skip." gives
+    hasNames (standing 7 "m" ∷ standing 14 "w" ∷ standing 16 "x" ∷ standing 58 "grant" ∷ standing 96 "c" ∷ []) ∷
     -- bytes outside the notation, neighbours of those inside among them: such a byte ends a word, and is refused where it stands
     bytes "/" gives isRefused 2 0 ∷
     bytes "@" gives isRefused 2 0 ∷
@@ -255,7 +265,7 @@ cases =
     []
 
 pub all-cases : map (λ (c : Case). came (c .expected) (answer (c .text))) cases ≡ map (λ (c : Case). c .expected) cases
-unfolding bytes sameWord reserved wordIn wordToken sameKind allowed nameCounts view has elem placeOf among nameOf exprOf rowItemOf rowItemsOf itemOf itemsOf commandOf clauseOf modelOf
+unfolding bytes sameWord reserved wordIn wordToken sameKind allowed nameCounts view has elem placeOf among nameOf exprOf rowItemOf rowItemsOf itemOf itemsOf commandOf clauseOf modelOf namesOf
     span mark front lexemes tokensFrom tally note exceeds fault lines skips find step ending reads answer cases
 all-cases = refl
 

@@ -1,4 +1,6 @@
 -- Theorems about the definitions of specs/, by subject.
+pub mod Booleans
+pub mod ByteTable
 pub mod Cuts
 pub mod Lexes
 pub mod Ledger

@@ -110,6 +110,6 @@ layoutOf m =
       code = joined (segments m);
     }
 
--- The most code words that a text's model has.
+-- A bound on the code words of a text's model: one for each node, three for each item, three for each command.
 abbrev pub longestCode : ℕ
 longestCode = 1840

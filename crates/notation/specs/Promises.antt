@@ -1,17 +1,41 @@
 -- What is promised of texts, each promise a type that a theorem of proofs/ inhabits.
 -- Assumes nothing.
 use mathlib.Core.Path.{_≡_}
-use mathlib.Core.List.{List}
+use mathlib.Core.Bool.{not}
+use mathlib.Core.List.{List, _++_}
 use mathlib.Core.Logic.{_↔_, _⊎_}
-use Prim.Native.Nat.{ℕ, _≤_}
+use Prim.Native.Nat.{ℕ, _≤_, _<_}
 use lib.ListN.{length}
+use Rattle.notation.specs.Bytes.{bytes, letter, wordByte, blankByte}
+use Rattle.notation.specs.Tokens.{barredByte}
 use Rattle.notation.specs.Notation.{Tree}
+use Rattle.notation.specs.Rules.{elem}
 use Rattle.notation.specs.Model.{Model}
 use Rattle.notation.specs.Layout.{layoutOf}
 use Rattle.notation.specs.Regular.{Regular}
 use Rattle.notation.specs.Texts.{TextSaysTree, TextSays, TextRefused, longestText}
 use Rattle.notation.specs.working.Machine.{read, refused}
 use Rattle.notation.specs.working.Answer.{answer}
+
+-- The bytes of a text, written out: the letters, those of words, and all that are allowed.
+abbrev pub letters : List ℕ
+letters = bytes "abcdefghijklmnopqrstuvwxyzABCDEFGHIJKLMNOPQRSTUVWXYZ"
+
+abbrev pub inWords : List ℕ
+inWords = letters ++ bytes "0123456789_"
+
+abbrev pub inTexts : List ℕ
+inTexts = inWords ++ bytes " \n.;:=()*"
+
+-- The tests of a byte ask whether it is among those.
+pub record ByteTold (b : ℕ) : Type 0 where
+  pub letters : letter b ≡ elem b letters
+  pub words : wordByte b ≡ elem b inWords
+  pub blanks : blankByte b ≡ elem b (bytes " \n")
+  pub barred : barredByte b ≡ not (elem b inTexts)
+
+abbrev pub BytesTold : Type 0
+BytesTold = (b : ℕ) → b < 256 → ByteTold b
 
 -- No text says two trees: what it says is one down to the names and the places where they stand.
 abbrev pub OneTree : Type 0

@@ -1,4 +1,5 @@
--- What holds of every model that a text says: its names are in range, its stars are numbered, its counts are within the limits.
+-- What holds of every model that a text says: its names are in range, its stars are numbered, it has no more names, commands and stars
+-- than the limits allow, and its expressions and its flat form are bounded. (Items and nodes are counted in texts, not in models.)
 -- Assumes nothing.
 use mathlib.Core.Path.{_≡_}
 use mathlib.Core.List.{List, [], _∷_}
@@ -59,7 +60,7 @@ height (neg e) = height e
 height (conj a b) = max (height a) (1 + height b)
 height (disj a b) = max (height a) (1 + height b)
 
--- The greatest height of an expression whose parentheses and `not` nest to the limit.
+-- A bound on the height of an expression whose parentheses and `not` nest to the limit.
 abbrev pub tallest : ℕ
 tallest = 35
 
@@ -92,7 +93,7 @@ pub record Regular (m : Model) : Type 0 where
   pub keepWhole : Starless (m .keep .whole)
   pub keepEach : Starless (m .keep .each)
   pub numbered : Every (λ k. NumberedFrom 0 (stars k)) (m .commands)
-  -- its counts are within the limits
+  -- it has no more names, commands and stars than the limits allow
   pub fewShared : m .sharedNames ≤ 8
   pub fewRow : m .rowNames ≤ 10
   pub fewNames : m .sharedNames + m .rowNames ≤ 12

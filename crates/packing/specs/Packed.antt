@@ -8,7 +8,7 @@ use Rattle.notation.specs.Bytes.{bytes}
 abbrev pub packed : ℕ → ℕ → ℕ
 packed low above = low + 256 * above
 
--- The most that is ever put above the byte: three counts of a byte each.
+-- A bound on what is put above the byte: three counts of a byte each.
 abbrev pub mostAbove : ℕ
 mostAbove = 16777215
 

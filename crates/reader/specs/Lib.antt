@@ -1,3 +1,4 @@
 pub mod Read
+pub mod Answers
 pub mod Promises
 pub mod working

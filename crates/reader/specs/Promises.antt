@@ -4,20 +4,25 @@ use mathlib.Core.Path.{_≡_}
 use mathlib.Core.List.{List}
 use mathlib.Core.Logic.{_↔_}
 use Prim.Native.Nat.{ℕ}
+use lib.ListN.{length}
 use Rattle.notation.specs.Notation.{Tree}
 use Rattle.notation.specs.Model.{Model}
 use Rattle.notation.specs.Texts.{TextSaysTree, TextSays, TextRefused, modelOf, namesOf}
 use Rattle.notation.specs.Layout.{layoutOf}
-use Rattle.reader.specs.declared.Answer.the-variants.{Read, Refused}
 use Rattle.reader.specs.Read.{codeOf, emptyCode, readingOf}
+use Rattle.reader.specs.Answers.{model, returned, wordingOf}
 
--- The answer is that a model was read exactly where the text says one; then the code is the flat form of the model and the names as written.
+-- The model has these counts.
+abbrev pub Counted : Model → ℕ → ℕ → ℕ → Type 0
+Counted m shared row commands = (m .sharedNames ≡ shared) × (m .rowNames ≡ row) × (length (m .commands) ≡ commands)
+
+-- The answer is a model's counts exactly where the text says a model that has them; then the code is the flat form of the model and the names as written.
 -- It is a refusal exactly where that is the text's first, and then nothing stands beside it.
 pub record Answers (text : List ℕ) : Type 0 where
-  pub reads : ((m : Model) × TextSays text m) ↔ (readingOf text .answer ≡ Read)
-  pub code : (x : Tree) → TextSaysTree text x → readingOf text ≡ record { answer = Read; code = codeOf (layoutOf (modelOf x)) (namesOf x) }
-  pub refuses : (n i : ℕ) → TextRefused text n i ↔ (readingOf text .answer ≡ Refused n i)
-  pub empty : (n i : ℕ) → TextRefused text n i → readingOf text ≡ record { answer = Refused n i; code = emptyCode }
+  pub reads : (a b k : ℕ) → (wordingOf (readingOf text) ≡ model a b k) ↔ ((m : Model) × TextSays text m × Counted m a b k)
+  pub code : (x : Tree) → TextSaysTree text x → readingOf text .code ≡ codeOf (layoutOf (modelOf x)) (namesOf x)
+  pub refuses : (n i : ℕ) → (wordingOf (readingOf text) ≡ returned n i) ↔ TextRefused text n i
+  pub empty : (n i : ℕ) → TextRefused text n i → readingOf text .code ≡ emptyCode
 
 abbrev pub ReadAnswers : Type 0
 ReadAnswers = (text : List ℕ) → Answers text

@@ -50,6 +50,6 @@ unfoldable pub reportLines : Tree → Sheet → List ℕ
 reportLines x s =
     countsLine (modelOf x .sharedNames) (modelOf x .rowNames) (length (modelOf x .commands)) ++ sheetLines (commandName x) s
 
--- The longest that a report can be: the first three lines, and 4,095 steps of 36 bytes.
+-- A bound on the length of a report: 37 bytes for the first three lines, and 36 for each of 4,095 steps.
 abbrev pub longestReport : ℕ
 longestReport = 147457

@@ -24,10 +24,10 @@ use search::search;
 // Every text's search can do with a table of this size: 12 names have 4,096 states.
 pub type Table = [u16; 4096];
 
-// Room for the longest trace, 4,095 steps behind the 17 bytes of header and start state.
+// Room for every trace of 4,096 states: 10 bytes for each, and 7 more.
 pub type Sheet = [u8; 40967];
 
-// Room for the longest report: lines of 14, 12 and 11 bytes for counts, verdict and start state, and then
+// Room for every report: lines of 14, 12 and 11 bytes for counts, verdict and start state, and then
 // at most 4,095 steps of 36 bytes each. A step has a number and a state of 4 digits, a name of 16 bytes and a word of 3 digits.
 pub type Report = [u8; 147457];
 

@@ -20,7 +20,7 @@ use Rattle.notation.proofs.Regular.{all-regular}
 use Rattle.meaning.specs.Meaning.{Safe, Unsafe}
 use Rattle.meaning.specs.OneRow.{One, stateCount}
 use Rattle.meaning.specs.Evidence.{Sheet, safe, trace}
-use Rattle.meaning.proofs.OneRow.{and-split, and-join}
+use Rattle.notation.proofs.Booleans.{and-split, and-join}
 use Rattle.acceptance.specs.Sheets.{systemOf, sheetBytes}
 use Rattle.exploration.specs.Findings.{Finds}
 use Rattle.search.specs.Answers.{Wording, verdict, returned, wordingOf}

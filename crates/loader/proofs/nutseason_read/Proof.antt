@@ -2,7 +2,8 @@
 -- Assumes nothing.
 use mathlib.Core.Path.{sym}
 use Rattle.reader.specs.declared.Answer.the-variants.{Read, Refused}
-use Rattle.loader.specs.Numbers.{answerNumber}
+use Rattle.reader.specs.Answers.{wordingIn}
+use Rattle.loader.specs.Numbers.{readNumber}
 use Rattle.loader.proofs.Told.{near, answered, counts-fit}
 use borrow.Author.Needs.{needs}
 use Rattle.loader.proofs.nutseason_read.Statement.{statement}
@@ -24,11 +25,11 @@ model-number-requires : tie.Need-model-number-requires
 model-number-requires c κs = counts-fit _ _ (c .before .before .before .read .ensures) (sym (c .before .enum-told .given .1))
 
 returns : tie.Need-returns
-unfolding answerNumber
+unfolding readNumber wordingIn
 returns c = answered _ _ (c .before .before .before .before .read .ensures) (Refused _ _) _ (sym (c .before .before .answer .given .1)) (c .pack .ensures)
 
 returns-2 : tie.Need-returns-2
-unfolding answerNumber
+unfolding readNumber wordingIn
 returns-2 c = answered _ _ (c .before .before .before .before .read .ensures) Read _ (sym (c .before .before .enum-told .given .1)) (c .model-number .ensures)
 
 pub nutseason-read-spec : {M : Type 1} → statement M
