@@ -1,6 +1,7 @@
 """From a text to its explanation: runs the report program, and prints what
 its report means or writes it as a page."""
 
+import contextlib
 import os
 import subprocess
 import sys
@@ -16,7 +17,7 @@ SAFE, UNSAFE, REFUSED = 0, 1, 2
 
 
 class Stopped(Exception):
-    """Why no page could be written."""
+    """Why the explanation could not be written."""
 
 
 def shown(path):
@@ -55,13 +56,15 @@ def reported(program, text):
 
 
 def show(lines):
-    """A reader that has seen enough closes the pipe, which is no fault."""
+    """By the descriptor: sys.stdout is None where it is closed, and keeps
+    what could not be written for a second try at the end."""
     said = "".join(f"{line}\n" for line in lines)
     try:
-        sys.stdout.buffer.write(said.encode())
-        sys.stdout.buffer.flush()
-    except BrokenPipeError:
-        os.dup2(os.open(os.devnull, os.O_WRONLY), sys.stdout.fileno())
+        with open(1, "wb", closefd=False) as output:
+            output.write(said.encode())
+    except OSError as fault:
+        why = f"cannot write standard output: {fault.strerror}"
+        raise Stopped(why) from fault
 
 
 def explain(program, path, out):
@@ -87,6 +90,13 @@ def write(out, path, said):
         raise Stopped(why) from fault
 
 
+def tell(fault):
+    """That there is no verdict stands, also where it cannot be told."""
+    if sys.stderr is not None:
+        with contextlib.suppress(OSError):
+            print(fault, file=sys.stderr)
+
+
 def main(program, path, out=None):
     try:
         return explain(program, path, out)
@@ -97,5 +107,5 @@ def main(program, path, out=None):
     except Exception:
         # Python's own status for this is 1, which would say unsafe.
         fault = f"explain went wrong\n{traceback.format_exc()}"
-    print(f"nutseason: {fault}", file=sys.stderr)
+    tell(f"nutseason: {fault}")
     return REFUSED

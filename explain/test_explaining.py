@@ -6,6 +6,7 @@ import io
 import os
 import tempfile
 import unittest
+from errno import EBADF, ENOSPC, EPIPE
 from pathlib import Path
 from unittest import mock
 
@@ -13,6 +14,21 @@ from explaining import main, shown
 from stored import cases
 
 CASES = {case.name: case for case in cases()}
+
+
+@contextlib.contextmanager
+def standard_output(given):
+    """Another descriptor as standard output; None closes it."""
+    kept = os.dup(1)
+    if given is None:
+        os.close(1)
+    else:
+        os.dup2(given, 1)
+    try:
+        yield
+    finally:
+        os.dup2(kept, 1)
+        os.close(kept)
 
 
 class Explaining(unittest.TestCase):
@@ -23,9 +39,9 @@ class Explaining(unittest.TestCase):
         self.text = self.folder / "model.text"
         self.out = self.folder / "page.html"
 
-    def run_on(self, case, report=None, out=None):
-        """Status, standard output and standard error. The stand-in gives its
-        report only to a text that it is handed whole."""
+    def explain(self, case, output, report=None, out=None):
+        """Status and standard error. The stand-in gives its report only to a
+        text that it is handed whole."""
         self.text.write_bytes(case.text)
         said = self.folder / "said"
         said.write_bytes(case.report if report is None else report)
@@ -33,11 +49,17 @@ class Explaining(unittest.TestCase):
         program.write_text(f"#!/bin/sh\ncmp -s - '{self.text}' && "
                            f"cat '{said}'\n")
         program.chmod(0o755)
-        output = io.TextIOWrapper(io.BytesIO())
-        with (mock.patch("sys.stdout", output),
+        with (standard_output(output),
               contextlib.redirect_stderr(io.StringIO()) as error):
             status = main(str(program), str(self.text), out)
-        return status, output.buffer.getvalue().decode(), error.getvalue()
+        return status, error.getvalue()
+
+    def run_on(self, case, report=None, out=None):
+        """Status, standard output and standard error."""
+        with tempfile.TemporaryFile() as output:
+            status, error = self.explain(case, output.fileno(), report, out)
+            output.seek(0)
+            return status, output.read().decode(), error
 
     def test_statuses(self):
         for name, status in (("safe", 0), ("several_steps", 1), ("tab", 2)):
@@ -70,6 +92,18 @@ class Explaining(unittest.TestCase):
             self.assertEqual((status, said), (2, ""))
             self.assertIn(why, error)
         self.assertEqual(self.text.read_bytes(), CASES["safe"].text)
+
+    def test_no_output(self):
+        full = os.open("/dev/full", os.O_WRONLY)
+        unread, pipe = os.pipe()
+        os.close(unread)
+        for output, error in ((full, ENOSPC), (pipe, EPIPE), (None, EBADF)):
+            line = f"cannot write standard output: {os.strerror(error)}\n"
+            for out in (None, str(self.out)):
+                told = self.explain(CASES["several_steps"], output, out=out)
+                self.assertEqual(told, (2, f"nutseason: {line}"))
+        os.close(full)
+        os.close(pipe)
 
     def test_a_fault_is_not_unsafe(self):
         with mock.patch("explaining.model_of", side_effect=KeyError):
