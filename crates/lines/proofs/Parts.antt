@@ -5,11 +5,12 @@ use mathlib.Core.List.{List, [], _∷_}
 use Prim.Native.Nat.{ℕ, _+_, _≤_}
 use native.Mathlib.Omega.{arith}
 use lib.ListN.{length, length-append}
+use Rattle.io.specs.Counts.{Counts}
 use Rattle.notation.specs.Bytes.{bytes}
 use Rattle.lines.specs.Lines.{decimalOf, word, others, line, refusalLine}
 use Rattle.lines.specs.Puts.{Fits, Puts}
 use Rattle.lines.proofs.Digits.{digits-within}
-use Rattle.lines.proofs.Stores.{behind, first-fits, rest-fits}
+use Rattle.lines.proofs.Stores.{behind, first-fits, rest-fits, front-counts}
 
 module _ (w : List ℕ) (ws : List (List ℕ)) {l x y : List ℕ} {at r s : ℕ} where
   -- The first word, and what follows it.
@@ -62,6 +63,13 @@ pub end-length : length (others []) ≡ 1
 unfolding others
 end-length = refl
 
+-- A space and at most 20 digits.
+pub number-fits : (l : List ℕ) (at n : ℕ) → at + 21 ≤ length l → Fits l at (word (decimalOf n))
+number-fits l at n h = record { room = omega (arith, digits-within 19 n) }
+
+pub number-ends : {l x : List ℕ} {at r : ℕ} (n : ℕ) → Puts l at (word (decimalOf n)) x r → r ≤ at + 21
+number-ends n P = omega (arith, P .ends, digits-within 19 n)
+
 -- Two numbers of at most 20 digits each.
 pub refusal-short : (n p : ℕ) → length (refusalLine n p) ≤ 50
 unfolding bytes
@@ -71,3 +79,6 @@ refusal-short n p =
 
 pub refusal-fits : (l : List ℕ) (n p : ℕ) → 50 ≤ length l → Fits l 0 (refusalLine n p)
 refusal-fits l n p h = record { room = omega (arith, refusal-short n p) }
+
+pub refusal-counts : (l : List ℕ) (n p : ℕ) {x : List ℕ} {r : ℕ} → 50 ≤ length l → Puts l 0 (refusalLine n p) x r → Counts r x
+refusal-counts l n p {x} {r} h P = front-counts x l (refusalLine n p) r (P .stored) (omega (arith, P .ends, refusal-short n p))
