@@ -2,15 +2,13 @@
 // It writes one line to standard output: `safe holds`, `trace holds`, the letter of the first failure, or `refused NUMBER PLACE`.
 // Without two arguments, or where a file can't be read, it writes nothing there, and a line to standard error.
 // A program ends with status 0 whatever it found, so the line is the whole answer.
-mod line;
-
 ghost use Rattle.streams.specs.Reads.{Within};
 use acceptance::test;
 use libc::STDERR_FILENO;
 use libc::STDOUT_FILENO;
-use line::put_line;
 use streams::whole::Got;
 use streams::whole::read_file;
+use wording::put_line;
 
 // Says on standard error that a file can't be read, and why.
 fn say_unread(path: &[u8]) {

@@ -8,10 +8,10 @@ use Rattle.lines.proofs.Parts.{refusal-fits}
 use Rattle.acceptance.specs.Outcomes.{wordingOf}
 use Rattle.acceptance.specs.declared.outcome.Outcome.the-variants.{SafeHolds, TraceHolds, FailsA, FailsB, FailsC, FailsD, FailsE, FailsF}
 use Rattle.notation.specs.Bytes.{bytes}
-use Rattle.admit.specs.Lines.{spelt}
-use Rattle.admit.proofs.Spelling.{told, told-refusal}
-use Rattle.admit.proofs.line.put_line.Statement.{statement}
-use Rattle.admit.proofs.line.put_line.Tie as tie
+use Rattle.wording.specs.Lines.{spelt}
+use Rattle.wording.proofs.Spelling.{told, told-refusal}
+use Rattle.wording.proofs.put_line.Statement.{statement}
+use Rattle.wording.proofs.put_line.Tie as tie
 
 enum-told : tie.Need-enum-told
 enum-told c = search needs
@@ -96,38 +96,38 @@ put-refusal-requires c κs = refusal-fits (c .before .before .before .before .ar
 
 returns : tie.Need-returns
 unfolding spelt line others bytes wordingOf
-returns c = told (c .before .before .before .before .before .args .line .now) (c .put .last .0) _ (c .put .result) (c .before .before .before .before .before .args .outcome) SafeHolds (c .put .ensures) (c .before .before .before .enum-told .given .1) refl (omega arith)
+returns c = told (c .before .before .before .before .before .args .line .now) (c .put .last .0) _ (c .put .result) (c .before .before .before .before .before .args .outcome) SafeHolds (c .put .ensures) (c .before .before .before .enum-told .given .1) refl (omega arith) (omega arith)
 
 returns-2 : tie.Need-returns-2
 unfolding spelt line others bytes wordingOf
-returns-2 c = told (c .before .before .before .before .before .args .line .now) (c .put2 .last .0) _ (c .put2 .result) (c .before .before .before .before .before .args .outcome) TraceHolds (c .put2 .ensures) (c .before .before .before .enum-told2 .given .1) refl (omega arith)
+returns-2 c = told (c .before .before .before .before .before .args .line .now) (c .put2 .last .0) _ (c .put2 .result) (c .before .before .before .before .before .args .outcome) TraceHolds (c .put2 .ensures) (c .before .before .before .enum-told2 .given .1) refl (omega arith) (omega arith)
 
 returns-3 : tie.Need-returns-3
 unfolding spelt line others bytes wordingOf
-returns-3 c = told (c .before .before .before .before .before .args .line .now) (c .put3 .last .0) _ (c .put3 .result) (c .before .before .before .before .before .args .outcome) FailsA (c .put3 .ensures) (c .before .before .before .enum-told3 .given .1) refl (omega arith)
+returns-3 c = told (c .before .before .before .before .before .args .line .now) (c .put3 .last .0) _ (c .put3 .result) (c .before .before .before .before .before .args .outcome) FailsA (c .put3 .ensures) (c .before .before .before .enum-told3 .given .1) refl (omega arith) (omega arith)
 
 returns-4 : tie.Need-returns-4
 unfolding spelt line others bytes wordingOf
-returns-4 c = told (c .before .before .before .before .before .args .line .now) (c .put4 .last .0) _ (c .put4 .result) (c .before .before .before .before .before .args .outcome) FailsB (c .put4 .ensures) (c .before .before .before .enum-told4 .given .1) refl (omega arith)
+returns-4 c = told (c .before .before .before .before .before .args .line .now) (c .put4 .last .0) _ (c .put4 .result) (c .before .before .before .before .before .args .outcome) FailsB (c .put4 .ensures) (c .before .before .before .enum-told4 .given .1) refl (omega arith) (omega arith)
 
 returns-5 : tie.Need-returns-5
 unfolding spelt line others bytes wordingOf
-returns-5 c = told (c .before .before .before .before .before .args .line .now) (c .put5 .last .0) _ (c .put5 .result) (c .before .before .before .before .before .args .outcome) FailsC (c .put5 .ensures) (c .before .before .before .enum-told5 .given .1) refl (omega arith)
+returns-5 c = told (c .before .before .before .before .before .args .line .now) (c .put5 .last .0) _ (c .put5 .result) (c .before .before .before .before .before .args .outcome) FailsC (c .put5 .ensures) (c .before .before .before .enum-told5 .given .1) refl (omega arith) (omega arith)
 
 returns-6 : tie.Need-returns-6
 unfolding spelt line others bytes wordingOf
-returns-6 c = told (c .before .before .before .before .before .args .line .now) (c .put6 .last .0) _ (c .put6 .result) (c .before .before .before .before .before .args .outcome) FailsD (c .put6 .ensures) (c .before .before .before .enum-told6 .given .1) refl (omega arith)
+returns-6 c = told (c .before .before .before .before .before .args .line .now) (c .put6 .last .0) _ (c .put6 .result) (c .before .before .before .before .before .args .outcome) FailsD (c .put6 .ensures) (c .before .before .before .enum-told6 .given .1) refl (omega arith) (omega arith)
 
 returns-7 : tie.Need-returns-7
 unfolding spelt line others bytes wordingOf
-returns-7 c = told (c .before .before .before .before .before .args .line .now) (c .put7 .last .0) _ (c .put7 .result) (c .before .before .before .before .before .args .outcome) FailsE (c .put7 .ensures) (c .before .before .before .enum-told7 .given .1) refl (omega arith)
+returns-7 c = told (c .before .before .before .before .before .args .line .now) (c .put7 .last .0) _ (c .put7 .result) (c .before .before .before .before .before .args .outcome) FailsE (c .put7 .ensures) (c .before .before .before .enum-told7 .given .1) refl (omega arith) (omega arith)
 
 returns-8 : tie.Need-returns-8
 unfolding spelt line others bytes wordingOf
-returns-8 c = told (c .before .before .before .before .before .args .line .now) (c .put8 .last .0) _ (c .put8 .result) (c .before .before .before .before .before .args .outcome) FailsF (c .put8 .ensures) (c .before .before .before .enum-told8 .given .1) refl (omega arith)
+returns-8 c = told (c .before .before .before .before .before .args .line .now) (c .put8 .last .0) _ (c .put8 .result) (c .before .before .before .before .before .args .outcome) FailsF (c .put8 .ensures) (c .before .before .before .enum-told8 .given .1) refl (omega arith) (omega arith)
 
 returns-9 : tie.Need-returns-9
-returns-9 c = told-refusal (c .before .before .before .before .before .args .line .now) (c .put-refusal .last .0) (c .put-refusal .result) (c .before .before .before .before .before .args .outcome) _ _ (c .put-refusal .ensures) (c .before .before .before .outcome .given .1)
+returns-9 c = told-refusal (c .before .before .before .before .before .args .line .now) (c .put-refusal .last .0) (c .put-refusal .result) (c .before .before .before .before .before .args .outcome) _ _ (c .put-refusal .ensures) (c .before .before .before .outcome .given .1) (omega arith)
 
 pub put-line-spec : {M : Type 1} → statement M
 put-line-spec =

@@ -3,7 +3,8 @@ ghost use mathlib.Core.Path.{_≡_};
 ghost use Prim.Native.Nat.{_≤_};
 ghost use lib.ListN.{length};
 ghost use lib.Seq.{sets};
-ghost use Rattle.admit.specs.Lines.{lineOf};
+ghost use Rattle.io.specs.Counts.{Counts};
+ghost use Rattle.wording.specs.Lines.{lineOf};
 use acceptance::outcome::Outcome;
 use lines::put;
 use lines::put_refusal;
@@ -14,6 +15,7 @@ pub type Line = [u8; 64];
 // Puts the line of an outcome at the front; how long it is.
 pub fn put_line(line: &mut Line, outcome: Outcome) -> usize
     ensures { λ r. ⌜ (now (line .exit) ≡ sets (now (line .entry)) 0 (lineOf outcome)) × (r ≡ length (lineOf outcome)) × (r ≤ 64) ⌝ }
+    ensures { λ r. ⌜ Counts r (now (line .exit)) ⌝ }
 {
     match outcome {
         Outcome::SafeHolds => put(line, 0, b"safe holds\n"),

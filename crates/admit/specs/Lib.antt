@@ -1,2 +1,0 @@
--- What the program writes.
-pub mod Lines

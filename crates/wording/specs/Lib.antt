@@ -1,0 +1,2 @@
+-- What is written of an outcome.
+pub mod Lines
