@@ -1,11 +1,11 @@
 // Tests a sheet for a model: `admit TEXT SHEET`, the paths of two files.
 // It writes one line to standard output: `safe holds`, `trace holds`, the letter of the first failure, or `refused NUMBER PLACE`.
-// Without two arguments, or where a file can't be read, it writes nothing there, and a line to standard error.
+// Without two arguments, or where a file can't be read, it writes nothing there, and a line to standard error. Where it can't write its answer, a line there says so too.
 // A program ends with status 0 whatever it found, so the line is the whole answer.
 ghost use Rattle.streams.specs.Reads.{Within};
 use acceptance::test;
 use libc::STDERR_FILENO;
-use libc::STDOUT_FILENO;
+use streams::output::write_out;
 use streams::whole::Got;
 use streams::whole::read_file;
 use wording::put_line;
@@ -52,7 +52,7 @@ fn read_argument(i: usize, room: &mut [u8]) -> Got
 fn answer(text: &[u8], sheet: &[u8]) {
     let mut line = [0u8; 64];
     let n = put_line(&mut line, test(text, sheet));
-    io::write_all(STDOUT_FILENO, &line[..n]);
+    write_out(b"admit", &line[..n]);
 }
 
 // Reads the text and the sheet into their rooms, and answers.

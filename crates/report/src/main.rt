@@ -1,9 +1,9 @@
 // Reads a text from standard input and writes its report to standard output.
-// Where the input can't be read it writes nothing there, and a line to standard error.
+// Handed an argument, or where the input can't be read, it writes nothing there, and a line to standard error. Where the report can't be written, a line there says so too.
 use libc::STDERR_FILENO;
 use libc::STDIN_FILENO;
-use libc::STDOUT_FILENO;
 use reporting::write_report;
+use streams::output::write_out;
 use streams::whole::Got;
 use streams::whole::read_file;
 
@@ -14,7 +14,7 @@ fn report(text: &[u8]) {
     let mut sheet = [0u8; 40967];
     let mut out = [0u8; 147457];
     let n = write_report(text, &mut first, &mut second, &mut sheet, &mut out);
-    io::write_all(STDOUT_FILENO, &out[..n]);
+    write_out(b"report", &out[..n]);
 }
 
 // Reads the text into its room, and reports.
@@ -30,6 +30,10 @@ fn report_into(text: &mut [u8]) {
 
 // The room has a byte more than the longest text, so a longer one is refused by the search itself.
 fn main() {
+    if os::arg_count() != 1 {
+        io::write_all(STDERR_FILENO, b"usage: report < TEXT\n");
+        return;
+    }
     let mut text = [0u8; 16385];
     report_into(&mut text);
 }

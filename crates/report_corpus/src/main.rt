@@ -5,73 +5,59 @@ use streams::bounds::fitting;
 use streams::input::Head;
 use streams::input::Rest;
 use streams::input::whole_text;
-use streams::output::flush;
-use streams::output::put_bytes;
+use streams::output::write_out;
 
-// What is read or written at once.
+// What is read at once.
 type Block = [u8; 65536];
 
 // Room for more than the longest text, so a text that is cut to it is refused all the same.
 type Room = [u8; 32768];
 
-// Where input and output stand: `filled` bytes of the output block are not written yet.
-struct Place {
-    rest: Rest,
-    filled: usize,
-}
-
-// A text was reported on, or there is none.
+// A text was reported on, or there is none, or its report could not be written.
 enum Step {
-    Reported(Place),
+    Reported(Rest),
     End,
 }
 
-// The report of a text of n bytes, or of what there was room for.
-fn put_answer(out: &mut Block, filled: usize, text: &[u8], n: usize) -> usize {
+// Writes the report of a text of n bytes, or of what there was room for; whether it could.
+fn report(text: &[u8], n: usize) -> bool {
     let mut first = [0u16; 4096];
     let mut second = [0u16; 4096];
     let mut sheet = [0u8; 40967];
-    let mut report = [0u8; 147457];
+    let mut out = [0u8; 147457];
     let k = fitting(n, text);
-    let m = write_report(&text[..k], &mut first, &mut second, &mut sheet, &mut report);
-    put_bytes(out, filled, &report[..m])
+    let m = write_report(&text[..k], &mut first, &mut second, &mut sheet, &mut out);
+    write_out(b"report_corpus", &out[..m])
 }
 
 // The next text and its report.
-fn report_one(block: &mut Block, text: &mut Room, out: &mut Block, from: Place) -> Step {
-    let got = whole_text(block, from.rest, text);
+fn report_one(block: &mut Block, text: &mut Room, from: Rest) -> Step {
+    let got = whole_text(block, from, text);
     let Head::Length(n, rest) = got else {
         return Step::End;
     };
-    let filled = put_answer(out, from.filled, text, n);
-    Step::Reported(Place {
-        rest: rest,
-        filled: filled,
-    })
+    if !report(text, n) {
+        return Step::End;
+    }
+    Step::Reported(rest)
 }
 
-// All texts; how much of the output block is filled at the end. Nothing says that the input ends, so the turns are counted.
-fn report_all(block: &mut Block, text: &mut Room, out: &mut Block) -> usize {
-    let mut place = Place {
-        rest: Rest { at: 0, end: 0 },
-        filled: 0,
-    };
+// All texts. Nothing says that the input ends, so the turns are counted.
+fn report_all(block: &mut Block, text: &mut Room) {
+    let mut rest = Rest { at: 0, end: 0 };
     let mut turns = u64::MAX;
     'texts: while 0 < turns {
-        let done = report_one(block, text, out, place);
+        let done = report_one(block, text, rest);
         let Step::Reported(after) = done else {
-            return place.filled;
+            return;
         };
-        place = after;
+        rest = after;
         turns -= 1;
     }
-    place.filled
 }
 
 fn main() {
     let mut block = [0u8; 65536];
     let mut text = [0u8; 32768];
-    let mut out = [0u8; 65536];
-    let filled = report_all(&mut block, &mut text, &mut out);
-    flush(&out, filled);
+    report_all(&mut block, &mut text);
 }

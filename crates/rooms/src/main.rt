@@ -1,80 +1,81 @@
 // Searches a model of eight states with buffers that have just enough room, and then with one entry or one byte less in each of them in turn.
 // It writes a line for each answer.
+ghost use Prim.Native.Nat.{_≤_};
+ghost use lib.ListN.{length};
+ghost use Rattle.io.specs.Counts.{Counts};
+use lines::put;
+use lines::put_number;
+use lines::put_refusal;
 use search::finding::Finding;
 use search::search;
-use streams::output::flush;
-use streams::output::put;
-use streams::output::put_bytes;
-use streams::output::put_number;
-use streams::output::put_refusal;
+use streams::output::write_out;
 
-// A verdict with the sheet's length, or a refusal.
-fn put_finding(out: &mut [u8; 65536], filled: usize, found: Finding) -> usize {
+// Room for the longest line: a number has at most 20 digits.
+type Line = [u8; 64];
+
+// A verdict of at most 6 bytes with the sheet's length.
+fn put_verdict(line: &mut Line, verdict: &[u8], n: usize) -> usize
+    requires { ⌜ length (now verdict) ≤ 6 ⌝ }
+    ensures { λ r. ⌜ Counts r (now (line .exit)) ⌝ }
+{
+    let title = put(line, 0, verdict);
+    let said = put_number(line, title, n);
+    put(line, said, b"\n")
+}
+
+// A verdict, or a refusal.
+fn put_finding(line: &mut Line, found: Finding) -> usize
+    ensures { λ r. ⌜ Counts r (now (line .exit)) ⌝ }
+{
     match found {
-        Finding::Safe(n) => {
-            let title = put_bytes(out, filled, b"safe");
-            let said = put_number(out, title, n);
-            put(out, said, b'\n')
-        }
-        Finding::Unsafe(n) => {
-            let title = put_bytes(out, filled, b"unsafe");
-            let said = put_number(out, title, n);
-            put(out, said, b'\n')
-        }
+        Finding::Safe(n) => put_verdict(line, b"safe", n),
+        Finding::Unsafe(n) => put_verdict(line, b"unsafe", n),
         Finding::Refused(number, place) => {
-            let said = put_refusal(out, filled, number, place);
-            put(out, said, b'\n')
+            let n = number as usize;
+            put_refusal(line, 0, n, place)
         }
     }
 }
 
-fn enough(out: &mut [u8; 65536], text: &[u8]) -> usize {
+fn say(found: Finding) {
+    let mut line = [0u8; 64];
+    let n = put_finding(&mut line, found);
+    write_out(b"rooms", &line[..n]);
+}
+
+fn enough(text: &[u8]) {
     let mut first = [9u16; 8];
     let mut second = [9u16; 8];
     let mut sheet = [9u8; 87];
-    put_finding(out, 0, search(text, &mut first, &mut second, &mut sheet))
+    say(search(text, &mut first, &mut second, &mut sheet));
 }
 
-fn short_first(out: &mut [u8; 65536], filled: usize, text: &[u8]) -> usize {
+fn short_first(text: &[u8]) {
     let mut first = [9u16; 7];
     let mut second = [9u16; 8];
     let mut sheet = [9u8; 87];
-    put_finding(
-        out,
-        filled,
-        search(text, &mut first, &mut second, &mut sheet),
-    )
+    say(search(text, &mut first, &mut second, &mut sheet));
 }
 
-fn short_second(out: &mut [u8; 65536], filled: usize, text: &[u8]) -> usize {
+fn short_second(text: &[u8]) {
     let mut first = [9u16; 8];
     let mut second = [9u16; 7];
     let mut sheet = [9u8; 87];
-    put_finding(
-        out,
-        filled,
-        search(text, &mut first, &mut second, &mut sheet),
-    )
+    say(search(text, &mut first, &mut second, &mut sheet));
 }
 
-fn short_sheet(out: &mut [u8; 65536], filled: usize, text: &[u8]) -> usize {
+fn short_sheet(text: &[u8]) {
     let mut first = [9u16; 8];
     let mut second = [9u16; 8];
     let mut sheet = [9u8; 86];
-    put_finding(
-        out,
-        filled,
-        search(text, &mut first, &mut second, &mut sheet),
-    )
+    say(search(text, &mut first, &mut second, &mut sheet));
 }
 
 fn answer(text: &[u8]) {
-    let mut out = [0u8; 65536];
-    let one = enough(&mut out, text);
-    let two = short_first(&mut out, one, text);
-    let three = short_second(&mut out, two, text);
-    let four = short_sheet(&mut out, three, text);
-    flush(&out, four);
+    enough(text);
+    short_first(text);
+    short_second(text);
+    short_sheet(text);
 }
 
 fn main() {

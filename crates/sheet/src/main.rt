@@ -1,27 +1,26 @@
 // Reads a text from standard input, searches its table of one row and writes the sheet to standard output.
-// For a text that is refused it writes nothing there, and `refused NUMBER PLACE` to standard error; so too with a line where the input can't be read.
+// For a text that is refused it writes nothing there, and `refused NUMBER PLACE` to standard error; so too a line if it is handed an argument or can't read the input.
+// Where the sheet can't be written, a line there says so too.
 use libc::STDERR_FILENO;
 use libc::STDIN_FILENO;
-use libc::STDOUT_FILENO;
+use lines::put_refusal;
 use search::finding::Finding;
 use search::search;
 use streams::bounds::fitting;
-use streams::output::put;
-use streams::output::put_refusal;
-use streams::output::write_front;
+use streams::output::write_out;
 use streams::whole::Got;
 use streams::whole::read_file;
 
 fn write_sheet(sheet: &[u8], n: usize) {
     let k = fitting(n, sheet);
-    io::write_all(STDOUT_FILENO, &sheet[..k]);
+    write_out(b"sheet", &sheet[..k]);
 }
 
+// A refusal's number and place have at most 20 digits each.
 fn say_refused(number: u8, place: usize) {
-    let mut line = [0u8; 65536];
-    let said = put_refusal(&mut line, 0, number, place);
-    let end = put(&mut line, said, b'\n');
-    write_front(STDERR_FILENO, &line, end);
+    let mut line = [0u8; 64];
+    let n = put_refusal(&mut line, 0, number as usize, place);
+    io::write_all(STDERR_FILENO, &line[..n]);
 }
 
 // The sheet of a text.
@@ -50,6 +49,10 @@ fn answer_into(text: &mut [u8]) {
 
 // The room has a byte more than the longest text, so a longer one is refused by the search itself.
 fn main() {
+    if os::arg_count() != 1 {
+        io::write_all(STDERR_FILENO, b"usage: sheet < TEXT > SHEET\n");
+        return;
+    }
     let mut text = [0u8; 16385];
     answer_into(&mut text);
 }

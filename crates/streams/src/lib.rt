@@ -1,4 +1,4 @@
-// Input and output of the programs: whole files and corpora come in, lines go out, in blocks.
+// Input and output of the programs: whole files and corpora come in, and what is written goes out whole or is told.
 pub mod bounds;
 pub mod input;
 pub mod output;

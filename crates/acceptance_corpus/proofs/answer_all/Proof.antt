@@ -6,10 +6,10 @@ use Rattle.acceptance_corpus.proofs.answer_all.Statement.{statement}
 use Rattle.acceptance_corpus.proofs.answer_all.Tie as tie
 
 abbrev Inv-pairs : tie.InvT-pairs
-Inv-pairs block₀ text₀ sheet₀ out₀ place₀ turns₀ block text sheet out place turns = Unit {0}
+Inv-pairs block₀ text₀ sheet₀ rest₀ turns₀ block text sheet rest turns = Unit {0}
 
 abbrev μ-pairs : tie.MeasureT-pairs
-μ-pairs block₀ text₀ sheet₀ out₀ place₀ turns₀ block text sheet out place turns = turns
+μ-pairs block₀ text₀ sheet₀ rest₀ turns₀ block text sheet rest turns = turns
 
 pairs-holds : tie.Need-pairs-holds Inv-pairs μ-pairs
 pairs-holds c = tt

@@ -1,27 +1,27 @@
--- `put_names` is safe and ends: fewer names are left each turn.
+-- `put_names` meets its contract: each of at most 28 turns puts two numbers.
 -- Assumes nothing.
-use Prim.Native.Nat.{_-_}
+use Prim.Native.Nat.{_+_, _-_, _*_, _≤_}
 use native.Mathlib.Omega.{arith}
 use Rattle.reader_corpus.proofs.put_names.Statement.{statement}
 use Rattle.reader_corpus.proofs.put_names.Tie as tie
 
 abbrev Inv-names : tie.InvT-names
-Inv-names out₀ filled names count k n₀ i₀ out n i = Unit {0}
+Inv-names line₀ at names count k n₀ i₀ line n i = (n ≤ at + 6 + 42 * i) × (i ≤ k) × (k ≤ 28) × (at + 1182 ≤ 45031)
 
 abbrev μ-names : tie.MeasureT-names
-μ-names out₀ filled names count k n₀ i₀ out n i = k - i
+μ-names line₀ at names count k n₀ i₀ line n i = k - i
 
 at-most-requires : tie.Need-at-most-requires Inv-names μ-names
 at-most-requires c κs = tt
 
-slice-aggregate-put-bytes : tie.Need-slice-aggregate-put-bytes Inv-names μ-names
-slice-aggregate-put-bytes c = omega arith
+slice-aggregate-put : tie.Need-slice-aggregate-put Inv-names μ-names
+slice-aggregate-put c = omega arith
 
-put-bytes-requires : tie.Need-put-bytes-requires Inv-names μ-names
-put-bytes-requires c κs = tt
+put-requires : tie.Need-put-requires Inv-names μ-names
+put-requires c κs = record { room = omega arith }
 
 names-holds : tie.Need-names-holds Inv-names μ-names
-names-holds c = tt
+names-holds c = (omega arith, omega arith, omega arith, omega arith)
 
 mul-wide : tie.Need-mul-wide Inv-names μ-names
 mul-wide c = omega arith
@@ -32,8 +32,8 @@ element-copy-out-wide c = omega arith
 wide-requires : tie.Need-wide-requires Inv-names μ-names
 wide-requires c κs = tt
 
-put-number-requires : tie.Need-put-number-requires Inv-names μ-names
-put-number-requires c κs = tt
+put-value-requires : tie.Need-put-value-requires Inv-names μ-names
+put-value-requires c κs = omega arith
 
 add-wide : tie.Need-add-wide Inv-names μ-names
 add-wide c = omega arith
@@ -47,8 +47,8 @@ element-copy-out-wide-2 c = omega arith
 wide-requires-2 : tie.Need-wide-requires-2 Inv-names μ-names
 wide-requires-2 c κs = tt
 
-put-number-requires-2 : tie.Need-put-number-requires-2 Inv-names μ-names
-put-number-requires-2 c κs = tt
+put-value-requires-2 : tie.Need-put-value-requires-2 Inv-names μ-names
+put-value-requires-2 c κs = omega arith
 
 add-i : tie.Need-add-i Inv-names μ-names
 add-i c = omega arith
@@ -57,10 +57,10 @@ names-less : tie.Need-names-less Inv-names μ-names
 names-less c = omega arith
 
 names-again : tie.Need-names-again Inv-names μ-names
-names-again c = tt
+names-again c = (omega arith, omega arith, omega arith, omega arith)
 
 returns : tie.Need-returns Inv-names μ-names
-returns c = tt
+returns c = omega arith
 
 pub put-names-spec : {M : Type 1} → statement M
 put-names-spec =
@@ -69,18 +69,18 @@ put-names-spec =
     Inv-names
     μ-names
     at-most-requires
-    slice-aggregate-put-bytes
-    put-bytes-requires
+    slice-aggregate-put
+    put-requires
     names-holds
     mul-wide
     element-copy-out-wide
     wide-requires
-    put-number-requires
+    put-value-requires
     add-wide
     mul-wide-2
     element-copy-out-wide-2
     wide-requires-2
-    put-number-requires-2
+    put-value-requires-2
     add-i
     names-less
     names-again

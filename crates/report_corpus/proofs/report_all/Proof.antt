@@ -6,10 +6,10 @@ use Rattle.report_corpus.proofs.report_all.Statement.{statement}
 use Rattle.report_corpus.proofs.report_all.Tie as tie
 
 abbrev Inv-texts : tie.InvT-texts
-Inv-texts block₀ text₀ out₀ place₀ turns₀ block text out place turns = Unit {0}
+Inv-texts block₀ text₀ rest₀ turns₀ block text rest turns = Unit {0}
 
 abbrev μ-texts : tie.MeasureT-texts
-μ-texts block₀ text₀ out₀ place₀ turns₀ block text out place turns = turns
+μ-texts block₀ text₀ rest₀ turns₀ block text rest turns = turns
 
 texts-holds : tie.Need-texts-holds Inv-texts μ-texts
 texts-holds c = tt
