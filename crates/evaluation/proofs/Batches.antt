@@ -8,6 +8,7 @@ use lib.Dec.{eqb}
 use lib.ListN.{length, replicate}
 use mathlib.Core.Bool.{Bool, true, false, cond}
 use borrow.Author.Tests.{eq-eqb, ne-eqb}
+use Rattle.evaluation.specs.Promises.{LanesAgree}
 use Rattle.evaluation.specs.working.CodeMachine.{runOf, startOf}
 use Rattle.evaluation.specs.working.Ends.{rowOf, fills, pickOf}
 use Rattle.evaluation.specs.working.Batches.{afterOf, cellsAt, filledOf}
@@ -57,14 +58,23 @@ pub filled-old : (os : List ℕ) (s n w : ℕ) (rows : List ℕ) → (w % 64 ≡
 unfolding filledOf
 filled-old os s n w rows h = rw (ne-eqb (w % 64) 0 h)
 
--- What is picked for w from the filled rows is the state that the one-word machine leaves with w.
-pub picked : (os : List ℕ) (s n w : ℕ) (rows after : List ℕ) → n ≤ 16 → s < 2 ^ n → after ≡ filledOf os s n w rows → Ready os s n w rows
-    → pickOf after (w % 64) ≡ afterOf os s n w
+-- What is picked for w from the rows of its batch is the state that the one-word machine leaves with w.
+lane-at : (os : List ℕ) (s n w : ℕ) (rows : List ℕ) → n ≤ 16 → s < 2 ^ n → Have (cellsAt os s n (w / 64)) n rows → pickOf rows (w % 64) ≡ afterOf os s n w
 unfolding cellsAt afterOf
-picked os s n w rows after hn hs e z =
-    ap (λ (r : List ℕ). pickOf r (w % 64)) e
-    ∙ picked-right os (filledOf os s n w rows) (w / 64) s n (w % 64) hn hs (omega arith) (filled os s n w rows z)
+lane-at os s n w rows hn hs have =
+    picked-right os rows (w / 64) s n (w % 64) hn hs (omega arith) have
     ∙ ap (λ (v : ℕ). runOf os v (startOf s) .state % 2 ^ n) (whole w)
   where
     whole : (w : ℕ) → 64 * (w / 64) + w % 64 ≡ w
     whole w = omega arith
+
+pub lanes-agree : LanesAgree
+lanes-agree os s n w rows hn hs full =
+    let row = rowOf (cellsAt os s n (w / 64)) n in
+    lane-at os s n w (fills row 16 rows) hn hs λ r h. fills-at row 16 r rows (omega arith) h
+
+-- So it is from rows that are filled anew only where w begins a batch.
+pub picked : (os : List ℕ) (s n w : ℕ) (rows after : List ℕ) → n ≤ 16 → s < 2 ^ n → after ≡ filledOf os s n w rows → Ready os s n w rows
+    → pickOf after (w % 64) ≡ afterOf os s n w
+picked os s n w rows after hn hs e z =
+    ap (λ (r : List ℕ). pickOf r (w % 64)) e ∙ lane-at os s n w (filledOf os s n w rows) hn hs (filled os s n w rows z)

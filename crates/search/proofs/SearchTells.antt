@@ -24,7 +24,7 @@ use Rattle.notation.proofs.Booleans.{and-split, and-join}
 use Rattle.acceptance.specs.Sheets.{systemOf, sheetBytes}
 use Rattle.exploration.specs.Findings.{Finds}
 use Rattle.search.specs.Answers.{Wording, verdict, returned, wordingOf}
-use Rattle.search.specs.Promises.{RoomTells, Room, SearchDone, SearchRefused, SearchTells, TextRefusedFirst}
+use Rattle.search.specs.Promises.{LeavesTell, RoomTells, Room, SearchDone, SearchRefused, SearchTells, TextRefusedFirst}
 use Rattle.exploration.specs.working.Found.{foundIn, transitionsOf, Agrees}
 use Rattle.search.specs.working.Searching.{roomy, verdictOf, leftWith, leftAlone, searchFor, searchIn, searchOf}
 use Rattle.exploration.proofs.FindsRight.{finds-right}
@@ -128,6 +128,9 @@ search-tells text m says first second sheet =
     go true e h = absurd (h (room-tells m first second sheet .0 e))
     go false e h =
         subst (SearchRefused 8 0 first second sheet) (sym (said text m says first second sheet ∙ without-room m first second sheet e)) (left-alone 8 0 first second sheet)
+
+pub leaves-tell : LeavesTell
+leaves-tell L first second sheet (p, q, r) = λ t. record { answer = L .answer; first = p t; second = q t; sheet = r t }
 
 pub text-refused-first : TextRefusedFirst
 unfolding searchOf searchIn

@@ -18,7 +18,7 @@ use Rattle.acceptance.specs.Outcomes.{words}
 use Rattle.acceptance.specs.Promises.{answerTo, TestPromise}
 use Rattle.exploration.specs.Findings.{Finds}
 use Rattle.search.specs.Answers.{Wording, verdict, returned, wordingOf}
-use Rattle.search.specs.Left.{Left, zeroed}
+use Rattle.search.specs.Left.{Left, Leaves, zeroed}
 use Rattle.search.specs.working.Searching.{roomy, searchOf}
 
 -- The two lent tables have an entry for each state, and the lent sheet buffer has ten bytes for each state and seven more.
@@ -28,6 +28,12 @@ Room m first second sheet = (stateCount m ≤ length first) × (stateCount m ≤
 -- The computed test of the room says just that.
 abbrev pub RoomTells : Type 0
 RoomTells = (m : Model) (first second sheet : List ℕ) → (roomy (stateCount m) first second sheet ≡ true) ↔ Room m first second sheet
+
+-- Contents of which `Leaves` holds are all that the call left, in each of the three buffers.
+abbrev pub LeavesTell : Type 0
+LeavesTell =
+    (L : Left) (first second sheet : List ℕ) → Leaves L first second sheet
+    → _≡_ {A = Left} (record { answer = L .answer; first = first; second = second; sheet = sheet }) L
 
 -- The answer of a call, in words.
 abbrev pub answerOf : Left → Wording
