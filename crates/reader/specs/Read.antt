@@ -49,6 +49,6 @@ unfoldable pub readingIn : Outcome → Reading
 readingIn (read x) = record { answer = Read; code = codeOf (layoutOf (modelOf x)) (namesOf x) }
 readingIn (refused n i) = record { answer = Refused n i; code = emptyCode }
 
--- The answer to a text.
+-- The answer to a text. What it is on every input is said by `ReadAnswers`, which is proved of it.
 abbrev pub readingOf : List ℕ → Reading
 readingOf text = readingIn (answer text)

@@ -48,7 +48,7 @@ unfoldable pub testIn : N.Outcome → List ℕ → Outcome
 testIn (N.read x) sheet = outcomeOf (systemOf (modelOf x)) sheet
 testIn (N.refused n p) sheet = Refused n p
 
--- The outcome for a text and a sheet.
+-- The outcome for a text and a sheet. What it is on every input is said by `TestTells` and `TextComesFirst`, which are proved of it.
 unfoldable pub testOf : List ℕ → List ℕ → Outcome
 testOf text sheet = testIn (answer text) sheet
 

@@ -21,6 +21,6 @@ unfoldable pub reportIn : Outcome → List ℕ
 reportIn (read x) = reportLines x (foundFor (modelOf x))
 reportIn (refused n p) = refusalLine n p
 
--- The report of a text.
+-- The report of a text. What it is on every input is said by `ReportTells`, which is proved of it.
 abbrev pub reportOf : List ℕ → List ℕ
 reportOf text = reportIn (answer text)

@@ -54,6 +54,6 @@ unfoldable pub searchIn : N.Outcome → List ℕ → List ℕ → List ℕ → L
 searchIn (N.read x) first second sheet = searchFor (systemOf (modelOf x)) first second sheet
 searchIn (N.refused n p) first second sheet = leftAlone n p first second sheet
 
--- For a text.
+-- For a text. What it is on every input is said by `SearchTells` and `TextRefusedFirst`, which are proved of it.
 unfoldable pub searchOf : List ℕ → List ℕ → List ℕ → List ℕ → Left
 searchOf text first second sheet = searchIn (answer text) first second sheet
