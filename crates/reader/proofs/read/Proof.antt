@@ -25,10 +25,23 @@ empty-requires-2 : tie.Need-empty-requires-2
 empty-requires-2 c κs = search needs
 
 returns-2 : tie.Need-returns-2
-returns-2 c = is-read _ (c .before .before .before .before .before .before .before .before .if1 .left) (arrays (c .before .before .before .model .last .1 .0) (c .before .before .before .model .last .1 .1 .0) (c .before .before .before .model .last .1 .1 .1 .0) (c .before .before .before .model .last .1 .1 .1 .1 .0)) _ (c .before .before .before .model .ensures) _ _ (c .before .said .given .1)
+returns-2 c =
+    let after-model : tie.After-model = search in
+    let else1 : tie.Else1 = search in
+    is-read _ (else1 .if1 .left)
+    (arrays (after-model .model .last .1 .0) (after-model .model .last .1 .1 .0) (after-model .model .last .1 .1 .1 .0)
+    (after-model .model .last .1 .1 .1 .1 .0))
+    _ (after-model .model .ensures) _ _ (c .before .said .given .1)
 
 returns-3 : tie.Need-returns-3
-returns-3 c = is-refused _ (c .before .before .before .before .before .before .before .before .before .if1 .left) (arrays (c .before .before .before .before .model .last .1 .0) (c .before .before .before .before .model .last .1 .1 .0) (c .before .before .before .before .model .last .1 .1 .1 .0) (c .before .before .before .before .model .last .1 .1 .1 .1 .0)) _ (c .before .before .before .before .model .ensures) _ _ _ (c .before .before .said2 .given .1) (c .empty2 .ensures)
+returns-3 c =
+    let after-said2 : tie.After-said2 = search in
+    let after-model : tie.After-model = search in
+    let else1 : tie.Else1 = search in
+    is-refused _ (else1 .if1 .left)
+    (arrays (after-model .model .last .1 .0) (after-model .model .last .1 .1 .0) (after-model .model .last .1 .1 .1 .0)
+    (after-model .model .last .1 .1 .1 .1 .0))
+    _ (after-model .model .ensures) _ _ _ (after-said2 .said2 .given .1) (c .empty2 .ensures)
 
 pub read-spec : {M : Type 1} → statement M
 read-spec =

@@ -16,13 +16,24 @@ enum-told : tie.Need-enum-told
 enum-told c = search needs
 
 returns : tie.Need-returns
-returns c = whole-bad _ _ _ _ _ _ (c .before .before .before .before .before .before .pre .0) (c .before .before .before .before .before .before .pre .1 .0) _ _ _ _ _ (c .before .before .segment .ensures) _ _ (c .enum-told .given .1)
+returns c =
+    let after-segment : tie.After-segment = search in
+    let start : tie.Start = search in
+    whole-bad _ _ _ _ _ _ (start .pre .0) (start .pre .1 .0) _ _ _ _ _ (after-segment .segment .ensures) _ _
+    (c .enum-told .given .1)
 
 add-segment : tie.Need-add-segment
 add-segment c = search needs
 
 segment-requires-2 : tie.Need-segment-requires-2
-segment-requires-2 c κs = (middle-ready _ _ _ _ _ _ (c .before .before .before .before .before .before .before .before .before .pre .0) (c .before .before .before .before .before .before .before .before .before .pre .1 .0) _ _ _ _ _ (c .before .before .before .before .before .segment .ensures) _ (c .before .before .before .whole .given .1), (omega arith, omega (arith, c .before .before .before .before .before .before .before .before .before .pre .1 .1)))
+segment-requires-2 c κs =
+    let after-whole : tie.After-whole = search in
+    let after-segment : tie.After-segment = search in
+    let start : tie.Start = search in (
+      middle-ready _ _ _ _ _ _ (start .pre .0) (start .pre .1 .0) _ _ _ _ _ (after-segment .segment .ensures) _
+          (after-whole .whole .given .1),
+      (omega arith, omega (arith, start .pre .1 .1)),
+    )
 
 enum-known-each : tie.Need-enum-known-each
 enum-known-each c = search needs
@@ -31,13 +42,27 @@ enum-told-2 : tie.Need-enum-told-2
 enum-told-2 c = search needs
 
 returns-2 : tie.Need-returns-2
-returns-2 c = each-bad _ _ _ _ _ _ (c .before .before .before .before .before .before .before .before .before .before .before .before .pre .0) (c .before .before .before .before .before .before .before .before .before .before .before .before .pre .1 .0) _ _ _ _ _ (c .before .before .before .before .before .before .before .before .segment .ensures) _ (c .before .before .before .before .before .before .whole .given .1) _ _ _ (c .before .before .segment2 .ensures) _ _ (c .enum-told2 .given .1)
+returns-2 c =
+    let after-segment2 : tie.After-segment2 = search in
+    let after-whole : tie.After-whole = search in
+    let after-segment : tie.After-segment = search in
+    let start : tie.Start = search in
+    each-bad _ _ _ _ _ _ (start .pre .0) (start .pre .1 .0) _ _ _ _ _ (after-segment .segment .ensures) _
+    (after-whole .whole .given .1) _ _ _ (after-segment2 .segment2 .ensures) _ _ (c .enum-told2 .given .1)
 
 expect-requires : tie.Need-expect-requires
 expect-requires c κs = search needs
 
 returns-3 : tie.Need-returns-3
-returns-3 c = clause-says _ _ _ _ _ _ (c .before .before .before .before .before .before .before .before .before .before .before .before .before .before .pre .0) (c .before .before .before .before .before .before .before .before .before .before .before .before .before .before .pre .1 .0) _ _ _ _ _ (c .before .before .before .before .before .before .before .before .before .before .segment .ensures) _ (c .before .before .before .before .before .before .before .before .whole .given .1) _ _ _ (c .before .before .before .before .segment2 .ensures) _ (c .before .before .each .given .1) _ (c .expect .ensures)
+returns-3 c =
+    let after-each : tie.After-each = search in
+    let after-segment2 : tie.After-segment2 = search in
+    let after-whole : tie.After-whole = search in
+    let after-segment : tie.After-segment = search in
+    let start : tie.Start = search in
+    clause-says _ _ _ _ _ _ (start .pre .0) (start .pre .1 .0) _ _ _ _ _ (after-segment .segment .ensures) _
+    (after-whole .whole .given .1) _ _ _ (after-segment2 .segment2 .ensures) _ (after-each .each .given .1) _
+    (c .expect .ensures)
 
 pub clause-spec : {M : Type 1} → statement M
 clause-spec =

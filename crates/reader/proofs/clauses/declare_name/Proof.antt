@@ -12,13 +12,23 @@ find-name-requires : tie.Need-find-name-requires
 find-name-requires c κs = search needs
 
 returns : tie.Need-returns
-returns c = name-again _ _ _ _ _ (c .before .before .before .before .before .pre .0) _ (c .before .find-name .ensures) _ (c .if1 .taken)
+returns c =
+    let start : tie.Start = search in
+    name-again _ _ _ _ _ (start .pre .0) _ (c .before .find-name .ensures) _ (c .if1 .taken)
 
 returns-2 : tie.Need-returns-2
-returns-2 c = name-many _ _ _ _ _ (c .before .before .before .before .before .before .pre .0) _ (c .before .before .find-name .ensures) (c .before .if1 .left) _ (c .if2 .taken)
+returns-2 c =
+    let after-find-name : tie.After-find-name = search in
+    let start : tie.Start = search in
+    name-many _ _ _ _ _ (start .pre .0) _ (after-find-name .find-name .ensures) (c .before .if1 .left) _ (c .if2 .taken)
 
 returns-3 : tie.Need-returns-3
-returns-3 c = row-full _ _ _ _ _ (c .before .before .before .before .before .before .before .before .pre .0) _ (c .before .before .before .before .find-name .ensures) (c .before .before .before .if1 .left) _ (c .before .if3 .taken) (c .if4 .taken)
+returns-3 c =
+    let else1 : tie.Else1 = search in
+    let after-find-name : tie.After-find-name = search in
+    let start : tie.Start = search in
+    row-full _ _ _ _ _ (start .pre .0) _ (after-find-name .find-name .ensures) (else1 .if1 .left) _
+    (c .before .if3 .taken) (c .if4 .taken)
 
 declare-requires : tie.Need-declare-requires
 declare-requires c κs = search needs
@@ -30,10 +40,23 @@ add-t18 : tie.Need-add-t18
 add-t18 c = search needs
 
 returns-4 : tie.Need-returns-4
-returns-4 c = row-declared _ _ _ _ _ (c .before .before .before .before .before .before .before .before .before .before .before .pre .0) _ (c .before .before .before .before .before .before .before .find-name .ensures) (c .before .before .before .before .before .before .if1 .left) (c .before .before .before .before .before .if2 .left) _ (c .past .ensures) _ (c .before .declare .ensures) (c .before .before .before .before .if3 .taken) (c .before .before .before .if4 .left)
+returns-4 c =
+    let else4 : tie.Else4 = search in
+    let then3 : tie.Then3 = search in
+    let else2 : tie.Else2 = search in
+    let else1 : tie.Else1 = search in
+    let after-find-name : tie.After-find-name = search in
+    let start : tie.Start = search in
+    row-declared _ _ _ _ _ (start .pre .0) _ (after-find-name .find-name .ensures) (else1 .if1 .left) (else2 .if2 .left)
+    _ (c .past .ensures) _ (c .before .declare .ensures) (then3 .if3 .taken) (else4 .if4 .left)
 
 returns-5 : tie.Need-returns-5
-returns-5 c = shared-full _ _ _ _ _ (c .before .before .before .before .before .before .before .before .pre .0) _ (c .before .before .before .before .find-name .ensures) (c .before .before .before .if1 .left) _ (c .before .if3 .left) (c .if5 .taken)
+returns-5 c =
+    let else1 : tie.Else1 = search in
+    let after-find-name : tie.After-find-name = search in
+    let start : tie.Start = search in
+    shared-full _ _ _ _ _ (start .pre .0) _ (after-find-name .find-name .ensures) (else1 .if1 .left) _
+    (c .before .if3 .left) (c .if5 .taken)
 
 declare-requires-2 : tie.Need-declare-requires-2
 declare-requires-2 c κs = search needs
@@ -45,7 +68,15 @@ add-t22 : tie.Need-add-t22
 add-t22 c = search needs
 
 returns-6 : tie.Need-returns-6
-returns-6 c = shared-declared _ _ _ _ _ (c .before .before .before .before .before .before .before .before .before .before .before .pre .0) _ (c .before .before .before .before .before .before .before .find-name .ensures) (c .before .before .before .before .before .before .if1 .left) (c .before .before .before .before .before .if2 .left) _ (c .past2 .ensures) _ (c .before .declare2 .ensures) (c .before .before .before .before .if3 .left) (c .before .before .before .if5 .left)
+returns-6 c =
+    let else5 : tie.Else5 = search in
+    let else3 : tie.Else3 = search in
+    let else2 : tie.Else2 = search in
+    let else1 : tie.Else1 = search in
+    let after-find-name : tie.After-find-name = search in
+    let start : tie.Start = search in
+    shared-declared _ _ _ _ _ (start .pre .0) _ (after-find-name .find-name .ensures) (else1 .if1 .left)
+    (else2 .if2 .left) _ (c .past2 .ensures) _ (c .before .declare2 .ensures) (else3 .if3 .left) (else5 .if5 .left)
 
 pub declare-name-spec : {M : Type 1} → statement M
 declare-name-spec =

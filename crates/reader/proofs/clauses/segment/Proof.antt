@@ -17,10 +17,21 @@ enum-told : tie.Need-enum-told
 enum-told c = search needs
 
 returns : tie.Need-returns
-returns c = sign-bad _ _ _ _ _ _ _ _ _ (c .before .before .before .before .pre .0) (c .before .before .before .before .pre .1 .0) _ (c .before .before .expect .ensures) _ _ _ _ (c .enum-told .given .1)
+returns c =
+    let after-expect : tie.After-expect = search in
+    let start : tie.Start = search in
+    sign-bad _ _ _ _ _ _ _ _ _ (start .pre .0) (start .pre .1 .0) _ (after-expect .expect .ensures) _ _ _ _
+    (c .enum-told .given .1)
 
 or-level-requires : tie.Need-or-level-requires
-or-level-requires c κs = (omega arith, sign-ready _ (c .before .before .before .before .before .before .args .names .now) _ _ _ _ _ _ (c .before .before .before .before .before .before .pre .0) (c .before .before .before .before .expect .ensures) (c .before .before .sign .given .1))
+or-level-requires c κs =
+    let after-sign : tie.After-sign = search in
+    let after-expect : tie.After-expect = search in
+    let start : tie.Start = search in (
+      omega arith,
+      sign-ready _ (start .args .names .now) _ _ _ _ _ _ (start .pre .0) (after-expect .expect .ensures)
+          (after-sign .sign .given .1),
+    )
 
 enum-known-read : tie.Need-enum-known-read
 enum-known-read c = search needs
@@ -29,19 +40,47 @@ enum-told-2 : tie.Need-enum-told-2
 enum-told-2 c = search needs
 
 returns-2 : tie.Need-returns-2
-returns-2 c = read-bad _ _ _ _ _ _ _ _ _ (c .before .before .before .before .before .before .before .before .before .pre .0) (c .before .before .before .before .before .before .before .before .before .pre .1 .0) _ (c .before .before .before .before .before .before .before .expect .ensures) _ (c .before .before .before .before .before .sign .given .1) _ _ (c .before .before .or-level .ensures) _ _ _ (c .enum-told2 .given .1)
+returns-2 c =
+    let after-or-level : tie.After-or-level = search in
+    let after-sign : tie.After-sign = search in
+    let after-expect : tie.After-expect = search in
+    let start : tie.Start = search in
+    read-bad _ _ _ _ _ _ _ _ _ (start .pre .0) (start .pre .1 .0) _ (after-expect .expect .ensures) _
+    (after-sign .sign .given .1) _ _ (after-or-level .or-level .ensures) _ _ _ (c .enum-told2 .given .1)
 
 cast-ends : tie.Need-cast-ends
-cast-ends c = omega (arith, read-small _ (c .before .before .before .before .before .before .before .before .before .before .before .args .names .now) _ (c .before .before .before .before .before .before .before .before .before .before .before .args .rows) _ (c .before .before .before .before .before .before .before .before .before .before .before .args .i) _ _ (c .before .before .before .before .before .before .before .before .before .before .before .args .ends .now) (c .before .before .before .before .before .before .before .before .before .before .before .pre .0) (c .before .before .before .before .before .before .before .before .before .before .before .pre .1 .0) _ (c .before .before .before .before .before .before .before .before .before .expect .ensures) _ (c .before .before .before .before .before .before .before .sign .given .1) _ _ (c .before .before .before .before .or-level .ensures) _ (c .before .before .read .given .1))
+cast-ends c =
+    let after-read : tie.After-read = search in
+    let after-or-level : tie.After-or-level = search in
+    let after-sign : tie.After-sign = search in
+    let after-expect : tie.After-expect = search in
+    let start : tie.Start = search in
+    omega (
+      arith,
+      read-small _ (start .args .names .now) _ (start .args .rows) _ (start .args .i) _ _ (start .args .ends .now)
+          (start .pre .0) (start .pre .1 .0) _ (after-expect .expect .ensures) _ (after-sign .sign .given .1) _ _
+          (after-or-level .or-level .ensures) _ (after-read .read .given .1),
+    )
 
 mul-ends : tie.Need-mul-ends
-mul-ends c = omega (arith, c .before .before .before .before .before .before .before .before .before .before .before .pre .1 .1)
+mul-ends c =
+    let start : tie.Start = search in
+    omega (arith, start .pre .1 .1)
 
 element-write-ends : tie.Need-element-write-ends
-element-write-ends c = c .before .before .before .before .before .before .before .before .before .before .before .pre .1 .1
+element-write-ends c =
+    let start : tie.Start = search in
+    start .pre .1 .1
 
 returns-3 : tie.Need-returns-3
-returns-3 c = read-ok _ _ _ _ _ _ _ _ _ (c .before .before .before .before .before .before .before .before .before .before .before .pre .0) (c .before .before .before .before .before .before .before .before .before .before .before .pre .1 .0) _ (c .before .before .before .before .before .before .before .before .before .expect .ensures) _ (c .before .before .before .before .before .before .before .sign .given .1) _ _ (c .before .before .before .before .or-level .ensures) _ (c .before .before .read .given .1)
+returns-3 c =
+    let after-read : tie.After-read = search in
+    let after-or-level : tie.After-or-level = search in
+    let after-sign : tie.After-sign = search in
+    let after-expect : tie.After-expect = search in
+    let start : tie.Start = search in
+    read-ok _ _ _ _ _ _ _ _ _ (start .pre .0) (start .pre .1 .0) _ (after-expect .expect .ensures) _
+    (after-sign .sign .given .1) _ _ (after-or-level .or-level .ensures) _ (after-read .read .given .1)
 
 pub segment-spec : {M : Type 1} → statement M
 segment-spec =

@@ -14,31 +14,74 @@ past-requires : tie.Need-past-requires
 past-requires c κs = search needs
 
 returns-2 : tie.Need-returns-2
-returns-2 c = title-bad _ _ _ _ _ _ _ (title-missing _ _ _ _ (c .before .before .before .before .if1 .left) _ (c .before .before .before .past .ensures) (c .if2 .taken))
+returns-2 c =
+    let after-past : tie.After-past = search in
+    let else1 : tie.Else1 = search in
+    title-bad _ _ _ _ _ _ _ (title-missing _ _ _ _ (else1 .if1 .left) _ (after-past .past .ensures) (c .if2 .taken))
 
 add-n : tie.Need-add-n
-add-n c = omega (arith, c .before .before .before .before .before .before .before .pre .0 .ready .names, c .before .before .before .before .before .before .before .pre .0 .ready .commands)
+add-n c =
+    let start : tie.Start = search in
+    omega (arith, start .pre .0 .ready .names, start .pre .0 .ready .commands)
 
 add-n-2 : tie.Need-add-n-2
-add-n-2 c = omega (arith, c .before .before .before .before .before .before .before .pre .0 .ready .names, c .before .before .before .before .before .before .before .pre .0 .ready .commands)
+add-n-2 c =
+    let start : tie.Start = search in
+    omega (arith, start .pre .0 .ready .names, start .pre .0 .ready .commands)
 
 find-name-requires : tie.Need-find-name-requires
-find-name-requires c κs = (omega arith, (omega (arith, c .before .before .before .before .before .before .before .before .pre .0 .ready .names, c .before .before .before .before .before .before .before .before .pre .0 .ready .commands), c .before .before .before .before .past .ensures .next .fresh))
+find-name-requires c κs =
+    let after-past : tie.After-past = search in
+    let start : tie.Start = search in (
+      omega arith,
+      (
+        omega (arith, start .pre .0 .ready .names, start .pre .0 .ready .commands),
+        after-past .past .ensures .next .fresh,
+      ),
+    )
 
 returns-3 : tie.Need-returns-3
-returns-3 c = title-bad _ _ _ _ _ _ _ (title-twice _ _ _ _ (c .before .before .before .before .before .before .before .if1 .left) _ (c .before .before .before .before .before .before .past .ensures) (c .before .before .before .if2 .left) _ _ refl (c .before .find-name .ensures) (c .if3 .taken))
+returns-3 c =
+    let else2 : tie.Else2 = search in
+    let after-past : tie.After-past = search in
+    let else1 : tie.Else1 = search in
+    title-bad _ _ _ _ _ _ _
+    (title-twice _ _ _ _ (else1 .if1 .left) _ (after-past .past .ensures) (else2 .if2 .left) _ _ refl
+    (c .before .find-name .ensures) (c .if3 .taken))
 
 declare-requires : tie.Need-declare-requires
-declare-requires c κs = (omega (arith, c .before .before .before .before .before .before .before .before .before .before .before .pre .0 .ready .names, c .before .before .before .before .before .before .before .before .if1 .left), (c .before .before .before .before .before .before .before .past .ensures .next .fresh .ordered, omega (arith, c .before .before .before .before .before .before .before .past .ensures .next .fresh .inside, c .before .before .before .before .before .before .before .before .before .before .before .pre .0 .ready .fits)))
+declare-requires c κs =
+    let after-past : tie.After-past = search in
+    let else1 : tie.Else1 = search in
+    let start : tie.Start = search in (
+      omega (arith, start .pre .0 .ready .names, else1 .if1 .left),
+      (
+        after-past .past .ensures .next .fresh .ordered,
+        omega
+            (arith, after-past .past .ensures .next .fresh .inside, start .pre .0 .ready .fits),
+      ),
+    )
 
 past-requires-2 : tie.Need-past-requires-2
 past-requires-2 c κs = search needs
 
 add-t15 : tie.Need-add-t15
-add-t15 c = omega (arith, c .before .before .before .before .before .before .before .before .before .before .before .before .before .pre .0 .ready .commands)
+add-t15 c =
+    let after-shared-slice-known : tie.After-shared-slice-known = search in
+    let start : tie.Start = search in
+    omega (arith, start .pre .0 .ready .commands)
 
 returns-4 : tie.Need-returns-4
-returns-4 c = title-says _ _ _ _ (c .before .before .before .before .before .before .before .before .before .before .if1 .left) _ (c .before .before .before .before .before .before .before .before .before .past .ensures) (c .before .before .before .before .before .before .if2 .left) _ _ refl (c .before .before .before .before .find-name .ensures) (c .before .before .before .if3 .left) (c .before .before .before .before .before .before .before .before .before .before .before .before .before .pre .0 .long) (c .before .before .before .before .before .before .before .before .before .before .before .before .before .pre .0 .ready .names) _ (c .past2 .ensures) _ (c .before .declare .ensures)
+returns-4 c =
+    let else3 : tie.Else3 = search in
+    let after-find-name : tie.After-find-name = search in
+    let else2 : tie.Else2 = search in
+    let after-past : tie.After-past = search in
+    let else1 : tie.Else1 = search in
+    let start : tie.Start = search in
+    title-says _ _ _ _ (else1 .if1 .left) _ (after-past .past .ensures) (else2 .if2 .left) _ _ refl
+    (after-find-name .find-name .ensures) (else3 .if3 .left) (start .pre .0 .long) (start .pre .0 .ready .names) _
+    (c .past2 .ensures) _ (c .before .declare .ensures)
 
 pub title-spec : {M : Type 1} → statement M
 title-spec =

@@ -11,13 +11,18 @@ enum-known-inner : tie.Need-enum-known-inner
 enum-known-inner c = search needs
 
 emit-requires : tie.Need-emit-requires
-emit-requires c κs = subst roomed (c .before .before .inner .given .1) (c .before .before .before .before .pre)
+emit-requires c κs =
+    let after-inner : tie.After-inner = search in
+    let start : tie.Start = search in
+    subst roomed (after-inner .inner .given .1) (start .pre)
 
 enum-known-inner-2 : tie.Need-enum-known-inner-2
 enum-known-inner-2 c = search needs
 
 returns : tie.Need-returns
-returns c = node-ok _ _ _ _ _ _ (c .before .before .before .inner .given .1) (c .emit .ensures)
+returns c =
+    let after-inner : tie.After-inner = search in
+    node-ok _ _ _ _ _ _ (after-inner .inner .given .1) (c .emit .ensures)
 
 returns-2 : tie.Need-returns-2
 returns-2 c = node-bad _ _ _ _ _ (c .before .inner2 .given .1)

@@ -15,7 +15,9 @@ enum-known-inner-2 : tie.Need-enum-known-inner-2
 enum-known-inner-2 c = search needs
 
 returns : tie.Need-returns
-returns c = close-ok _ _ _ _ (c .before .before .inner .given .1) (c .expect .ensures)
+returns c =
+    let after-inner : tie.After-inner = search in
+    close-ok _ _ _ _ (after-inner .inner .given .1) (c .expect .ensures)
 
 returns-2 : tie.Need-returns-2
 returns-2 c = close-bad _ _ _ _ (c .before .inner2 .given .1)

@@ -15,10 +15,15 @@ past-requires : tie.Need-past-requires
 past-requires c κs = search needs
 
 emit-requires : tie.Need-emit-requires
-emit-requires c κs = past-room _ _ (c .before .before .before .before .before .args .ops .now) _ _ _ _ (c .before .past .ensures) (c .before .before .before .before .before .pre)
+emit-requires c κs =
+    let start : tie.Start = search in
+    past-room _ _ (start .args .ops .now) _ _ _ _ (c .before .past .ensures) (start .pre)
 
 returns-2 : tie.Need-returns-2
-returns-2 c = leaf-fits _ _ _ _ _ _ _ _ (c .before .before .before .if1 .left) (c .before .before .past .ensures) (c .emit .ensures)
+returns-2 c =
+    let after-past : tie.After-past = search in
+    let else1 : tie.Else1 = search in
+    leaf-fits _ _ _ _ _ _ _ _ (else1 .if1 .left) (after-past .past .ensures) (c .emit .ensures)
 
 pub leaf-spec : {M : Type 1} → statement M
 leaf-spec = tie.close (tie.spec returns add-past past-requires emit-requires returns-2)

@@ -14,16 +14,38 @@ first-target-requires : tie.Need-first-target-requires
 first-target-requires c κs = search needs
 
 visible-requires : tie.Need-visible-requires
-visible-requires c κs = c .before .before .before .pre .0 .names
+visible-requires c κs =
+    let start : tie.Start = search in
+    start .pre .0 .names
 
 find-name-requires : tie.Need-find-name-requires
-find-name-requires c κs = let k = target-range (c .before .before .before .before .args .rows) (c .before .before .before .before .args .l .shared) (c .before .before .before .before .args .l .row) _ _ (c .before .first-target .ensures) (c .visible .ensures) (c .before .before .before .before .pre .0 .names) in (k .0, (k .1, c .before .before .before .before .pre .0 .fresh))
+find-name-requires c κs =
+    let start : tie.Start = search in
+    let l = start .args .l in
+    let k = target-range (start .args .rows) (l .shared) (l .row) _ _ (c .before .first-target .ensures)
+    (c .visible .ensures) (start .pre .0 .names) in
+    (k .0, (k .1, start .pre .0 .fresh))
 
 returns : tie.Need-returns
-returns c = says-bad _ _ _ _ _ _ _ _ _ _ _ (assign-unknown _ (c .before .before .before .before .before .before .args .names .now) _ _ (c .before .before .before .before .before .before .pre .0) (c .before .before .before .before .before .before .args .rows) _ _ _ (c .before .before .before .first-target .ensures) (c .before .before .visible .ensures) (c .before .find-name .ensures) (c .if1 .taken))
+returns c =
+    let after-visible : tie.After-visible = search in
+    let after-first-target : tie.After-first-target = search in
+    let start : tie.Start = search in
+    says-bad _ _ _ _ _ _ _ _ _ _ _
+    (assign-unknown _ (start .args .names .now) _ _ (start .pre .0) (start .args .rows) _ _ _
+    (after-first-target .first-target .ensures) (after-visible .visible .ensures) (c .before .find-name .ensures)
+    (c .if1 .taken))
 
 returns-2 : tie.Need-returns-2
-returns-2 c = says-bad _ _ _ _ _ _ _ _ _ _ _ (assign-full _ (c .before .before .before .before .before .before .before .args .names .now) _ _ (c .before .before .before .before .before .before .before .pre .0) (c .before .before .before .before .before .before .before .args .rows) _ _ _ (c .before .before .before .before .first-target .ensures) (c .before .before .before .visible .ensures) (c .before .before .find-name .ensures) (c .before .if1 .left) (c .if2 .taken))
+returns-2 c =
+    let after-find-name : tie.After-find-name = search in
+    let after-visible : tie.After-visible = search in
+    let after-first-target : tie.After-first-target = search in
+    let start : tie.Start = search in
+    says-bad _ _ _ _ _ _ _ _ _ _ _
+    (assign-full _ (start .args .names .now) _ _ (start .pre .0) (start .args .rows) _ _ _
+    (after-first-target .first-target .ensures) (after-visible .visible .ensures) (after-find-name .find-name .ensures)
+    (c .before .if1 .left) (c .if2 .taken))
 
 add-past : tie.Need-add-past
 add-past c = search needs
@@ -41,22 +63,104 @@ enum-told : tie.Need-enum-told
 enum-told c = search needs
 
 returns-3 : tie.Need-returns-3
-returns-3 c = says-same _ _ _ _ _ _ _ _ _ _ _ _ (c .enum-told .given .1) (assign-bad _ (c .before .before .before .before .before .before .before .before .before .before .before .args .names .now) _ _ (c .before .before .before .before .before .before .before .before .before .before .before .pre .0) (c .before .before .before .before .before .before .before .before .before .before .before .args .rows) _ _ _ (c .before .before .before .before .before .before .before .before .first-target .ensures) (c .before .before .before .before .before .before .before .visible .ensures) (c .before .before .before .before .before .before .find-name .ensures) (c .before .before .before .before .before .if1 .left) (c .before .before .before .before .if2 .left) _ (c .before .before .before .past .ensures) _ _ (expected-said _ _ _ _ _ (c .before .before .expect .ensures) (c .enum-told .given .1)))
+returns-3 c =
+    let after-expect : tie.After-expect = search in
+    let after-past : tie.After-past = search in
+    let else2 : tie.Else2 = search in
+    let else1 : tie.Else1 = search in
+    let after-find-name : tie.After-find-name = search in
+    let after-visible : tie.After-visible = search in
+    let after-first-target : tie.After-first-target = search in
+    let start : tie.Start = search in
+    says-same _ _ _ _ _ _ _ _ _ _ _ _ (c .enum-told .given .1)
+    (assign-bad _ (start .args .names .now) _ _ (start .pre .0) (start .args .rows) _ _ _
+    (after-first-target .first-target .ensures) (after-visible .visible .ensures) (after-find-name .find-name .ensures)
+    (else1 .if1 .left) (else2 .if2 .left) _ (after-past .past .ensures) _ _
+    (expected-said _ _ _ _ _ (after-expect .expect .ensures) (c .enum-told .given .1)))
 
 or-level-requires : tie.Need-or-level-requires
-or-level-requires c κs = (omega arith, ready-less _ (c .before .before .before .before .before .before .before .before .before .before .before .before .before .args .names .now) _ 1 0 _ (omega arith) (value-ready _ (c .before .before .before .before .before .before .before .before .before .before .before .before .before .args .names .now) _ _ (c .before .before .before .before .before .before .before .before .before .before .before .before .before .pre .0) (c .before .before .before .before .before .before .before .before .before .before .before .before .before .args .rows) _ _ _ (c .before .before .before .before .before .before .before .before .before .before .first-target .ensures) (c .before .before .before .before .before .before .before .before .before .visible .ensures) (c .before .before .before .before .before .before .before .before .find-name .ensures) (c .before .before .before .before .before .before .before .if1 .left) (c .before .before .before .before .before .before .if2 .left) _ (c .before .before .before .before .before .past .ensures) _ (expected-said _ _ _ _ _ (c .before .before .before .before .expect .ensures) (c .before .before .marked .given .1))))
+or-level-requires c κs =
+    let after-marked : tie.After-marked = search in
+    let after-expect : tie.After-expect = search in
+    let after-past : tie.After-past = search in
+    let else2 : tie.Else2 = search in
+    let else1 : tie.Else1 = search in
+    let after-find-name : tie.After-find-name = search in
+    let after-visible : tie.After-visible = search in
+    let after-first-target : tie.After-first-target = search in
+    let start : tie.Start = search in
+    let names = start .args .names .now in (
+      omega arith,
+      ready-less _ names _ 1 0 _ (omega arith)
+          (value-ready _ names _ _ (start .pre .0) (start .args .rows) _ _ _ (after-first-target .first-target .ensures)
+          (after-visible .visible .ensures) (after-find-name .find-name .ensures) (else1 .if1 .left) (else2 .if2 .left) _
+          (after-past .past .ensures) _
+          (expected-said _ _ _ _ _ (after-expect .expect .ensures) (after-marked .marked .given .1))),
+    )
 
 cast-close-node : tie.Need-cast-close-node
-cast-close-node c = omega (arith, target-few _ (c .before .before .before .before .before .before .before .before .before .before .before .before .before .before .before .args .names .now) _ _ (c .before .before .before .before .before .before .before .before .before .before .before .before .before .before .before .pre .0) (c .before .before .before .before .before .before .before .before .before .before .before .before .before .before .before .args .rows) _ _ _ (c .before .before .before .before .before .before .before .before .before .before .before .before .first-target .ensures) (c .before .before .before .before .before .before .before .before .before .before .before .visible .ensures) (c .before .before .before .before .before .before .before .before .before .before .find-name .ensures) (c .before .before .before .before .before .before .before .before .before .before .before .before .before .before .before .pre .0 .names) (c .before .before .before .before .before .before .before .before .before .if1 .left))
+cast-close-node c =
+    let else1 : tie.Else1 = search in
+    let after-find-name : tie.After-find-name = search in
+    let after-visible : tie.After-visible = search in
+    let after-first-target : tie.After-first-target = search in
+    let start : tie.Start = search in
+    omega (
+      arith,
+      target-few _ (start .args .names .now) _ _ (start .pre .0) (start .args .rows) _ _ _
+          (after-first-target .first-target .ensures) (after-visible .visible .ensures) (after-find-name .find-name .ensures)
+          (start .pre .0 .names) (else1 .if1 .left),
+    )
 
 add-close-node : tie.Need-add-close-node
-add-close-node c = omega (arith, target-few _ (c .before .before .before .before .before .before .before .before .before .before .before .before .before .before .before .args .names .now) _ _ (c .before .before .before .before .before .before .before .before .before .before .before .before .before .before .before .pre .0) (c .before .before .before .before .before .before .before .before .before .before .before .before .before .before .before .args .rows) _ _ _ (c .before .before .before .before .before .before .before .before .before .before .before .before .first-target .ensures) (c .before .before .before .before .before .before .before .before .before .before .before .visible .ensures) (c .before .before .before .before .before .before .before .before .before .before .find-name .ensures) (c .before .before .before .before .before .before .before .before .before .before .before .before .before .before .before .pre .0 .names) (c .before .before .before .before .before .before .before .before .before .if1 .left))
+add-close-node c =
+    let else1 : tie.Else1 = search in
+    let after-find-name : tie.After-find-name = search in
+    let after-visible : tie.After-visible = search in
+    let after-first-target : tie.After-first-target = search in
+    let start : tie.Start = search in
+    omega (
+      arith,
+      target-few _ (start .args .names .now) _ _ (start .pre .0) (start .args .rows) _ _ _
+          (after-first-target .first-target .ensures) (after-visible .visible .ensures) (after-find-name .find-name .ensures)
+          (start .pre .0 .names) (else1 .if1 .left),
+    )
 
 close-node-requires : tie.Need-close-node-requires
-close-node-requires c κs = says-roomed _ _ _ _ 0 _ _ _ _ 0 _ (value-ready _ (c .before .before .before .before .before .before .before .before .before .before .before .before .before .before .before .args .names .now) _ _ (c .before .before .before .before .before .before .before .before .before .before .before .before .before .before .before .pre .0) (c .before .before .before .before .before .before .before .before .before .before .before .before .before .before .before .args .rows) _ _ _ (c .before .before .before .before .before .before .before .before .before .before .before .before .first-target .ensures) (c .before .before .before .before .before .before .before .before .before .before .before .visible .ensures) (c .before .before .before .before .before .before .before .before .before .before .find-name .ensures) (c .before .before .before .before .before .before .before .before .before .if1 .left) (c .before .before .before .before .before .before .before .before .if2 .left) _ (c .before .before .before .before .before .before .before .past .ensures) _ (expected-said _ _ _ _ _ (c .before .before .before .before .before .before .expect .ensures) (c .before .before .before .before .marked .given .1))) (c .before .or-level .ensures)
+close-node-requires c κs =
+    let after-marked : tie.After-marked = search in
+    let after-expect : tie.After-expect = search in
+    let after-past : tie.After-past = search in
+    let else2 : tie.Else2 = search in
+    let else1 : tie.Else1 = search in
+    let after-find-name : tie.After-find-name = search in
+    let after-visible : tie.After-visible = search in
+    let after-first-target : tie.After-first-target = search in
+    let start : tie.Start = search in
+    says-roomed _ _ _ _ 0 _ _ _ _ 0 _
+    (value-ready _ (start .args .names .now) _ _ (start .pre .0) (start .args .rows) _ _ _
+    (after-first-target .first-target .ensures) (after-visible .visible .ensures) (after-find-name .find-name .ensures)
+    (else1 .if1 .left) (else2 .if2 .left) _ (after-past .past .ensures) _
+    (expected-said _ _ _ _ _ (after-expect .expect .ensures) (after-marked .marked .given .1)))
+    (c .before .or-level .ensures)
 
 returns-4 : tie.Need-returns-4
-returns-4 c = assign-says _ (c .before .before .before .before .before .before .before .before .before .before .before .before .before .before .before .before .args .names .now) _ _ (c .before .before .before .before .before .before .before .before .before .before .before .before .before .before .before .before .pre .0) (c .before .before .before .before .before .before .before .before .before .before .before .before .before .before .before .before .args .rows) _ _ _ (c .before .before .before .before .before .before .before .before .before .before .before .before .before .first-target .ensures) (c .before .before .before .before .before .before .before .before .before .before .before .before .visible .ensures) (c .before .before .before .before .before .before .before .before .before .before .before .find-name .ensures) (c .before .before .before .before .before .before .before .before .before .before .if1 .left) (c .before .before .before .before .before .before .before .before .before .if2 .left) _ (c .before .before .before .before .before .before .before .before .past .ensures) _ (expected-said _ _ _ _ _ (c .before .before .before .before .before .before .before .expect .ensures) (c .before .before .before .before .before .marked .given .1)) _ _ _ _ _ (c .before .before .or-level .ensures) (c .close-node .ensures)
+returns-4 c =
+    let after-or-level : tie.After-or-level = search in
+    let after-marked : tie.After-marked = search in
+    let after-expect : tie.After-expect = search in
+    let after-past : tie.After-past = search in
+    let else2 : tie.Else2 = search in
+    let else1 : tie.Else1 = search in
+    let after-find-name : tie.After-find-name = search in
+    let after-visible : tie.After-visible = search in
+    let after-first-target : tie.After-first-target = search in
+    let start : tie.Start = search in
+    assign-says _ (start .args .names .now) _ _ (start .pre .0) (start .args .rows) _ _ _
+    (after-first-target .first-target .ensures) (after-visible .visible .ensures) (after-find-name .find-name .ensures)
+    (else1 .if1 .left) (else2 .if2 .left) _ (after-past .past .ensures) _
+    (expected-said _ _ _ _ _ (after-expect .expect .ensures) (after-marked .marked .given .1)) _ _ _ _ _
+    (after-or-level .or-level .ensures) (c .close-node .ensures)
 
 pub assignment-spec : {M : Type 1} → statement M
 assignment-spec =

@@ -6,14 +6,17 @@ use Rattle.reader.specs.working.Items.{rowItemsWords}
 use Rattle.reader.proofs.Done.{says-bad}
 use Rattle.reader.proofs.Sequences.{ready-less}
 use Rattle.reader.specs.working.Sequences.{allRows}
-use Rattle.reader.proofs.Tests.{test-roomed, first-bad, yes-ready, done-roomed, second-bad, no-ready, rest-roomed, tested-says}
+use Rattle.reader.proofs.Tests.{test-roomed, first-bad, yes-ready, done-roomed, second-bad, no-ready}
+use Rattle.reader.proofs.Tests.{rest-roomed, tested-says}
 use Rattle.reader.proofs.Branches.{for-full, for-ready, for-says}
 use borrow.Author.Needs.{needs}
 use Rattle.reader.proofs.items.for_item.Statement.{statement}
 use Rattle.reader.proofs.items.for_item.Tie as tie
 
 returns : tie.Need-returns
-returns c = says-bad _ _ _ _ _ _ _ _ _ _ _ (for-full _ _ _ _ (c .before .before .before .pre .0) (c .before .before .before .pre .1) (c .if1 .taken))
+returns c =
+    let start : tie.Start = search in
+    says-bad _ _ _ _ _ _ _ _ _ _ _ (for-full _ _ _ _ (start .pre .0) (start .pre .1) (c .if1 .taken))
 
 add-past : tie.Need-add-past
 add-past c = search needs
@@ -22,10 +25,27 @@ past-requires : tie.Need-past-requires
 past-requires c κs = search needs
 
 or-level-requires : tie.Need-or-level-requires
-or-level-requires c κs = (omega arith, ready-less _ (c .before .before .before .before .before .args .names .now) _ 3 0 _ (omega arith) (for-ready (c .before .before .before .before .before .args .text .now) (c .before .before .before .before .before .args .names .now) (c .before .before .before .before .before .args .l) _ (c .before .before .before .before .before .pre .0) (c .before .before .before .before .before .pre .1) (c .before .before .if1 .left) _ (c .before .past .ensures)))
+or-level-requires c κs =
+    let else1 : tie.Else1 = search in
+    let start : tie.Start = search in
+    let names = start .args .names .now in (
+      omega arith,
+      ready-less _ names _ 3 0 _ (omega arith)
+          (for-ready (start .args .text .now) names (start .args .l) _ (start .pre .0) (start .pre .1) (else1 .if1 .left) _
+          (c .before .past .ensures)),
+    )
 
 mark-requires : tie.Need-mark-requires
-mark-requires c κs = test-roomed (c .before .before .before .before .before .before .before .args .text .now) (c .before .before .before .before .before .before .before .args .names .now) (c .before .before .before .before .before .before .before .args .l) (rowItemsWords (c .before .before .before .before .before .before .before .args .text .now) (c .before .before .before .before .before .before .before .args .names .now) (c .before .before .before .before .before .before .before .args .l)) (allRows (length (c .before .before .before .before .before .before .before .args .text .now))) 10 (omega arith) _ (for-ready (c .before .before .before .before .before .before .before .args .text .now) (c .before .before .before .before .before .before .before .args .names .now) (c .before .before .before .before .before .before .before .args .l) _ (c .before .before .before .before .before .before .before .pre .0) (c .before .before .before .before .before .before .before .pre .1) (c .before .before .before .before .if1 .left) _ (c .before .before .before .past .ensures)) _ _ _ _ (c .before .or-level .ensures)
+mark-requires c κs =
+    let after-past : tie.After-past = search in
+    let else1 : tie.Else1 = search in
+    let start : tie.Start = search in
+    let names = start .args .names .now in
+    let text = start .args .text .now in
+    let l = start .args .l in
+    test-roomed text names l (rowItemsWords text names l) (allRows (length text)) 10 (omega arith) _
+    (for-ready text names l _ (start .pre .0) (start .pre .1) (else1 .if1 .left) _ (after-past .past .ensures)) _ _ _ _
+    (c .before .or-level .ensures)
 
 enum-known-first : tie.Need-enum-known-first
 enum-known-first c = search needs
@@ -34,13 +54,50 @@ enum-told : tie.Need-enum-told
 enum-told c = search needs
 
 returns-2 : tie.Need-returns-2
-returns-2 c = for-says _ _ _ _ (c .before .before .before .before .before .before .before .before .before .before .pre .0) (c .before .before .before .before .before .before .before .before .before .before .pre .1) (c .before .before .before .before .before .before .before .if1 .left) _ (c .before .before .before .before .before .before .past .ensures) _ _ _ (first-bad (c .before .before .before .before .before .before .before .before .before .before .args .text .now) (c .before .before .before .before .before .before .before .before .before .before .args .names .now) (c .before .before .before .before .before .before .before .before .before .before .args .l) (rowItemsWords (c .before .before .before .before .before .before .before .before .before .before .args .text .now) (c .before .before .before .before .before .before .before .before .before .before .args .names .now) (c .before .before .before .before .before .before .before .before .before .before .args .l)) (allRows (length (c .before .before .before .before .before .before .before .before .before .before .args .text .now))) 10 (omega arith) _ (for-ready (c .before .before .before .before .before .before .before .before .before .before .args .text .now) (c .before .before .before .before .before .before .before .before .before .before .args .names .now) (c .before .before .before .before .before .before .before .before .before .before .args .l) _ (c .before .before .before .before .before .before .before .before .before .before .pre .0) (c .before .before .before .before .before .before .before .before .before .before .pre .1) (c .before .before .before .before .before .before .before .if1 .left) _ (c .before .before .before .before .before .before .past .ensures)) _ _ _ _ (c .before .before .before .before .or-level .ensures) _ _ (c .before .before .mark .ensures) _ _ (c .enum-told .given .1))
+returns-2 c =
+    let after-mark : tie.After-mark = search in
+    let after-or-level : tie.After-or-level = search in
+    let after-past : tie.After-past = search in
+    let else1 : tie.Else1 = search in
+    let start : tie.Start = search in
+    let names = start .args .names .now in
+    let text = start .args .text .now in
+    let l = start .args .l in
+    for-says _ _ _ _ (start .pre .0) (start .pre .1) (else1 .if1 .left) _ (after-past .past .ensures) _ _ _
+    (first-bad text names l (rowItemsWords text names l) (allRows (length text)) 10 (omega arith) _
+    (for-ready text names l _ (start .pre .0) (start .pre .1) (else1 .if1 .left) _ (after-past .past .ensures)) _ _ _ _
+    (after-or-level .or-level .ensures) _ _ (after-mark .mark .ensures) _ _ (c .enum-told .given .1))
 
 row-items-requires : tie.Need-row-items-requires
-row-items-requires c κs = yes-ready (c .before .before .before .before .before .before .before .before .before .before .before .before .args .text .now) (c .before .before .before .before .before .before .before .before .before .before .before .before .args .names .now) (c .before .before .before .before .before .before .before .before .before .before .before .before .args .l) (rowItemsWords (c .before .before .before .before .before .before .before .before .before .before .before .before .args .text .now) (c .before .before .before .before .before .before .before .before .before .before .before .before .args .names .now) (c .before .before .before .before .before .before .before .before .before .before .before .before .args .l)) (allRows (length (c .before .before .before .before .before .before .before .before .before .before .before .before .args .text .now))) 10 (omega arith) _ (for-ready (c .before .before .before .before .before .before .before .before .before .before .before .before .args .text .now) (c .before .before .before .before .before .before .before .before .before .before .before .before .args .names .now) (c .before .before .before .before .before .before .before .before .before .before .before .before .args .l) _ (c .before .before .before .before .before .before .before .before .before .before .before .before .pre .0) (c .before .before .before .before .before .before .before .before .before .before .before .before .pre .1) (c .before .before .before .before .before .before .before .before .before .if1 .left) _ (c .before .before .before .before .before .before .before .before .past .ensures)) _ _ _ _ (c .before .before .before .before .before .before .or-level .ensures) _ _ (c .before .before .before .before .mark .ensures) _ (c .before .before .first .given .1)
+row-items-requires c κs =
+    let after-first : tie.After-first = search in
+    let after-mark : tie.After-mark = search in
+    let after-or-level : tie.After-or-level = search in
+    let after-past : tie.After-past = search in
+    let else1 : tie.Else1 = search in
+    let start : tie.Start = search in
+    let names = start .args .names .now in
+    let text = start .args .text .now in
+    let l = start .args .l in
+    yes-ready text names l (rowItemsWords text names l) (allRows (length text)) 10 (omega arith) _
+    (for-ready text names l _ (start .pre .0) (start .pre .1) (else1 .if1 .left) _ (after-past .past .ensures)) _ _ _ _
+    (after-or-level .or-level .ensures) _ _ (after-mark .mark .ensures) _ (after-first .first .given .1)
 
 mark-requires-2 : tie.Need-mark-requires-2
-mark-requires-2 c κs = done-roomed (c .before .before .before .before .before .before .before .before .before .before .before .before .before .before .args .text .now) (c .before .before .before .before .before .before .before .before .before .before .before .before .before .before .args .names .now) (c .before .before .before .before .before .before .before .before .before .before .before .before .before .before .args .l) (rowItemsWords (c .before .before .before .before .before .before .before .before .before .before .before .before .before .before .args .text .now) (c .before .before .before .before .before .before .before .before .before .before .before .before .before .before .args .names .now) (c .before .before .before .before .before .before .before .before .before .before .before .before .before .before .args .l)) (allRows (length (c .before .before .before .before .before .before .before .before .before .before .before .before .before .before .args .text .now))) 10 (omega arith) _ (for-ready (c .before .before .before .before .before .before .before .before .before .before .before .before .before .before .args .text .now) (c .before .before .before .before .before .before .before .before .before .before .before .before .before .before .args .names .now) (c .before .before .before .before .before .before .before .before .before .before .before .before .before .before .args .l) _ (c .before .before .before .before .before .before .before .before .before .before .before .before .before .before .pre .0) (c .before .before .before .before .before .before .before .before .before .before .before .before .before .before .pre .1) (c .before .before .before .before .before .before .before .before .before .before .before .if1 .left) _ (c .before .before .before .before .before .before .before .before .before .before .past .ensures)) _ _ _ _ (c .before .before .before .before .before .before .before .before .or-level .ensures) _ _ (c .before .before .before .before .before .before .mark .ensures) _ (c .before .before .before .before .first .given .1) _ _ (c .before .row-items .ensures)
+mark-requires-2 c κs =
+    let after-first : tie.After-first = search in
+    let after-mark : tie.After-mark = search in
+    let after-or-level : tie.After-or-level = search in
+    let after-past : tie.After-past = search in
+    let else1 : tie.Else1 = search in
+    let start : tie.Start = search in
+    let names = start .args .names .now in
+    let text = start .args .text .now in
+    let l = start .args .l in
+    done-roomed text names l (rowItemsWords text names l) (allRows (length text)) 10 (omega arith) _
+    (for-ready text names l _ (start .pre .0) (start .pre .1) (else1 .if1 .left) _ (after-past .past .ensures)) _ _ _ _
+    (after-or-level .or-level .ensures) _ _ (after-mark .mark .ensures) _ (after-first .first .given .1) _ _
+    (c .before .row-items .ensures)
 
 enum-known-second : tie.Need-enum-known-second
 enum-known-second c = search needs
@@ -49,16 +106,84 @@ enum-told-2 : tie.Need-enum-told-2
 enum-told-2 c = search needs
 
 returns-3 : tie.Need-returns-3
-returns-3 c = for-says _ _ _ _ (c .before .before .before .before .before .before .before .before .before .before .before .before .before .before .before .before .before .pre .0) (c .before .before .before .before .before .before .before .before .before .before .before .before .before .before .before .before .before .pre .1) (c .before .before .before .before .before .before .before .before .before .before .before .before .before .before .if1 .left) _ (c .before .before .before .before .before .before .before .before .before .before .before .before .before .past .ensures) _ _ _ (second-bad (c .before .before .before .before .before .before .before .before .before .before .before .before .before .before .before .before .before .args .text .now) (c .before .before .before .before .before .before .before .before .before .before .before .before .before .before .before .before .before .args .names .now) (c .before .before .before .before .before .before .before .before .before .before .before .before .before .before .before .before .before .args .l) (rowItemsWords (c .before .before .before .before .before .before .before .before .before .before .before .before .before .before .before .before .before .args .text .now) (c .before .before .before .before .before .before .before .before .before .before .before .before .before .before .before .before .before .args .names .now) (c .before .before .before .before .before .before .before .before .before .before .before .before .before .before .before .before .before .args .l)) (allRows (length (c .before .before .before .before .before .before .before .before .before .before .before .before .before .before .before .before .before .args .text .now))) 10 (omega arith) _ (for-ready (c .before .before .before .before .before .before .before .before .before .before .before .before .before .before .before .before .before .args .text .now) (c .before .before .before .before .before .before .before .before .before .before .before .before .before .before .before .before .before .args .names .now) (c .before .before .before .before .before .before .before .before .before .before .before .before .before .before .before .before .before .args .l) _ (c .before .before .before .before .before .before .before .before .before .before .before .before .before .before .before .before .before .pre .0) (c .before .before .before .before .before .before .before .before .before .before .before .before .before .before .before .before .before .pre .1) (c .before .before .before .before .before .before .before .before .before .before .before .before .before .before .if1 .left) _ (c .before .before .before .before .before .before .before .before .before .before .before .before .before .past .ensures)) _ _ _ _ (c .before .before .before .before .before .before .before .before .before .before .before .or-level .ensures) _ _ (c .before .before .before .before .before .before .before .before .before .mark .ensures) _ (c .before .before .before .before .before .before .before .first .given .1) _ _ (c .before .before .before .before .row-items .ensures) _ _ (c .before .before .mark2 .ensures) _ _ (c .enum-told2 .given .1))
+returns-3 c =
+    let after-mark2 : tie.After-mark2 = search in
+    let after-row-items : tie.After-row-items = search in
+    let after-first : tie.After-first = search in
+    let after-mark : tie.After-mark = search in
+    let after-or-level : tie.After-or-level = search in
+    let after-past : tie.After-past = search in
+    let else1 : tie.Else1 = search in
+    let start : tie.Start = search in
+    let names = start .args .names .now in
+    let text = start .args .text .now in
+    let l = start .args .l in
+    for-says _ _ _ _ (start .pre .0) (start .pre .1) (else1 .if1 .left) _ (after-past .past .ensures) _ _ _
+    (second-bad text names l (rowItemsWords text names l) (allRows (length text)) 10 (omega arith) _
+    (for-ready text names l _ (start .pre .0) (start .pre .1) (else1 .if1 .left) _ (after-past .past .ensures)) _ _ _ _
+    (after-or-level .or-level .ensures) _ _ (after-mark .mark .ensures) _ (after-first .first .given .1) _ _
+    (after-row-items .row-items .ensures) _ _ (after-mark2 .mark2 .ensures) _ _ (c .enum-told2 .given .1))
 
 row-items-requires-2 : tie.Need-row-items-requires-2
-row-items-requires-2 c κs = no-ready (c .before .before .before .before .before .before .before .before .before .before .before .before .before .before .before .before .before .before .before .args .text .now) (c .before .before .before .before .before .before .before .before .before .before .before .before .before .before .before .before .before .before .before .args .names .now) (c .before .before .before .before .before .before .before .before .before .before .before .before .before .before .before .before .before .before .before .args .l) (rowItemsWords (c .before .before .before .before .before .before .before .before .before .before .before .before .before .before .before .before .before .before .before .args .text .now) (c .before .before .before .before .before .before .before .before .before .before .before .before .before .before .before .before .before .before .before .args .names .now) (c .before .before .before .before .before .before .before .before .before .before .before .before .before .before .before .before .before .before .before .args .l)) (allRows (length (c .before .before .before .before .before .before .before .before .before .before .before .before .before .before .before .before .before .before .before .args .text .now))) 10 (omega arith) _ (for-ready (c .before .before .before .before .before .before .before .before .before .before .before .before .before .before .before .before .before .before .before .args .text .now) (c .before .before .before .before .before .before .before .before .before .before .before .before .before .before .before .before .before .before .before .args .names .now) (c .before .before .before .before .before .before .before .before .before .before .before .before .before .before .before .before .before .before .before .args .l) _ (c .before .before .before .before .before .before .before .before .before .before .before .before .before .before .before .before .before .before .before .pre .0) (c .before .before .before .before .before .before .before .before .before .before .before .before .before .before .before .before .before .before .before .pre .1) (c .before .before .before .before .before .before .before .before .before .before .before .before .before .before .before .before .if1 .left) _ (c .before .before .before .before .before .before .before .before .before .before .before .before .before .before .before .past .ensures)) _ _ _ _ (c .before .before .before .before .before .before .before .before .before .before .before .before .before .or-level .ensures) _ _ (c .before .before .before .before .before .before .before .before .before .before .before .mark .ensures) _ (c .before .before .before .before .before .before .before .before .before .first .given .1) _ _ (c .before .before .before .before .before .before .row-items .ensures) _ _ (c .before .before .before .before .mark2 .ensures) _ (c .before .before .second .given .1)
+row-items-requires-2 c κs =
+    let after-second : tie.After-second = search in
+    let after-mark2 : tie.After-mark2 = search in
+    let after-row-items : tie.After-row-items = search in
+    let after-first : tie.After-first = search in
+    let after-mark : tie.After-mark = search in
+    let after-or-level : tie.After-or-level = search in
+    let after-past : tie.After-past = search in
+    let else1 : tie.Else1 = search in
+    let start : tie.Start = search in
+    let names = start .args .names .now in
+    let text = start .args .text .now in
+    let l = start .args .l in
+    no-ready text names l (rowItemsWords text names l) (allRows (length text)) 10 (omega arith) _
+    (for-ready text names l _ (start .pre .0) (start .pre .1) (else1 .if1 .left) _ (after-past .past .ensures)) _ _ _ _
+    (after-or-level .or-level .ensures) _ _ (after-mark .mark .ensures) _ (after-first .first .given .1) _ _
+    (after-row-items .row-items .ensures) _ _ (after-mark2 .mark2 .ensures) _ (after-second .second .given .1)
 
 mark-requires-3 : tie.Need-mark-requires-3
-mark-requires-3 c κs = rest-roomed (c .before .before .before .before .before .before .before .before .before .before .before .before .before .before .before .before .before .before .before .before .before .args .text .now) (c .before .before .before .before .before .before .before .before .before .before .before .before .before .before .before .before .before .before .before .before .before .args .names .now) (c .before .before .before .before .before .before .before .before .before .before .before .before .before .before .before .before .before .before .before .before .before .args .l) (rowItemsWords (c .before .before .before .before .before .before .before .before .before .before .before .before .before .before .before .before .before .before .before .before .before .args .text .now) (c .before .before .before .before .before .before .before .before .before .before .before .before .before .before .before .before .before .before .before .before .before .args .names .now) (c .before .before .before .before .before .before .before .before .before .before .before .before .before .before .before .before .before .before .before .before .before .args .l)) (allRows (length (c .before .before .before .before .before .before .before .before .before .before .before .before .before .before .before .before .before .before .before .before .before .args .text .now))) 10 (omega arith) _ (for-ready (c .before .before .before .before .before .before .before .before .before .before .before .before .before .before .before .before .before .before .before .before .before .args .text .now) (c .before .before .before .before .before .before .before .before .before .before .before .before .before .before .before .before .before .before .before .before .before .args .names .now) (c .before .before .before .before .before .before .before .before .before .before .before .before .before .before .before .before .before .before .before .before .before .args .l) _ (c .before .before .before .before .before .before .before .before .before .before .before .before .before .before .before .before .before .before .before .before .before .pre .0) (c .before .before .before .before .before .before .before .before .before .before .before .before .before .before .before .before .before .before .before .before .before .pre .1) (c .before .before .before .before .before .before .before .before .before .before .before .before .before .before .before .before .before .before .if1 .left) _ (c .before .before .before .before .before .before .before .before .before .before .before .before .before .before .before .before .before .past .ensures)) _ _ _ _ (c .before .before .before .before .before .before .before .before .before .before .before .before .before .before .before .or-level .ensures) _ _ (c .before .before .before .before .before .before .before .before .before .before .before .before .before .mark .ensures) _ (c .before .before .before .before .before .before .before .before .before .before .before .first .given .1) _ _ (c .before .before .before .before .before .before .before .before .row-items .ensures) _ _ (c .before .before .before .before .before .before .mark2 .ensures) _ (c .before .before .before .before .second .given .1) _ _ (c .before .row-items2 .ensures)
+mark-requires-3 c κs =
+    let after-second : tie.After-second = search in
+    let after-mark2 : tie.After-mark2 = search in
+    let after-row-items : tie.After-row-items = search in
+    let after-first : tie.After-first = search in
+    let after-mark : tie.After-mark = search in
+    let after-or-level : tie.After-or-level = search in
+    let after-past : tie.After-past = search in
+    let else1 : tie.Else1 = search in
+    let start : tie.Start = search in
+    let names = start .args .names .now in
+    let text = start .args .text .now in
+    let l = start .args .l in
+    rest-roomed text names l (rowItemsWords text names l) (allRows (length text)) 10 (omega arith) _
+    (for-ready text names l _ (start .pre .0) (start .pre .1) (else1 .if1 .left) _ (after-past .past .ensures)) _ _ _ _
+    (after-or-level .or-level .ensures) _ _ (after-mark .mark .ensures) _ (after-first .first .given .1) _ _
+    (after-row-items .row-items .ensures) _ _ (after-mark2 .mark2 .ensures) _ (after-second .second .given .1) _ _
+    (c .before .row-items2 .ensures)
 
 returns-4 : tie.Need-returns-4
-returns-4 c = for-says _ _ _ _ (c .before .before .before .before .before .before .before .before .before .before .before .before .before .before .before .before .before .before .before .before .before .before .pre .0) (c .before .before .before .before .before .before .before .before .before .before .before .before .before .before .before .before .before .before .before .before .before .before .pre .1) (c .before .before .before .before .before .before .before .before .before .before .before .before .before .before .before .before .before .before .before .if1 .left) _ (c .before .before .before .before .before .before .before .before .before .before .before .before .before .before .before .before .before .before .past .ensures) _ _ _ (tested-says (c .before .before .before .before .before .before .before .before .before .before .before .before .before .before .before .before .before .before .before .before .before .before .args .text .now) (c .before .before .before .before .before .before .before .before .before .before .before .before .before .before .before .before .before .before .before .before .before .before .args .names .now) (c .before .before .before .before .before .before .before .before .before .before .before .before .before .before .before .before .before .before .before .before .before .before .args .l) (rowItemsWords (c .before .before .before .before .before .before .before .before .before .before .before .before .before .before .before .before .before .before .before .before .before .before .args .text .now) (c .before .before .before .before .before .before .before .before .before .before .before .before .before .before .before .before .before .before .before .before .before .before .args .names .now) (c .before .before .before .before .before .before .before .before .before .before .before .before .before .before .before .before .before .before .before .before .before .before .args .l)) (allRows (length (c .before .before .before .before .before .before .before .before .before .before .before .before .before .before .before .before .before .before .before .before .before .before .args .text .now))) 10 (omega arith) _ (for-ready (c .before .before .before .before .before .before .before .before .before .before .before .before .before .before .before .before .before .before .before .before .before .before .args .text .now) (c .before .before .before .before .before .before .before .before .before .before .before .before .before .before .before .before .before .before .before .before .before .before .args .names .now) (c .before .before .before .before .before .before .before .before .before .before .before .before .before .before .before .before .before .before .before .before .before .before .args .l) _ (c .before .before .before .before .before .before .before .before .before .before .before .before .before .before .before .before .before .before .before .before .before .before .pre .0) (c .before .before .before .before .before .before .before .before .before .before .before .before .before .before .before .before .before .before .before .before .before .before .pre .1) (c .before .before .before .before .before .before .before .before .before .before .before .before .before .before .before .before .before .before .before .if1 .left) _ (c .before .before .before .before .before .before .before .before .before .before .before .before .before .before .before .before .before .before .past .ensures)) _ _ _ _ (c .before .before .before .before .before .before .before .before .before .before .before .before .before .before .before .before .or-level .ensures) _ _ (c .before .before .before .before .before .before .before .before .before .before .before .before .before .before .mark .ensures) _ (c .before .before .before .before .before .before .before .before .before .before .before .before .first .given .1) _ _ (c .before .before .before .before .before .before .before .before .before .row-items .ensures) _ _ (c .before .before .before .before .before .before .before .mark2 .ensures) _ (c .before .before .before .before .before .second .given .1) _ _ (c .before .before .row-items2 .ensures) _ _ (c .mark3 .ensures))
+returns-4 c =
+    let after-row-items2 : tie.After-row-items2 = search in
+    let after-second : tie.After-second = search in
+    let after-mark2 : tie.After-mark2 = search in
+    let after-row-items : tie.After-row-items = search in
+    let after-first : tie.After-first = search in
+    let after-mark : tie.After-mark = search in
+    let after-or-level : tie.After-or-level = search in
+    let after-past : tie.After-past = search in
+    let else1 : tie.Else1 = search in
+    let start : tie.Start = search in
+    let names = start .args .names .now in
+    let text = start .args .text .now in
+    let l = start .args .l in
+    for-says _ _ _ _ (start .pre .0) (start .pre .1) (else1 .if1 .left) _ (after-past .past .ensures) _ _ _
+    (tested-says text names l (rowItemsWords text names l) (allRows (length text)) 10 (omega arith) _
+    (for-ready text names l _ (start .pre .0) (start .pre .1) (else1 .if1 .left) _ (after-past .past .ensures)) _ _ _ _
+    (after-or-level .or-level .ensures) _ _ (after-mark .mark .ensures) _ (after-first .first .given .1) _ _
+    (after-row-items .row-items .ensures) _ _ (after-mark2 .mark2 .ensures) _ (after-second .second .given .1) _ _
+    (after-row-items2 .row-items2 .ensures) _ _ (c .mark3 .ensures))
 
 pub for-item-spec : {M : Type 1} → statement M
 for-item-spec =

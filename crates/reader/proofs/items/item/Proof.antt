@@ -10,22 +10,36 @@ skip-item-requires : tie.Need-skip-item-requires
 skip-item-requires c κs = search needs
 
 returns : tie.Need-returns
-returns c = item-skip _ _ _ _ (c .before .before .before .before .before .pre) (c .before .before .if1 .taken) _ _ _ (c .skip-item .ensures)
+returns c =
+    let then1 : tie.Then1 = search in
+    let start : tie.Start = search in
+    item-skip _ _ _ _ (start .pre) (then1 .if1 .taken) _ _ _ (c .skip-item .ensures)
 
 assignment-requires : tie.Need-assignment-requires
-assignment-requires c κs = (c .before .before .before .before .before .pre, c .before .if2 .taken)
+assignment-requires c κs =
+    let start : tie.Start = search in
+    (start .pre, c .before .if2 .taken)
 
 returns-2 : tie.Need-returns-2
-returns-2 c = item-assign _ _ _ _ (c .before .before .before .before .before .before .pre) (c .before .before .if2 .taken) _ _ _ (c .assignment .ensures)
+returns-2 c =
+    let then2 : tie.Then2 = search in
+    let start : tie.Start = search in
+    item-assign _ _ _ _ (start .pre) (then2 .if2 .taken) _ _ _ (c .assignment .ensures)
 
 for-item-requires : tie.Need-for-item-requires
-for-item-requires c κs = (c .before .before .before .before .before .before .pre, c .before .if3 .taken)
+for-item-requires c κs =
+    let start : tie.Start = search in
+    (start .pre, c .before .if3 .taken)
 
 returns-3 : tie.Need-returns-3
 returns-3 c = c .for-item .ensures
 
 returns-4 : tie.Need-returns-4
-returns-4 c = says-bad _ _ _ _ _ _ _ _ _ _ _ (item-missing _ _ _ _ (c .before .before .before .before .before .pre) (c .before .before .if1 .left) (c .before .if2 .left) (c .if3 .left))
+returns-4 c =
+    let else1 : tie.Else1 = search in
+    let start : tie.Start = search in
+    says-bad _ _ _ _ _ _ _ _ _ _ _
+    (item-missing _ _ _ _ (start .pre) (else1 .if1 .left) (c .before .if2 .left) (c .if3 .left))
 
 pub item-spec : {M : Type 1} → statement M
 item-spec =

@@ -4,7 +4,8 @@ use Prim.Native.Nat.{_+_, _-_, _*_}
 use native.Mathlib.Omega.{arith}
 use borrow.Author.Needs.{needs}
 use Rattle.reader.proofs.Done.{said-ok, said-bad, says-ok, says-same}
-use Rattle.reader.proofs.Series.{Turn, first-bad, rest-first, rest-stop, rest-bad, turn-none, turn-ready, turn-less, turn-more}
+use Rattle.reader.proofs.Series.{Turn, first-bad, rest-first, rest-stop, rest-bad, turn-none, turn-ready}
+use Rattle.reader.proofs.Series.{turn-less, turn-more}
 use Rattle.reader.proofs.Lists.{itemSeries}
 use Rattle.reader.proofs.items.items.Statement.{statement}
 use Rattle.reader.proofs.items.items.Tie as tie
@@ -15,8 +16,32 @@ Inv-list text names ops₀ l cur₀ ops cur = Turn text names l (itemSeries text
 abbrev μ-list : tie.MeasureT-list
 μ-list text names ops₀ l cur₀ ops cur = 2048 - (cur .nodes + 3 * cur .items)
 
+-- The places that the answers name.
+abbrev Start : Type 0
+Start = tie.Start Inv-list μ-list
+
+abbrev After-item : Type 0
+After-item = tie.After-item Inv-list μ-list
+
+abbrev At-list : Type 0
+At-list = tie.At-list Inv-list μ-list
+
+abbrev After-first : Type 0
+After-first = tie.After-first Inv-list μ-list
+
+abbrev After-item2 : Type 0
+After-item2 = tie.After-item2 Inv-list μ-list
+
+abbrev After-past : Type 0
+After-past = tie.After-past Inv-list μ-list
+
+abbrev Else1 : Type 0
+Else1 = tie.Else1 Inv-list μ-list
+
 item-requires : tie.Need-item-requires Inv-list μ-list
-item-requires c κs = c .before .before .pre
+item-requires c κs =
+    let start : Start = search in
+    start .pre
 
 enum-known-first : tie.Need-enum-known-first Inv-list μ-list
 enum-known-first c = search needs
@@ -25,19 +50,39 @@ enum-told : tie.Need-enum-told Inv-list μ-list
 enum-told c = search needs
 
 returns : tie.Need-returns Inv-list μ-list
-returns c = says-same _ _ _ _ _ _ _ _ _ _ _ _ (c .enum-told .given .1) (first-bad _ _ _ (itemSeries (c .before .before .before .before .before .args .text .now) (c .before .before .before .before .before .args .names .now) (c .before .before .before .before .before .args .l)) _ _ _ (said-bad _ _ _ _ _ _ _ _ _ _ _ _ (c .before .before .item .ensures) (c .enum-told .given .1)))
+returns c =
+    let after-item : After-item = search in
+    let start : Start = search in
+    says-same _ _ _ _ _ _ _ _ _ _ _ _ (c .enum-told .given .1)
+    (first-bad _ _ _ (itemSeries (start .args .text .now) (start .args .names .now) (start .args .l)) _ _ _
+    (said-bad _ _ _ _ _ _ _ _ _ _ _ _ (after-item .item .ensures) (c .enum-told .given .1)))
 
 list-holds : tie.Need-list-holds Inv-list μ-list
-list-holds c = turn-none _ _ _ (itemSeries _ _ _) _ _ _ _ _ (said-ok _ _ _ _ _ _ _ _ _ _ _ (c .before .before .before .item .ensures) (c .before .first .given .1)) (c .before .before .before .before .before .before .pre)
+list-holds c =
+    let after-item : After-item = search in
+    let start : Start = search in
+    turn-none _ _ _ (itemSeries _ _ _) _ _ _ _ _
+    (said-ok _ _ _ _ _ _ _ _ _ _ _ (after-item .item .ensures) (c .before .first .given .1)) (start .pre)
 
 returns-2 : tie.Need-returns-2 Inv-list μ-list
-returns-2 c = says-ok _ _ _ _ _ _ _ _ _ _ (rest-stop _ _ _ (itemSeries _ _ _) _ _ _ _ _ (c .before .before .before .list .inv .back _ _ _ (rest-first _ _ _ (itemSeries _ _ _) _ _ _ _ _ (said-ok _ _ _ _ _ _ _ _ _ _ _ (c .before .before .before .before .before .before .before .item .ensures) (c .before .before .before .before .before .first .given .1)))) (c .if1 .taken))
+returns-2 c =
+    let at-list : At-list = search in
+    let after-first : After-first = search in
+    let after-item : After-item = search in
+    says-ok _ _ _ _ _ _ _ _ _ _
+    (rest-stop _ _ _ (itemSeries _ _ _) _ _ _ _ _
+    (at-list .list .inv .back _ _ _
+    (rest-first _ _ _ (itemSeries _ _ _) _ _ _ _ _
+    (said-ok _ _ _ _ _ _ _ _ _ _ _ (after-item .item .ensures) (after-first .first .given .1))))
+    (c .if1 .taken))
 
 past-requires : tie.Need-past-requires Inv-list μ-list
 past-requires c κs = search needs
 
 item-requires-2 : tie.Need-item-requires-2 Inv-list μ-list
-item-requires-2 c κs = turn-ready _ _ _ (itemSeries _ _ _) _ _ _ _ _ (c .before .before .before .before .before .list .inv) (c .before .past .ensures)
+item-requires-2 c κs =
+    let at-list : At-list = search in
+    turn-ready _ _ _ (itemSeries _ _ _) _ _ _ _ _ (at-list .list .inv) (c .before .past .ensures)
 
 enum-known-next : tie.Need-enum-known-next Inv-list μ-list
 enum-known-next c = search needs
@@ -46,13 +91,38 @@ enum-told-2 : tie.Need-enum-told-2 Inv-list μ-list
 enum-told-2 c = search needs
 
 returns-3 : tie.Need-returns-3 Inv-list μ-list
-returns-3 c = says-same _ _ _ _ _ _ _ _ _ _ _ _ (c .enum-told2 .given .1) (rest-bad _ _ _ (itemSeries _ _ _) _ _ _ _ _ (c .before .before .before .before .before .before .before .before .list .inv .back _ _ _ (rest-first _ _ _ (itemSeries _ _ _) _ _ _ _ _ (said-ok _ _ _ _ _ _ _ _ _ _ _ (c .before .before .before .before .before .before .before .before .before .before .before .before .item .ensures) (c .before .before .before .before .before .before .before .before .before .before .first .given .1)))) (c .before .before .before .before .before .if1 .left) _ (c .before .before .before .before .past .ensures) _ _ (said-bad _ _ _ _ _ _ _ _ _ _ _ _ (c .before .before .item2 .ensures) (c .enum-told2 .given .1)))
+returns-3 c =
+    let after-item2 : After-item2 = search in
+    let after-past : After-past = search in
+    let else1 : Else1 = search in
+    let at-list : At-list = search in
+    let after-first : After-first = search in
+    let after-item : After-item = search in
+    says-same _ _ _ _ _ _ _ _ _ _ _ _ (c .enum-told2 .given .1)
+    (rest-bad _ _ _ (itemSeries _ _ _) _ _ _ _ _
+    (at-list .list .inv .back _ _ _
+    (rest-first _ _ _ (itemSeries _ _ _) _ _ _ _ _
+    (said-ok _ _ _ _ _ _ _ _ _ _ _ (after-item .item .ensures) (after-first .first .given .1))))
+    (else1 .if1 .left) _ (after-past .past .ensures) _ _
+    (said-bad _ _ _ _ _ _ _ _ _ _ _ _ (after-item2 .item2 .ensures) (c .enum-told2 .given .1)))
 
 list-less : tie.Need-list-less Inv-list μ-list
-list-less c = let k = turn-less _ _ _ (itemSeries _ _ _) _ _ _ _ _ (c .before .before .before .before .before .before .before .before .before .list .inv) (c .before .before .before .before .before .past .ensures) _ _ _ (said-ok _ _ _ _ _ _ _ _ _ _ _ (c .before .before .before .item2 .ensures) (c .before .next .given .1)) in omega (arith, k .0, k .1, k .2)
+list-less c =
+    let after-item2 : After-item2 = search in
+    let after-past : After-past = search in
+    let at-list : At-list = search in
+    let k = turn-less _ _ _ (itemSeries _ _ _) _ _ _ _ _ (at-list .list .inv) (after-past .past .ensures) _ _ _
+    (said-ok _ _ _ _ _ _ _ _ _ _ _ (after-item2 .item2 .ensures) (c .before .next .given .1)) in
+    omega (arith, k .0, k .1, k .2)
 
 list-again : tie.Need-list-again Inv-list μ-list
-list-again c = turn-more _ _ _ (itemSeries _ _ _) _ _ _ _ _ (c .before .before .before .before .before .before .before .before .before .list .inv) (c .before .before .before .before .before .past .ensures) (c .before .before .before .before .before .before .if1 .left) _ _ (said-ok _ _ _ _ _ _ _ _ _ _ _ (c .before .before .before .item2 .ensures) (c .before .next .given .1))
+list-again c =
+    let after-item2 : After-item2 = search in
+    let after-past : After-past = search in
+    let else1 : Else1 = search in
+    let at-list : At-list = search in
+    turn-more _ _ _ (itemSeries _ _ _) _ _ _ _ _ (at-list .list .inv) (after-past .past .ensures) (else1 .if1 .left) _ _
+    (said-ok _ _ _ _ _ _ _ _ _ _ _ (after-item2 .item2 .ensures) (c .before .next .given .1))
 
 pub items-spec : {M : Type 1} → statement M
 items-spec =

@@ -26,13 +26,29 @@ enum-told-2 : tie.Need-enum-told-2
 enum-told-2 c = search needs
 
 returns-2 : tie.Need-returns-2
-returns-2 c = mark-missing _ _ _ _ _ _ (c .before .before .before .before .read .given .1) _ (c .before .before .expect .ensures) _ _ _ (c .enum-told2 .given .1)
+returns-2 c =
+    let after-expect : tie.After-expect = search in
+    let after-read : tie.After-read = search in
+    mark-missing _ _ _ _ _ _ (after-read .read .given .1) _ (after-expect .expect .ensures) _ _ _
+    (c .enum-told2 .given .1)
 
 emit-requires : tie.Need-emit-requires
-emit-requires c κs = mark-room _ _ (c .before .before .before .before .before .before .before .before .before .args .code) _ (c .before .before .before .before .before .before .before .before .before .args .ops .now) _ (c .before .before .before .before .before .before .read .given .1) _ (c .before .before .before .before .expect .ensures) _ (c .before .before .after .given .1) (subst roomed (c .before .before .before .before .before .before .read .given .1) (c .before .before .before .before .before .before .before .before .before .pre))
+emit-requires c κs =
+    let after-after : tie.After-after = search in
+    let after-expect : tie.After-expect = search in
+    let after-read : tie.After-read = search in
+    let start : tie.Start = search in
+    mark-room _ _ (start .args .code) _ (start .args .ops .now) _ (after-read .read .given .1) _
+    (after-expect .expect .ensures) _ (after-after .after .given .1)
+    (subst roomed (after-read .read .given .1) (start .pre))
 
 returns-3 : tie.Need-returns-3
-returns-3 c = mark-ok _ _ _ _ _ _ (c .before .before .before .before .before .before .before .read .given .1) _ (c .before .before .before .before .before .expect .ensures) _ _ _ (c .before .before .before .after .given .1) (c .emit .ensures)
+returns-3 c =
+    let after-after : tie.After-after = search in
+    let after-expect : tie.After-expect = search in
+    let after-read : tie.After-read = search in
+    mark-ok _ _ _ _ _ _ (after-read .read .given .1) _ (after-expect .expect .ensures) _ _ _
+    (after-after .after .given .1) (c .emit .ensures)
 
 pub mark-spec : {M : Type 1} → statement M
 mark-spec =

@@ -10,16 +10,26 @@ skip-item-requires : tie.Need-skip-item-requires
 skip-item-requires c κs = search needs
 
 returns : tie.Need-returns
-returns c = row-skip _ _ _ _ (c .before .before .before .before .before .pre) (c .before .before .if1 .taken) _ _ _ (c .skip-item .ensures)
+returns c =
+    let then1 : tie.Then1 = search in
+    let start : tie.Start = search in
+    row-skip _ _ _ _ (start .pre) (then1 .if1 .taken) _ _ _ (c .skip-item .ensures)
 
 assignment-requires : tie.Need-assignment-requires
-assignment-requires c κs = (c .before .before .before .before .before .pre, c .before .if2 .taken)
+assignment-requires c κs =
+    let start : tie.Start = search in
+    (start .pre, c .before .if2 .taken)
 
 returns-2 : tie.Need-returns-2
-returns-2 c = row-assign _ _ _ _ (c .before .before .before .before .before .before .pre) (c .before .before .if2 .taken) _ _ _ (c .assignment .ensures)
+returns-2 c =
+    let then2 : tie.Then2 = search in
+    let start : tie.Start = search in
+    row-assign _ _ _ _ (start .pre) (then2 .if2 .taken) _ _ _ (c .assignment .ensures)
 
 returns-3 : tie.Need-returns-3
-returns-3 c = says-bad _ _ _ _ _ _ _ _ _ _ _ (row-missing _ _ _ _ (c .before .before .before .before .pre) (c .before .if1 .left) (c .if2 .left))
+returns-3 c =
+    let start : tie.Start = search in
+    says-bad _ _ _ _ _ _ _ _ _ _ _ (row-missing _ _ _ _ (start .pre) (c .before .if1 .left) (c .if2 .left))
 
 pub row-item-spec : {M : Type 1} → statement M
 row-item-spec =

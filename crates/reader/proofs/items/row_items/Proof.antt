@@ -4,7 +4,8 @@ use Prim.Native.Nat.{_+_, _-_, _*_}
 use native.Mathlib.Omega.{arith}
 use borrow.Author.Needs.{needs}
 use Rattle.reader.proofs.Done.{said-ok, said-bad, says-ok, says-same}
-use Rattle.reader.proofs.Series.{Turn, first-bad, rest-first, rest-stop, rest-bad, turn-none, turn-ready, turn-less, turn-more}
+use Rattle.reader.proofs.Series.{Turn, first-bad, rest-first, rest-stop, rest-bad, turn-none, turn-ready}
+use Rattle.reader.proofs.Series.{turn-less, turn-more}
 use Rattle.reader.proofs.Lists.{rowSeries}
 use Rattle.reader.proofs.items.row_items.Statement.{statement}
 use Rattle.reader.proofs.items.row_items.Tie as tie
@@ -15,8 +16,32 @@ Inv-rows text names ops₀ l cur₀ ops cur = Turn text names l (rowSeries text 
 abbrev μ-rows : tie.MeasureT-rows
 μ-rows text names ops₀ l cur₀ ops cur = 2048 - (cur .nodes + 3 * cur .items)
 
+-- The places that the answers name.
+abbrev Start : Type 0
+Start = tie.Start Inv-rows μ-rows
+
+abbrev After-row-item : Type 0
+After-row-item = tie.After-row-item Inv-rows μ-rows
+
+abbrev At-rows : Type 0
+At-rows = tie.At-rows Inv-rows μ-rows
+
+abbrev After-first : Type 0
+After-first = tie.After-first Inv-rows μ-rows
+
+abbrev After-row-item2 : Type 0
+After-row-item2 = tie.After-row-item2 Inv-rows μ-rows
+
+abbrev After-past : Type 0
+After-past = tie.After-past Inv-rows μ-rows
+
+abbrev Else1 : Type 0
+Else1 = tie.Else1 Inv-rows μ-rows
+
 row-item-requires : tie.Need-row-item-requires Inv-rows μ-rows
-row-item-requires c κs = c .before .before .pre
+row-item-requires c κs =
+    let start : Start = search in
+    start .pre
 
 enum-known-first : tie.Need-enum-known-first Inv-rows μ-rows
 enum-known-first c = search needs
@@ -25,19 +50,39 @@ enum-told : tie.Need-enum-told Inv-rows μ-rows
 enum-told c = search needs
 
 returns : tie.Need-returns Inv-rows μ-rows
-returns c = says-same _ _ _ _ _ _ _ _ _ _ _ _ (c .enum-told .given .1) (first-bad _ _ _ (rowSeries (c .before .before .before .before .before .args .text .now) (c .before .before .before .before .before .args .names .now) (c .before .before .before .before .before .args .l)) _ _ _ (said-bad _ _ _ _ _ _ _ _ _ _ _ _ (c .before .before .row-item .ensures) (c .enum-told .given .1)))
+returns c =
+    let after-row-item : After-row-item = search in
+    let start : Start = search in
+    says-same _ _ _ _ _ _ _ _ _ _ _ _ (c .enum-told .given .1)
+    (first-bad _ _ _ (rowSeries (start .args .text .now) (start .args .names .now) (start .args .l)) _ _ _
+    (said-bad _ _ _ _ _ _ _ _ _ _ _ _ (after-row-item .row-item .ensures) (c .enum-told .given .1)))
 
 rows-holds : tie.Need-rows-holds Inv-rows μ-rows
-rows-holds c = turn-none _ _ _ (rowSeries _ _ _) _ _ _ _ _ (said-ok _ _ _ _ _ _ _ _ _ _ _ (c .before .before .before .row-item .ensures) (c .before .first .given .1)) (c .before .before .before .before .before .before .pre)
+rows-holds c =
+    let after-row-item : After-row-item = search in
+    let start : Start = search in
+    turn-none _ _ _ (rowSeries _ _ _) _ _ _ _ _
+    (said-ok _ _ _ _ _ _ _ _ _ _ _ (after-row-item .row-item .ensures) (c .before .first .given .1)) (start .pre)
 
 returns-2 : tie.Need-returns-2 Inv-rows μ-rows
-returns-2 c = says-ok _ _ _ _ _ _ _ _ _ _ (rest-stop _ _ _ (rowSeries _ _ _) _ _ _ _ _ (c .before .before .before .rows .inv .back _ _ _ (rest-first _ _ _ (rowSeries _ _ _) _ _ _ _ _ (said-ok _ _ _ _ _ _ _ _ _ _ _ (c .before .before .before .before .before .before .before .row-item .ensures) (c .before .before .before .before .before .first .given .1)))) (c .if1 .taken))
+returns-2 c =
+    let at-rows : At-rows = search in
+    let after-first : After-first = search in
+    let after-row-item : After-row-item = search in
+    says-ok _ _ _ _ _ _ _ _ _ _
+    (rest-stop _ _ _ (rowSeries _ _ _) _ _ _ _ _
+    (at-rows .rows .inv .back _ _ _
+    (rest-first _ _ _ (rowSeries _ _ _) _ _ _ _ _
+    (said-ok _ _ _ _ _ _ _ _ _ _ _ (after-row-item .row-item .ensures) (after-first .first .given .1))))
+    (c .if1 .taken))
 
 past-requires : tie.Need-past-requires Inv-rows μ-rows
 past-requires c κs = search needs
 
 row-item-requires-2 : tie.Need-row-item-requires-2 Inv-rows μ-rows
-row-item-requires-2 c κs = turn-ready _ _ _ (rowSeries _ _ _) _ _ _ _ _ (c .before .before .before .before .before .rows .inv) (c .before .past .ensures)
+row-item-requires-2 c κs =
+    let at-rows : At-rows = search in
+    turn-ready _ _ _ (rowSeries _ _ _) _ _ _ _ _ (at-rows .rows .inv) (c .before .past .ensures)
 
 enum-known-next : tie.Need-enum-known-next Inv-rows μ-rows
 enum-known-next c = search needs
@@ -46,13 +91,38 @@ enum-told-2 : tie.Need-enum-told-2 Inv-rows μ-rows
 enum-told-2 c = search needs
 
 returns-3 : tie.Need-returns-3 Inv-rows μ-rows
-returns-3 c = says-same _ _ _ _ _ _ _ _ _ _ _ _ (c .enum-told2 .given .1) (rest-bad _ _ _ (rowSeries _ _ _) _ _ _ _ _ (c .before .before .before .before .before .before .before .before .rows .inv .back _ _ _ (rest-first _ _ _ (rowSeries _ _ _) _ _ _ _ _ (said-ok _ _ _ _ _ _ _ _ _ _ _ (c .before .before .before .before .before .before .before .before .before .before .before .before .row-item .ensures) (c .before .before .before .before .before .before .before .before .before .before .first .given .1)))) (c .before .before .before .before .before .if1 .left) _ (c .before .before .before .before .past .ensures) _ _ (said-bad _ _ _ _ _ _ _ _ _ _ _ _ (c .before .before .row-item2 .ensures) (c .enum-told2 .given .1)))
+returns-3 c =
+    let after-row-item2 : After-row-item2 = search in
+    let after-past : After-past = search in
+    let else1 : Else1 = search in
+    let at-rows : At-rows = search in
+    let after-first : After-first = search in
+    let after-row-item : After-row-item = search in
+    says-same _ _ _ _ _ _ _ _ _ _ _ _ (c .enum-told2 .given .1)
+    (rest-bad _ _ _ (rowSeries _ _ _) _ _ _ _ _
+    (at-rows .rows .inv .back _ _ _
+    (rest-first _ _ _ (rowSeries _ _ _) _ _ _ _ _
+    (said-ok _ _ _ _ _ _ _ _ _ _ _ (after-row-item .row-item .ensures) (after-first .first .given .1))))
+    (else1 .if1 .left) _ (after-past .past .ensures) _ _
+    (said-bad _ _ _ _ _ _ _ _ _ _ _ _ (after-row-item2 .row-item2 .ensures) (c .enum-told2 .given .1)))
 
 rows-less : tie.Need-rows-less Inv-rows μ-rows
-rows-less c = let k = turn-less _ _ _ (rowSeries _ _ _) _ _ _ _ _ (c .before .before .before .before .before .before .before .before .before .rows .inv) (c .before .before .before .before .before .past .ensures) _ _ _ (said-ok _ _ _ _ _ _ _ _ _ _ _ (c .before .before .before .row-item2 .ensures) (c .before .next .given .1)) in omega (arith, k .0, k .1, k .2)
+rows-less c =
+    let after-row-item2 : After-row-item2 = search in
+    let after-past : After-past = search in
+    let at-rows : At-rows = search in
+    let k = turn-less _ _ _ (rowSeries _ _ _) _ _ _ _ _ (at-rows .rows .inv) (after-past .past .ensures) _ _ _
+    (said-ok _ _ _ _ _ _ _ _ _ _ _ (after-row-item2 .row-item2 .ensures) (c .before .next .given .1)) in
+    omega (arith, k .0, k .1, k .2)
 
 rows-again : tie.Need-rows-again Inv-rows μ-rows
-rows-again c = turn-more _ _ _ (rowSeries _ _ _) _ _ _ _ _ (c .before .before .before .before .before .before .before .before .before .rows .inv) (c .before .before .before .before .before .past .ensures) (c .before .before .before .before .before .before .if1 .left) _ _ (said-ok _ _ _ _ _ _ _ _ _ _ _ (c .before .before .before .row-item2 .ensures) (c .before .next .given .1))
+rows-again c =
+    let after-row-item2 : After-row-item2 = search in
+    let after-past : After-past = search in
+    let else1 : Else1 = search in
+    let at-rows : At-rows = search in
+    turn-more _ _ _ (rowSeries _ _ _) _ _ _ _ _ (at-rows .rows .inv) (after-past .past .ensures) (else1 .if1 .left) _ _
+    (said-ok _ _ _ _ _ _ _ _ _ _ _ (after-row-item2 .row-item2 .ensures) (c .before .next .given .1))
 
 pub row-items-spec : {M : Type 1} → statement M
 row-items-spec =

@@ -12,7 +12,12 @@ enum-known-sign : tie.Need-enum-known-sign
 enum-known-sign c = search needs
 
 name-list-requires : tie.Need-name-list-requires
-name-list-requires c κs = sign-listing _ _ _ _ _ _ (c .before .before .before .before .before .before .pre .0) (c .before .before .before .before .before .before .pre .1) _ (c .before .before .before .before .expect .ensures) _ (c .before .before .sign .given .1)
+name-list-requires c κs =
+    let after-sign : tie.After-sign = search in
+    let after-expect : tie.After-expect = search in
+    let start : tie.Start = search in
+    sign-listing _ _ _ _ _ _ (start .pre .0) (start .pre .1) _ (after-expect .expect .ensures) _
+    (after-sign .sign .given .1)
 
 enum-known-list : tie.Need-enum-known-list
 enum-known-list c = search needs
@@ -21,7 +26,13 @@ enum-told : tie.Need-enum-told
 enum-told c = search needs
 
 returns : tie.Need-returns
-returns c = list-bad _ _ _ _ _ _ (c .before .before .before .before .before .before .before .before .before .pre .0) (c .before .before .before .before .before .before .before .before .before .pre .1) _ (c .before .before .before .before .before .before .before .expect .ensures) _ (c .before .before .before .before .before .sign .given .1) _ _ (c .before .before .name-list .ensures) _ _ (c .enum-told .given .1)
+returns c =
+    let after-name-list : tie.After-name-list = search in
+    let after-sign : tie.After-sign = search in
+    let after-expect : tie.After-expect = search in
+    let start : tie.Start = search in
+    list-bad _ _ _ _ _ _ (start .pre .0) (start .pre .1) _ (after-expect .expect .ensures) _
+    (after-sign .sign .given .1) _ _ (after-name-list .name-list .ensures) _ _ (c .enum-told .given .1)
 
 expect-requires-2 : tie.Need-expect-requires-2
 expect-requires-2 c κs = search needs
@@ -36,13 +47,35 @@ enum-known-sign-2 : tie.Need-enum-known-sign-2
 enum-known-sign-2 c = search needs
 
 returns-2 : tie.Need-returns-2
-returns-2 c = end-ok _ _ _ _ _ _ (c .before .before .before .before .before .before .before .before .before .before .before .before .before .before .pre .0) (c .before .before .before .before .before .before .before .before .before .before .before .before .before .before .pre .1) _ (c .before .before .before .before .before .before .before .before .before .before .before .before .expect .ensures) _ (c .before .before .before .before .before .before .before .before .before .before .sign .given .1) _ _ (c .before .before .before .before .before .before .before .name-list .ensures) _ _ (c .before .before .before .before .before .list .given .1) _ (c .before .before .before .expect2 .ensures) _ (c .before .end .given .1)
+returns-2 c =
+    let after-expect2 : tie.After-expect2 = search in
+    let after-list : tie.After-list = search in
+    let after-name-list : tie.After-name-list = search in
+    let after-sign : tie.After-sign = search in
+    let after-expect : tie.After-expect = search in
+    let start : tie.Start = search in
+    end-ok _ _ _ _ _ _ (start .pre .0) (start .pre .1) _ (after-expect .expect .ensures) _ (after-sign .sign .given .1)
+    _ _ (after-name-list .name-list .ensures) _ _ (after-list .list .given .1) _ (after-expect2 .expect2 .ensures) _
+    (c .before .end .given .1)
 
 returns-3 : tie.Need-returns-3
-returns-3 c = end-bad _ _ _ _ _ _ (c .before .before .before .before .before .before .before .before .before .before .before .before .before .before .pre .0) (c .before .before .before .before .before .before .before .before .before .before .before .before .before .before .pre .1) _ (c .before .before .before .before .before .before .before .before .before .before .before .before .expect .ensures) _ (c .before .before .before .before .before .before .before .before .before .before .sign .given .1) _ _ (c .before .before .before .before .before .before .before .name-list .ensures) _ _ (c .before .before .before .before .before .list .given .1) _ (c .before .before .before .expect2 .ensures) _ _ (c .before .end2 .given .1)
+returns-3 c =
+    let after-expect2 : tie.After-expect2 = search in
+    let after-list : tie.After-list = search in
+    let after-name-list : tie.After-name-list = search in
+    let after-sign : tie.After-sign = search in
+    let after-expect : tie.After-expect = search in
+    let start : tie.Start = search in
+    end-bad _ _ _ _ _ _ (start .pre .0) (start .pre .1) _ (after-expect .expect .ensures) _ (after-sign .sign .given .1)
+    _ _ (after-name-list .name-list .ensures) _ _ (after-list .list .given .1) _ (after-expect2 .expect2 .ensures) _ _
+    (c .before .end2 .given .1)
 
 returns-4 : tie.Need-returns-4
-returns-4 c = head-bad _ _ _ _ _ _ (c .before .before .before .before .before .pre .0) (c .before .before .before .before .before .pre .1) _ (c .before .before .before .expect .ensures) _ _ _ (c .before .sign2 .given .1)
+returns-4 c =
+    let after-expect : tie.After-expect = search in
+    let start : tie.Start = search in
+    head-bad _ _ _ _ _ _ (start .pre .0) (start .pre .1) _ (after-expect .expect .ensures) _ _ _
+    (c .before .sign2 .given .1)
 
 pub declaration-spec : {M : Type 1} → statement M
 declaration-spec =

@@ -19,13 +19,29 @@ enum-told : tie.Need-enum-told
 enum-told c = search needs
 
 returns : tie.Need-returns
-returns c = shared-bad _ _ _ (c .before .before .before .before .piece-at .ensures) _ _ (c .before .before .declaration .ensures) _ _ (c .enum-told .given .1)
+returns c =
+    let after-declaration : tie.After-declaration = search in
+    let after-piece-at : tie.After-piece-at = search in
+    shared-bad _ _ _ (after-piece-at .piece-at .ensures) _ _ (after-declaration .declaration .ensures) _ _
+    (c .enum-told .given .1)
 
 declaration-requires-2 : tie.Need-declaration-requires-2
-declaration-requires-2 c κs = (row-listing _ _ _ (c .before .before .before .before .before .before .piece-at .ensures) _ _ (c .before .before .before .before .declaration .ensures) _ _ (c .before .before .shared .given .1), omega arith)
+declaration-requires-2 c κs =
+    let after-shared : tie.After-shared = search in
+    let after-declaration : tie.After-declaration = search in
+    let after-piece-at : tie.After-piece-at = search in (
+      row-listing _ _ _ (after-piece-at .piece-at .ensures) _ _ (after-declaration .declaration .ensures) _ _
+          (after-shared .shared .given .1),
+      omega arith,
+    )
 
 returns-2 : tie.Need-returns-2
-returns-2 c = heads-say _ _ _ (c .before .before .before .before .before .before .before .piece-at .ensures) _ _ (c .before .before .before .before .before .declaration .ensures) _ _ (c .before .before .before .shared .given .1) _ _ (c .declaration2 .ensures)
+returns-2 c =
+    let after-shared : tie.After-shared = search in
+    let after-declaration : tie.After-declaration = search in
+    let after-piece-at : tie.After-piece-at = search in
+    heads-say _ _ _ (after-piece-at .piece-at .ensures) _ _ (after-declaration .declaration .ensures) _ _
+    (after-shared .shared .given .1) _ _ (c .declaration2 .ensures)
 
 pub declarations-spec : {M : Type 1} → statement M
 declarations-spec =

@@ -1,13 +1,16 @@
 -- `model` meets its contract: declarations, clauses and commands in order, and the end of the text after them.
 -- Assumes nothing.
 use Rattle.reader.specs.working.Commands.{arrays}
-use Rattle.reader.proofs.Modelling.{head-refused, head-ready, both-refused, first-missing, both-naming, all-refused, more-follows, model-says}
+use Rattle.reader.proofs.Modelling.{head-refused, head-ready, both-refused, first-missing, both-naming}
+use Rattle.reader.proofs.Modelling.{all-refused, more-follows, model-says}
 use borrow.Author.Needs.{needs}
 use Rattle.reader.proofs.model.model.Statement.{statement}
 use Rattle.reader.proofs.model.model.Tie as tie
 
 declarations-requires : tie.Need-declarations-requires
-declarations-requires c κs = c .before .before .pre
+declarations-requires c κs =
+    let start : tie.Start = search in
+    start .pre
 
 enum-known-head : tie.Need-enum-known-head
 enum-known-head c = search needs
@@ -16,19 +19,51 @@ enum-told : tie.Need-enum-told
 enum-told c = search needs
 
 returns : tie.Need-returns
-returns c = head-refused (c .before .before .before .before .before .args .text .now) (arrays (c .before .before .before .before .before .args .names .now) (c .before .before .before .before .before .args .ops .now) (c .before .before .before .before .before .args .ends .now) (c .before .before .before .before .before .args .stars .now)) _ _ (c .before .before .declarations .ensures) _ _ _ (c .enum-told .given .1)
+returns c =
+    let after-declarations : tie.After-declarations = search in
+    let start : tie.Start = search in
+    head-refused (start .args .text .now)
+    (arrays (start .args .names .now) (start .args .ops .now) (start .args .ends .now) (start .args .stars .now)) _ _
+    (after-declarations .declarations .ensures) _ _ _ (c .enum-told .given .1)
 
 clauses-requires : tie.Need-clauses-requires
-clauses-requires c κs = head-ready (c .before .before .before .before .before .before .before .before .before .args .text .now) (arrays (c .before .before .before .before .before .before .before .before .before .args .names .now) (c .before .before .before .before .before .before .before .before .before .args .ops .now) (c .before .before .before .before .before .before .before .before .before .args .ends .now) (c .before .before .before .before .before .before .before .before .before .args .stars .now)) _ _ (c .before .before .before .before .before .before .declarations .ensures) _ _ (c .before .before .before .before .head .given .1)
+clauses-requires c κs =
+    let after-head : tie.After-head = search in
+    let after-declarations : tie.After-declarations = search in
+    let start : tie.Start = search in
+    head-ready (start .args .text .now)
+    (arrays (start .args .names .now) (start .args .ops .now) (start .args .ends .now) (start .args .stars .now)) _ _
+    (after-declarations .declarations .ensures) _ _ (after-head .head .given .1)
 
 enum-known-both : tie.Need-enum-known-both
 enum-known-both c = search needs
 
 returns-2 : tie.Need-returns-2
-returns-2 c = first-missing (c .before .before .before .before .before .before .before .before .before .before .before .before .before .before .before .before .args .text .now) (arrays (c .before .before .before .before .before .before .before .before .before .before .before .before .before .before .before .before .args .names .now) (c .before .before .before .before .before .before .before .before .before .before .before .before .before .before .before .before .args .ops .now) (c .before .before .before .before .before .before .before .before .before .before .before .before .before .before .before .before .args .ends .now) (c .before .before .before .before .before .before .before .before .before .before .before .before .before .before .before .before .args .stars .now)) _ _ (c .before .before .before .before .before .before .before .before .before .before .before .before .before .declarations .ensures) _ _ (c .before .before .before .before .before .before .before .before .before .before .before .head .given .1) _ _ _ (c .before .before .before .before .before .before .clauses .ensures) _ (c .before .before .before .before .both .given .1) _ (c .if1 .taken)
+returns-2 c =
+    let after-both : tie.After-both = search in
+    let after-clauses : tie.After-clauses = search in
+    let after-head : tie.After-head = search in
+    let after-declarations : tie.After-declarations = search in
+    let start : tie.Start = search in
+    first-missing (start .args .text .now)
+    (arrays (start .args .names .now) (start .args .ops .now) (start .args .ends .now) (start .args .stars .now)) _ _
+    (after-declarations .declarations .ensures) _ _ (after-head .head .given .1) _ _ _ (after-clauses .clauses .ensures)
+    _ (after-both .both .given .1) _ (c .if1 .taken)
 
 commands-requires : tie.Need-commands-requires
-commands-requires c κs = (both-naming (c .before .before .before .before .before .before .before .before .before .before .before .before .before .before .before .before .before .before .before .before .args .text .now) (arrays (c .before .before .before .before .before .before .before .before .before .before .before .before .before .before .before .before .before .before .before .before .args .names .now) (c .before .before .before .before .before .before .before .before .before .before .before .before .before .before .before .before .before .before .before .before .args .ops .now) (c .before .before .before .before .before .before .before .before .before .before .before .before .before .before .before .before .before .before .before .before .args .ends .now) (c .before .before .before .before .before .before .before .before .before .before .before .before .before .before .before .before .before .before .before .before .args .stars .now)) _ _ (c .before .before .before .before .before .before .before .before .before .before .before .before .before .before .before .before .before .declarations .ensures) _ _ (c .before .before .before .before .before .before .before .before .before .before .before .before .before .before .before .head .given .1) _ _ _ (c .before .before .before .before .before .before .before .before .before .before .clauses .ensures) _ (c .before .before .before .before .before .before .before .before .both .given .1), c .before .before .before .before .if1 .left)
+commands-requires c κs =
+    let else1 : tie.Else1 = search in
+    let after-both : tie.After-both = search in
+    let after-clauses : tie.After-clauses = search in
+    let after-head : tie.After-head = search in
+    let after-declarations : tie.After-declarations = search in
+    let start : tie.Start = search in (
+      both-naming (start .args .text .now)
+          (arrays (start .args .names .now) (start .args .ops .now) (start .args .ends .now) (start .args .stars .now)) _ _
+          (after-declarations .declarations .ensures) _ _ (after-head .head .given .1) _ _ _
+          (after-clauses .clauses .ensures) _ (after-both .both .given .1),
+      else1 .if1 .left,
+    )
 
 enum-known-all : tie.Need-enum-known-all
 enum-known-all c = search needs
@@ -37,19 +72,65 @@ enum-told-2 : tie.Need-enum-told-2
 enum-told-2 c = search needs
 
 returns-3 : tie.Need-returns-3
-returns-3 c = all-refused (c .before .before .before .before .before .before .before .before .before .before .before .before .before .before .before .before .before .before .before .before .before .before .before .args .text .now) (arrays (c .before .before .before .before .before .before .before .before .before .before .before .before .before .before .before .before .before .before .before .before .before .before .before .args .names .now) (c .before .before .before .before .before .before .before .before .before .before .before .before .before .before .before .before .before .before .before .before .before .before .before .args .ops .now) (c .before .before .before .before .before .before .before .before .before .before .before .before .before .before .before .before .before .before .before .before .before .before .before .args .ends .now) (c .before .before .before .before .before .before .before .before .before .before .before .before .before .before .before .before .before .before .before .before .before .before .before .args .stars .now)) _ _ (c .before .before .before .before .before .before .before .before .before .before .before .before .before .before .before .before .before .before .before .before .declarations .ensures) _ _ (c .before .before .before .before .before .before .before .before .before .before .before .before .before .before .before .before .before .before .head .given .1) _ _ _ (c .before .before .before .before .before .before .before .before .before .before .before .before .before .clauses .ensures) _ (c .before .before .before .before .before .before .before .before .before .before .before .both .given .1) (c .before .before .before .before .before .before .before .if1 .left) _ _ (c .before .before .commands .ensures) _ _ (c .enum-told2 .given .1)
+returns-3 c =
+    let after-commands : tie.After-commands = search in
+    let else1 : tie.Else1 = search in
+    let after-both : tie.After-both = search in
+    let after-clauses : tie.After-clauses = search in
+    let after-head : tie.After-head = search in
+    let after-declarations : tie.After-declarations = search in
+    let start : tie.Start = search in
+    all-refused (start .args .text .now)
+    (arrays (start .args .names .now) (start .args .ops .now) (start .args .ends .now) (start .args .stars .now)) _ _
+    (after-declarations .declarations .ensures) _ _ (after-head .head .given .1) _ _ _ (after-clauses .clauses .ensures)
+    _ (after-both .both .given .1) (else1 .if1 .left) _ _ (after-commands .commands .ensures) _ _
+    (c .enum-told2 .given .1)
 
 returns-4 : tie.Need-returns-4
-returns-4 c = more-follows (c .before .before .before .before .before .before .before .before .before .before .before .before .before .before .before .before .before .before .before .before .before .before .before .before .before .before .before .args .text .now) (arrays (c .before .before .before .before .before .before .before .before .before .before .before .before .before .before .before .before .before .before .before .before .before .before .before .before .before .before .before .args .names .now) (c .before .before .before .before .before .before .before .before .before .before .before .before .before .before .before .before .before .before .before .before .before .before .before .before .before .before .before .args .ops .now) (c .before .before .before .before .before .before .before .before .before .before .before .before .before .before .before .before .before .before .before .before .before .before .before .before .before .before .before .args .ends .now) (c .before .before .before .before .before .before .before .before .before .before .before .before .before .before .before .before .before .before .before .before .before .before .before .before .before .before .before .args .stars .now)) _ _ (c .before .before .before .before .before .before .before .before .before .before .before .before .before .before .before .before .before .before .before .before .before .before .before .before .declarations .ensures) _ _ (c .before .before .before .before .before .before .before .before .before .before .before .before .before .before .before .before .before .before .before .before .before .before .head .given .1) _ _ _ (c .before .before .before .before .before .before .before .before .before .before .before .before .before .before .before .before .before .clauses .ensures) _ (c .before .before .before .before .before .before .before .before .before .before .before .before .before .before .before .both .given .1) (c .before .before .before .before .before .before .before .before .before .before .before .if1 .left) _ _ (c .before .before .before .before .before .before .commands .ensures) _ _ (c .before .before .before .before .all .given .1) _ (c .if2 .taken)
+returns-4 c =
+    let after-all : tie.After-all = search in
+    let after-commands : tie.After-commands = search in
+    let else1 : tie.Else1 = search in
+    let after-both : tie.After-both = search in
+    let after-clauses : tie.After-clauses = search in
+    let after-head : tie.After-head = search in
+    let after-declarations : tie.After-declarations = search in
+    let start : tie.Start = search in
+    more-follows (start .args .text .now)
+    (arrays (start .args .names .now) (start .args .ops .now) (start .args .ends .now) (start .args .stars .now)) _ _
+    (after-declarations .declarations .ensures) _ _ (after-head .head .given .1) _ _ _ (after-clauses .clauses .ensures)
+    _ (after-both .both .given .1) (else1 .if1 .left) _ _ (after-commands .commands .ensures) _ _
+    (after-all .all .given .1) _ (c .if2 .taken)
 
 enum-known-both-2 : tie.Need-enum-known-both-2
 enum-known-both-2 c = search needs
 
 returns-5 : tie.Need-returns-5
-returns-5 c = model-says (c .before .before .before .before .before .before .before .before .before .before .before .before .before .before .before .before .before .before .before .before .before .before .before .before .before .before .before .args .text .now) (arrays (c .before .before .before .before .before .before .before .before .before .before .before .before .before .before .before .before .before .before .before .before .before .before .before .before .before .before .before .args .names .now) (c .before .before .before .before .before .before .before .before .before .before .before .before .before .before .before .before .before .before .before .before .before .before .before .before .before .before .before .args .ops .now) (c .before .before .before .before .before .before .before .before .before .before .before .before .before .before .before .before .before .before .before .before .before .before .before .before .before .before .before .args .ends .now) (c .before .before .before .before .before .before .before .before .before .before .before .before .before .before .before .before .before .before .before .before .before .before .before .before .before .before .before .args .stars .now)) _ _ (c .before .before .before .before .before .before .before .before .before .before .before .before .before .before .before .before .before .before .before .before .before .before .before .before .declarations .ensures) _ _ (c .before .before .before .before .before .before .before .before .before .before .before .before .before .before .before .before .before .before .before .before .before .before .head .given .1) _ _ _ (c .before .before .before .before .before .before .before .before .before .before .before .before .before .before .before .before .before .clauses .ensures) _ (c .before .before .before .before .before .before .before .before .before .before .before .before .before .before .before .both .given .1) (c .before .before .before .before .before .before .before .before .before .before .before .if1 .left) _ _ (c .before .before .before .before .before .before .commands .ensures) _ _ (c .before .before .before .before .all .given .1) (c .if2 .left)
+returns-5 c =
+    let after-all : tie.After-all = search in
+    let after-commands : tie.After-commands = search in
+    let else1 : tie.Else1 = search in
+    let after-both : tie.After-both = search in
+    let after-clauses : tie.After-clauses = search in
+    let after-head : tie.After-head = search in
+    let after-declarations : tie.After-declarations = search in
+    let start : tie.Start = search in
+    model-says (start .args .text .now)
+    (arrays (start .args .names .now) (start .args .ops .now) (start .args .ends .now) (start .args .stars .now)) _ _
+    (after-declarations .declarations .ensures) _ _ (after-head .head .given .1) _ _ _ (after-clauses .clauses .ensures)
+    _ (after-both .both .given .1) (else1 .if1 .left) _ _ (after-commands .commands .ensures) _ _
+    (after-all .all .given .1) (c .if2 .left)
 
 returns-6 : tie.Need-returns-6
-returns-6 c = both-refused (c .before .before .before .before .before .before .before .before .before .before .before .before .before .args .text .now) (arrays (c .before .before .before .before .before .before .before .before .before .before .before .before .before .args .names .now) (c .before .before .before .before .before .before .before .before .before .before .before .before .before .args .ops .now) (c .before .before .before .before .before .before .before .before .before .before .before .before .before .args .ends .now) (c .before .before .before .before .before .before .before .before .before .before .before .before .before .args .stars .now)) _ _ (c .before .before .before .before .before .before .before .before .before .before .declarations .ensures) _ _ (c .before .before .before .before .before .before .before .before .head .given .1) _ _ _ (c .before .before .before .clauses .ensures) _ _ _ (c .before .both2 .given .1)
+returns-6 c =
+    let after-clauses : tie.After-clauses = search in
+    let after-head : tie.After-head = search in
+    let after-declarations : tie.After-declarations = search in
+    let start : tie.Start = search in
+    both-refused (start .args .text .now)
+    (arrays (start .args .names .now) (start .args .ops .now) (start .args .ends .now) (start .args .stars .now)) _ _
+    (after-declarations .declarations .ensures) _ _ (after-head .head .given .1) _ _ _ (after-clauses .clauses .ensures)
+    _ _ _ (c .before .both2 .given .1)
 
 pub model-spec : {M : Type 1} → statement M
 model-spec =

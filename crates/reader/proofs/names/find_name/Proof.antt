@@ -9,19 +9,31 @@ use Rattle.reader.proofs.names.find_name.Statement.{statement}
 use Rattle.reader.proofs.names.find_name.Tie as tie
 
 abbrev Inv-loop : tie.InvT-loop
-Inv-loop text names from to t i₀ i = (i ≤ to) × (foundFrom text names (nameIn text t .word) to i ≡ foundFrom text names (nameIn text t .word) to from)
+Inv-loop text names from to t i₀ i =
+    (i ≤ to) × (foundFrom text names (nameIn text t .word) to i ≡ foundFrom text names (nameIn text t .word) to from)
 
 abbrev μ-loop : tie.MeasureT-loop
 μ-loop text names from to t i₀ i = to - i
+
+-- The places that the answers name.
+abbrev Start : Type 0
+Start = tie.Start Inv-loop μ-loop
+
+abbrev At-loop : Type 0
+At-loop = tie.At-loop Inv-loop μ-loop
 
 loop-holds : tie.Need-loop-holds Inv-loop μ-loop
 loop-holds c = (omega arith, refl)
 
 is-name-requires : tie.Need-is-name-requires Inv-loop μ-loop
-is-name-requires c κs = (omega arith, c .before .before .before .pre .1 .1)
+is-name-requires c κs =
+    let start : Start = search in
+    (omega arith, start .pre .1 .1)
 
 returns : tie.Need-returns Inv-loop μ-loop
-returns c = found-here _ _ _ _ _ (omega arith) (sym (c .before .is-name .ensures) ∙ c .if1 .taken) ∙ c .before .before .before .loop .inv .1
+returns c =
+    let at-loop : At-loop = search in
+    found-here _ _ _ _ _ (omega arith) (sym (c .before .is-name .ensures) ∙ c .if1 .taken) ∙ at-loop .loop .inv .1
 
 add-i : tie.Need-add-i Inv-loop μ-loop
 add-i c = omega arith
@@ -30,7 +42,12 @@ loop-less : tie.Need-loop-less Inv-loop μ-loop
 loop-less c = omega arith
 
 loop-again : tie.Need-loop-again Inv-loop μ-loop
-loop-again c = (omega arith, found-later _ _ _ _ _ (omega arith) (sym (c .before .is-name .ensures) ∙ c .if1 .left) ∙ c .before .before .before .loop .inv .1)
+loop-again c =
+    let at-loop : At-loop = search in (
+      omega arith,
+      found-later _ _ _ _ _ (omega arith) (sym (c .before .is-name .ensures) ∙ c .if1 .left) ∙
+          at-loop .loop .inv .1,
+    )
 
 returns-2 : tie.Need-returns-2 Inv-loop μ-loop
 returns-2 c = found-none _ _ _ _ _ (omega arith) ∙ c .before .loop .inv .1

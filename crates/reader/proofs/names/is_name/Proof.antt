@@ -31,13 +31,24 @@ sub-if1 : tie.Need-sub-if1
 sub-if1 c = search needs
 
 returns : tie.Need-returns
-returns c = let p = c .before .before .before .before .before .before .pre .1 in other-name _ _ _ _ _ _ _ (p .ordered) (p .inside) (c .before .before .before .wide .ensures .0) (c .before .wide2 .ensures .0) (c .if1 .taken)
+returns c =
+    let after-wide : tie.After-wide = search in
+    let start : tie.Start = search in
+    let p = start .pre .1 in
+    other-name _ _ _ _ _ _ _ (p .ordered) (p .inside) (after-wide .wide .ensures .0) (c .before .wide2 .ensures .0)
+    (c .if1 .taken)
 
 same-bytes-requires : tie.Need-same-bytes-requires
 same-bytes-requires c κs = search needs
 
 returns-2 : tie.Need-returns-2
-returns-2 c = let p = c .before .before .before .before .before .before .before .pre .1 in c .same-bytes .ensures ∙ this-name _ _ _ _ _ _ _ (p .ordered) (p .inside) (c .before .before .before .before .wide .ensures .0) (c .before .before .wide2 .ensures .0) (c .before .if1 .left)
+returns-2 c =
+    let after-wide2 : tie.After-wide2 = search in
+    let after-wide : tie.After-wide = search in
+    let start : tie.Start = search in
+    let p = start .pre .1 in
+    c .same-bytes .ensures ∙ this-name _ _ _ _ _ _ _ (p .ordered) (p .inside) (after-wide .wide .ensures .0)
+    (after-wide2 .wide2 .ensures .0) (c .before .if1 .left)
 
 pub is-name-spec : {M : Type 1} → statement M
 is-name-spec =

@@ -15,6 +15,13 @@ Inv-loop text a b n j₀ j = (j ≤ n) × (sameFrom text a b n j ≡ sameWord (w
 abbrev μ-loop : tie.MeasureT-loop
 μ-loop text a b n j₀ j = n - j
 
+-- The places that the answers name.
+abbrev After-byte-at : Type 0
+After-byte-at = tie.After-byte-at Inv-loop μ-loop
+
+abbrev At-loop : Type 0
+At-loop = tie.At-loop Inv-loop μ-loop
+
 loop-holds : tie.Need-loop-holds Inv-loop μ-loop
 loop-holds c = (omega arith, same-start _ _ _ _)
 
@@ -31,7 +38,12 @@ byte-at-requires-2 : tie.Need-byte-at-requires-2 Inv-loop μ-loop
 byte-at-requires-2 c κs = tt
 
 returns : tie.Need-returns Inv-loop μ-loop
-returns c = same-no _ _ _ _ _ (omega arith) (λ z. c .if1 .taken (c .before .before .byte-at .ensures ∙ z ∙ sym (c .before .byte-at2 .ensures))) ∙ c .before .before .before .before .loop .inv .1
+returns c =
+    let after-byte-at : After-byte-at = search in
+    let at-loop : At-loop = search in
+    same-no _ _ _ _ _ (omega arith)
+    (λ z. c .if1 .taken (after-byte-at .byte-at .ensures ∙ z ∙ sym (c .before .byte-at2 .ensures))) ∙
+    at-loop .loop .inv .1
 
 add-j : tie.Need-add-j Inv-loop μ-loop
 add-j c = omega arith
@@ -40,7 +52,13 @@ loop-less : tie.Need-loop-less Inv-loop μ-loop
 loop-less c = omega arith
 
 loop-again : tie.Need-loop-again Inv-loop μ-loop
-loop-again c = (omega arith, same-more _ _ _ _ _ (omega arith) (sym (c .before .before .byte-at .ensures) ∙ c .if1 .left ∙ c .before .byte-at2 .ensures) ∙ c .before .before .before .before .loop .inv .1)
+loop-again c =
+    let after-byte-at : After-byte-at = search in
+    let at-loop : At-loop = search in (
+      omega arith,
+      same-more _ _ _ _ _ (omega arith)
+          (sym (after-byte-at .byte-at .ensures) ∙ c .if1 .left ∙ c .before .byte-at2 .ensures) ∙ at-loop .loop .inv .1,
+    )
 
 returns-2 : tie.Need-returns-2 Inv-loop μ-loop
 returns-2 c = same-end _ _ _ _ _ (omega arith) ∙ c .before .loop .inv .1

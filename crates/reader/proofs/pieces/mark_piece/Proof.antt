@@ -35,7 +35,9 @@ token-requires-7 c κs = search needs
 
 returns : tie.Need-returns
 unfolding markPiece
-returns c = rw (c .before .before .match .keys7, eq-eqb _ _ (c .before .if1 .taken)) (c .token7 .ensures)
+returns c =
+    let at-match-keys7 : tie.At-match-keys7 = search in
+    rw (at-match-keys7 .match .keys7, eq-eqb _ _ (c .before .if1 .taken)) (c .token7 .ensures)
 
 token-requires-8 : tie.Need-token-requires-8
 token-requires-8 c κs = search needs
@@ -69,7 +71,9 @@ returns-7 c = rw (c .before .match .keys6) (c .token6 .ensures)
 
 returns-8 : tie.Need-returns-8
 unfolding markPiece
-returns-8 c = rw (c .before .before .match .keys7, ne-eqb _ _ (c .before .if1 .left)) (c .token8 .ensures)
+returns-8 c =
+    let at-match-keys7 : tie.At-match-keys7 = search in
+    rw (at-match-keys7 .match .keys7, ne-eqb _ _ (c .before .if1 .left)) (c .token8 .ensures)
 
 returns-9 : tie.Need-returns-9
 unfolding markPiece
@@ -79,7 +83,8 @@ returns-9 c =
       ne-eqb _ _ (n .0 .0 .0 .0 .0 .0 .1),
       ne-eqb _ _ (n .0 .0 .0 .0 .0 .1),
       ne-eqb _ _ (n .0 .0 .0 .0 .1),
-      ne-eqb _ _ (n .0 .0 .0 .1),
+      ne-eqb _ _
+          (n .0 .0 .0 .1),
       ne-eqb _ _ (n .0 .0 .1),
       ne-eqb _ _ (n .0 .1),
       ne-eqb _ _ (n .1),

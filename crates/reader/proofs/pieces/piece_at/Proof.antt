@@ -6,8 +6,17 @@ use Rattle.reader.proofs.Lexing.{piece-end, Held, piece-mark, run-grows
 use Rattle.reader.proofs.pieces.piece_at.Statement.{statement}
 use Rattle.reader.proofs.pieces.piece_at.Tie as tie
 
-held : (c : tie.Else1) → let a = c .before .before .before .args in Held (a .text .now) (a .at) (c .before .skip-blanks .result)
-held c = record { same = c .before .skip-blanks .ensures .0; within = c .if1 .left; held = c .before .skip-blanks .ensures .1 (c .if1 .left) }
+held : (c : tie.Else1) →
+    let start : tie.Start = search in
+    let a = start .args in
+    Held (a .text .now) (a .at) (c .before .skip-blanks .result)
+held c =
+    record {
+      same = c .before .skip-blanks .ensures .0;
+      within = c .if1 .left;
+      held = c .before .skip-blanks .ensures .1
+          (c .if1 .left);
+    }
 
 skip-blanks-requires : tie.Need-skip-blanks-requires
 skip-blanks-requires c κs = search needs
@@ -16,7 +25,9 @@ token-requires : tie.Need-token-requires
 token-requires c κs = search needs
 
 returns : tie.Need-returns
-returns c = piece-end (c .before .before .skip-blanks .ensures .0) (c .before .if1 .taken) (c .token .ensures)
+returns c =
+    let after-skip-blanks : tie.After-skip-blanks = search in
+    piece-end (after-skip-blanks .skip-blanks .ensures .0) (c .before .if1 .taken) (c .token .ensures)
 
 shared-slice-read-b : tie.Need-shared-slice-read-b
 shared-slice-read-b c = search needs
@@ -29,11 +40,18 @@ word-end-requires c κs = search needs
 
 word-piece-requires : tie.Need-word-piece-requires
 word-piece-requires c κs =
-    (run-grows (held (c .before .before .before .before)) (sym (c .before .before .is-word .ensures) ∙ c .before .if2 .taken) (c .word-end .ensures .0), c .word-end .ensures .1)
+    let after-is-word : tie.After-is-word = search in
+    let else1 : tie.Else1 = search in (
+      run-grows (held else1) (sym (after-is-word .is-word .ensures) ∙ c .before .if2 .taken) (c .word-end .ensures .0),
+      c .word-end .ensures .1,
+    )
 
 returns-2 : tie.Need-returns-2
 returns-2 c =
-    piece-word (held (c .before .before .before .before .before)) (sym (c .before .before .before .is-word .ensures) ∙ c .before .before .if2 .taken)
+    let then2 : tie.Then2 = search in
+    let after-is-word : tie.After-is-word = search in
+    let else1 : tie.Else1 = search in
+    piece-word (held else1) (sym (after-is-word .is-word .ensures) ∙ then2 .if2 .taken)
     (c .before .word-end .ensures .0) (c .before .word-end .ensures .1) (c .word-piece .ensures)
 
 add-byte-at : tie.Need-add-byte-at
@@ -47,8 +65,11 @@ mark-piece-requires c κs = search needs
 
 returns-3 : tie.Need-returns-3
 returns-3 c =
-    piece-mark (held (c .before .before .before .before .before)) (sym (c .before .before .before .is-word .ensures) ∙ c .before .before .if2 .left)
-    (c .before .byte-at .ensures) (c .mark-piece .ensures)
+    let else2 : tie.Else2 = search in
+    let after-is-word : tie.After-is-word = search in
+    let else1 : tie.Else1 = search in
+    piece-mark (held else1) (sym (after-is-word .is-word .ensures) ∙ else2 .if2 .left) (c .before .byte-at .ensures)
+    (c .mark-piece .ensures)
 
 pub piece-at-spec : {M : Type 1} → statement M
 piece-at-spec =

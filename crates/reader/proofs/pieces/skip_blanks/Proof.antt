@@ -17,6 +17,13 @@ Inv-loop text at i₀ i = tokensFrom text at ≡ tokensFrom text i
 abbrev μ-loop : tie.MeasureT-loop
 μ-loop text at i₀ i = length text - i
 
+-- The places that the answers name.
+abbrev At-loop : Type 0
+At-loop = tie.At-loop Inv-loop μ-loop
+
+abbrev In-loop : Type 0
+In-loop = tie.In-loop Inv-loop μ-loop
+
 loop-holds : tie.Need-loop-holds Inv-loop μ-loop
 loop-holds c = refl
 
@@ -27,7 +34,9 @@ is-blank-requires : tie.Need-is-blank-requires Inv-loop μ-loop
 is-blank-requires c κs = tt
 
 returns : tie.Need-returns Inv-loop μ-loop
-returns c = (c .before .before .before .before .loop .inv, λ h. sym (c .before .is-blank .ensures) ∙ not-true _ (c .if1 .taken))
+returns c =
+    let at-loop : At-loop = search in
+    (at-loop .loop .inv, λ h. sym (c .before .is-blank .ensures) ∙ not-true _ (c .if1 .taken))
 
 add-i : tie.Need-add-i Inv-loop μ-loop
 add-i c = omega arith
@@ -37,8 +46,10 @@ loop-less c = omega arith
 
 loop-again : tie.Need-loop-again Inv-loop μ-loop
 loop-again c =
-    c .before .before .before .before .loop .inv
-    ∙ rw add-one (from-blank _ _ (c .before .before .before .loop-test .taken) (sym (c .before .is-blank .ensures) ∙ not-false _ (c .if1 .left)))
+    let in-loop : In-loop = search in
+    let at-loop : At-loop = search in
+    at-loop .loop .inv ∙ rw add-one
+    (from-blank _ _ (in-loop .loop-test .taken) (sym (c .before .is-blank .ensures) ∙ not-false _ (c .if1 .left)))
 
 returns-2 : tie.Need-returns-2 Inv-loop μ-loop
 returns-2 c = (c .before .loop .inv, λ h. absurd (omega arith))

@@ -16,6 +16,13 @@ Inv-loop text from i₀ i = (i + span (drop i text) ≡ from + span (drop from t
 abbrev μ-loop : tie.MeasureT-loop
 μ-loop text from i₀ i = length text - i
 
+-- The places that the answers name.
+abbrev In-loop : Type 0
+In-loop = tie.In-loop Inv-loop μ-loop
+
+abbrev At-loop : Type 0
+At-loop = tie.At-loop Inv-loop μ-loop
+
 loop-holds : tie.Need-loop-holds Inv-loop μ-loop
 loop-holds c = (refl, c .before .pre)
 
@@ -27,8 +34,13 @@ is-word-requires c κs = tt
 
 returns : tie.Need-returns Inv-loop μ-loop
 returns c =
-    let before = c .before .before .before .before .loop .inv in
-    (span-here _ _ (c .before .before .before .loop-test .taken) (sym (c .before .is-word .ensures) ∙ not-true _ (c .if1 .taken)) ∙ before .0, before .1)
+    let in-loop : In-loop = search in
+    let at-loop : At-loop = search in
+    let before = at-loop .loop .inv in (
+      span-here _ _ (in-loop .loop-test .taken) (sym (c .before .is-word .ensures) ∙ not-true _ (c .if1 .taken)) ∙
+          before .0,
+      before .1,
+    )
 
 add-i : tie.Need-add-i Inv-loop μ-loop
 add-i c = omega arith
@@ -38,8 +50,13 @@ loop-less c = omega arith
 
 loop-again : tie.Need-loop-again Inv-loop μ-loop
 loop-again c =
-    let before = c .before .before .before .before .loop .inv in
-    (span-more _ _ (c .before .before .before .loop-test .taken) (sym (c .before .is-word .ensures) ∙ not-false _ (c .if1 .left)) ∙ before .0, omega arith)
+    let in-loop : In-loop = search in
+    let at-loop : At-loop = search in
+    let before = at-loop .loop .inv in (
+      span-more _ _ (in-loop .loop-test .taken) (sym (c .before .is-word .ensures) ∙ not-false _ (c .if1 .left)) ∙
+          before .0,
+      omega arith,
+    )
 
 returns-2 : tie.Need-returns-2 Inv-loop μ-loop
 returns-2 c = (span-end _ _ (c .loop-test .left) ∙ c .before .loop .inv .0, c .before .loop .inv .1)

@@ -5,14 +5,24 @@ use mathlib.Core.Bool.{false}
 use lib.ListN.{getD}
 use borrow.Author.Needs.{needs}
 use Rattle.notation.specs.Bytes.{letter}
-use Rattle.reader.proofs.Lexing.{Plain, plain, word-long, word-reserved, word-name, word-other, word-zero, word-one, word-digit}
+use Rattle.reader.proofs.Lexing.{Plain, plain, word-long, word-reserved, word-name, word-other, word-zero}
+use Rattle.reader.proofs.Lexing.{word-one, word-digit}
 use Rattle.reader.proofs.pieces.word_piece.Statement.{statement}
 use Rattle.reader.proofs.pieces.word_piece.Tie as tie
 
-is-plain : (c : tie.Else2) → let a = c .before .before .before .before .args in Plain (a .text .now) (a .s) (a .e)
-is-plain c = plain (c .before .before .before .before .pre) (c .before .before .if1 .left) (c .before .reserved-at .ensures) (c .if2 .left)
+is-plain : (c : tie.Else2) →
+    let start : tie.Start = search in
+    let a = start .args in
+    Plain (a .text .now) (a .s) (a .e)
+is-plain c =
+    let else1 : tie.Else1 = search in
+    let start : tie.Start = search in
+    plain (start .pre) (else1 .if1 .left) (c .before .reserved-at .ensures) (c .if2 .left)
 
-no-letter : (c : tie.Else3) → let a = c .before .before .before .before .before .before .before .args in letter (getD (a .text .now) (a .s) 0) ≡ false
+no-letter : (c : tie.Else3) →
+    let start : tie.Start = search in
+    let a = start .args in
+    letter (getD (a .text .now) (a .s) 0) ≡ false
 no-letter c = sym (c .before .is-letter .ensures) ∙ c .if3 .left
 
 sub-n : tie.Need-sub-n
@@ -22,7 +32,9 @@ refused-requires : tie.Need-refused-requires
 refused-requires c κs = search needs
 
 returns : tie.Need-returns
-returns c = word-long (c .before .before .before .pre) (c .before .if1 .taken) (c .refused .ensures)
+returns c =
+    let start : tie.Start = search in
+    word-long (start .pre) (c .before .if1 .taken) (c .refused .ensures)
 
 reserved-at-requires : tie.Need-reserved-at-requires
 reserved-at-requires c κs = search needs
@@ -32,8 +44,11 @@ token-requires c κs = search needs
 
 returns-2 : tie.Need-returns-2
 returns-2 c =
-    word-reserved (c .before .before .before .before .before .pre) (c .before .before .before .if1 .left) (c .before .before .reserved-at .ensures)
-    (c .before .if2 .taken) (c .token .ensures)
+    let after-reserved-at : tie.After-reserved-at = search in
+    let else1 : tie.Else1 = search in
+    let start : tie.Start = search in
+    word-reserved (start .pre) (else1 .if1 .left) (after-reserved-at .reserved-at .ensures) (c .before .if2 .taken)
+    (c .token .ensures)
 
 shared-slice-read-b : tie.Need-shared-slice-read-b
 shared-slice-read-b c = search needs
@@ -45,37 +60,53 @@ token-requires-2 : tie.Need-token-requires-2
 token-requires-2 c κs = search needs
 
 returns-3 : tie.Need-returns-3
-returns-3 c = word-name (is-plain (c .before .before .before .before)) (sym (c .before .before .is-letter .ensures) ∙ c .before .if3 .taken) (c .token2 .ensures)
+returns-3 c =
+    let after-is-letter : tie.After-is-letter = search in
+    let else2 : tie.Else2 = search in
+    word-name (is-plain else2) (sym (after-is-letter .is-letter .ensures) ∙ c .before .if3 .taken) (c .token2 .ensures)
 
 token-requires-3 : tie.Need-token-requires-3
 token-requires-3 c κs = search needs
 
 returns-4 : tie.Need-returns-4
-returns-4 c = word-other (is-plain (c .before .before .before .before .before)) (no-letter (c .before .before)) (c .before .if4 .taken) (c .token3 .ensures)
+returns-4 c =
+    let else3 : tie.Else3 = search in
+    let else2 : tie.Else2 = search in
+    word-other (is-plain else2) (no-letter else3) (c .before .if4 .taken) (c .token3 .ensures)
 
 token-requires-4 : tie.Need-token-requires-4
 token-requires-4 c κs = search needs
 
 returns-5 : tie.Need-returns-5
 returns-5 c =
-    word-zero (is-plain (c .before .before .before .before .before .before)) (no-letter (c .before .before .before))
-    (c .before .before .if4 .left) (c .before .if5 .taken) (c .token4 .ensures)
+    let else4 : tie.Else4 = search in
+    let else3 : tie.Else3 = search in
+    let else2 : tie.Else2 = search in
+    word-zero (is-plain else2) (no-letter else3) (else4 .if4 .left) (c .before .if5 .taken) (c .token4 .ensures)
 
 token-requires-5 : tie.Need-token-requires-5
 token-requires-5 c κs = search needs
 
 returns-6 : tie.Need-returns-6
 returns-6 c =
-    word-one (is-plain (c .before .before .before .before .before .before .before)) (no-letter (c .before .before .before .before))
-    (c .before .before .before .if4 .left) (c .before .before .if5 .left) (c .before .if6 .taken) (c .token5 .ensures)
+    let else5 : tie.Else5 = search in
+    let else4 : tie.Else4 = search in
+    let else3 : tie.Else3 = search in
+    let else2 : tie.Else2 = search in
+    word-one (is-plain else2) (no-letter else3) (else4 .if4 .left) (else5 .if5 .left) (c .before .if6 .taken)
+    (c .token5 .ensures)
 
 token-requires-6 : tie.Need-token-requires-6
 token-requires-6 c κs = search needs
 
 returns-7 : tie.Need-returns-7
 returns-7 c =
-    word-digit (is-plain (c .before .before .before .before .before .before .before)) (no-letter (c .before .before .before .before))
-    (c .before .before .before .if4 .left) (c .before .before .if5 .left) (c .before .if6 .left) (c .token6 .ensures)
+    let else5 : tie.Else5 = search in
+    let else4 : tie.Else4 = search in
+    let else3 : tie.Else3 = search in
+    let else2 : tie.Else2 = search in
+    word-digit (is-plain else2) (no-letter else3) (else4 .if4 .left) (else5 .if5 .left) (c .before .if6 .left)
+    (c .token6 .ensures)
 
 pub word-piece-spec : {M : Type 1} → statement M
 word-piece-spec =

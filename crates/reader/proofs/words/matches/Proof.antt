@@ -17,6 +17,16 @@ Inv-loop text s e k n j₀ j = Same (slice s e text) (getD reserved k []) n j
 abbrev μ-loop : tie.MeasureT-loop
 μ-loop text s e k n j₀ j = n - j
 
+-- The places that the answers name.
+abbrev Start : Type 0
+Start = tie.Start Inv-loop μ-loop
+
+abbrev In-loop : Type 0
+In-loop = tie.In-loop Inv-loop μ-loop
+
+abbrev At-loop : Type 0
+At-loop = tie.At-loop Inv-loop μ-loop
+
 length-of-requires : tie.Need-length-of-requires Inv-loop μ-loop
 length-of-requires c κs = c .before .pre .1 .1
 
@@ -27,10 +37,21 @@ sub-if1 : tie.Need-sub-if1 Inv-loop μ-loop
 sub-if1 c = omega arith
 
 returns : tie.Need-returns Inv-loop μ-loop
-returns c = lengths-differ _ _ (λ z. c .if1 .taken (sym (length-slice _ _ _ (c .before .before .before .pre .1 .0)) ∙ z ∙ sym (c .before .length-of .ensures .0)))
+returns c =
+    let start : Start = search in
+    lengths-differ _ _
+    (λ z. c .if1 .taken (sym (length-slice _ _ _ (start .pre .1 .0)) ∙ z ∙ sym (c .before .length-of .ensures .0)))
 
 loop-holds : tie.Need-loop-holds Inv-loop μ-loop
-loop-holds c = record { left = length-slice _ _ _ (c .before .before .before .pre .1 .0) ∙ c .if1 .left; right = sym (c .before .length-of .ensures .0); within = omega arith; rest = refl }
+loop-holds c =
+    let start : Start = search in
+    record {
+      left = length-slice _ _ _ (start .pre .1 .0) ∙ c .if1 .left;
+      right = sym (c .before .length-of .ensures .0);
+      within
+          = omega arith;
+      rest = refl;
+    }
 
 add-a : tie.Need-add-a Inv-loop μ-loop
 add-a c = omega arith
@@ -42,16 +63,21 @@ letter-of-requires : tie.Need-letter-of-requires Inv-loop μ-loop
 letter-of-requires c κs = omega arith
 
 -- The letter of the text, at its place in the word.
-letter : (c : tie.In-loop Inv-loop μ-loop) → let a = c .before .before .before .before .before .args in
+letter : (c : In-loop) →
+    let start : Start = search in
+    let a = start .args in
     getD (slice (a .s) (a .e) (a .text .now)) (c .before .loop .j) 0 ≡ getD (a .text .now) (a .s + c .before .loop .j) 0
 letter c =
-    let a = c .before .before .before .before .before .args in
+    let start : Start = search in
+    let a = start .args in
     in-slice (a .text .now) (a .s) (a .e) (c .before .loop .j) (omega arith)
 
 returns-2 : tie.Need-returns-2 Inv-loop μ-loop
 returns-2 c =
-    same-no (c .before .before .before .before .loop .inv) (c .before .before .before .loop-test .taken)
-    (λ z. c .if2 .taken (sym (letter (c .before .before .before)) ∙ z ∙ sym (c .before .letter-of .ensures)))
+    let in-loop : In-loop = search in
+    let at-loop : At-loop = search in
+    same-no (at-loop .loop .inv) (in-loop .loop-test .taken)
+    (λ z. c .if2 .taken (sym (letter in-loop) ∙ z ∙ sym (c .before .letter-of .ensures)))
 
 add-j : tie.Need-add-j Inv-loop μ-loop
 add-j c = omega arith
@@ -61,8 +87,10 @@ loop-less c = omega arith
 
 loop-again : tie.Need-loop-again Inv-loop μ-loop
 loop-again c =
-    same-more (c .before .before .before .before .loop .inv) (c .before .before .before .loop-test .taken)
-    (letter (c .before .before .before) ∙ c .if2 .left ∙ c .before .letter-of .ensures)
+    let in-loop : In-loop = search in
+    let at-loop : At-loop = search in
+    same-more (at-loop .loop .inv) (in-loop .loop-test .taken)
+    (letter in-loop ∙ c .if2 .left ∙ c .before .letter-of .ensures)
 
 returns-3 : tie.Need-returns-3 Inv-loop μ-loop
 returns-3 c = same-end (c .before .loop .inv) (c .loop-test .left)

@@ -16,17 +16,32 @@ Inv-loop text s e k₀ k = (k ≤ 15) × (wordIn (slice s e text) (drop k reserv
 abbrev μ-loop : tie.MeasureT-loop
 μ-loop text s e k₀ k = 15 - k
 
+-- The places that the answers name.
+abbrev Start : Type 0
+Start = tie.Start Inv-loop μ-loop
+
+abbrev In-loop : Type 0
+In-loop = tie.In-loop Inv-loop μ-loop
+
+abbrev At-loop : Type 0
+At-loop = tie.At-loop Inv-loop μ-loop
+
 loop-holds : tie.Need-loop-holds Inv-loop μ-loop
 loop-holds c = (omega arith, refl)
 
 matches-requires : tie.Need-matches-requires Inv-loop μ-loop
-matches-requires c κs = (c .before .before .before .pre .0, (c .before .before .before .pre .1, c .loop-test .taken))
+matches-requires c κs =
+    let start : Start = search in
+    (start .pre .0, (start .pre .1, c .loop-test .taken))
 
 cast-result : tie.Need-cast-result Inv-loop μ-loop
 cast-result c = omega arith
 
 returns : tie.Need-returns Inv-loop μ-loop
-returns c = look-hit _ _ (c .before .before .before .loop .inv .1) (c .before .before .loop-test .taken) (sym (c .before .matches .ensures) ∙ c .if1 .taken)
+returns c =
+    let in-loop : In-loop = search in
+    let at-loop : At-loop = search in
+    look-hit _ _ (at-loop .loop .inv .1) (in-loop .loop-test .taken) (sym (c .before .matches .ensures) ∙ c .if1 .taken)
 
 add-k : tie.Need-add-k Inv-loop μ-loop
 add-k c = omega arith
@@ -35,7 +50,13 @@ loop-less : tie.Need-loop-less Inv-loop μ-loop
 loop-less c = omega arith
 
 loop-again : tie.Need-loop-again Inv-loop μ-loop
-loop-again c = (omega arith, look-on _ _ (c .before .before .before .loop .inv .1) (c .before .before .loop-test .taken) (sym (c .before .matches .ensures) ∙ c .if1 .left))
+loop-again c =
+    let in-loop : In-loop = search in
+    let at-loop : At-loop = search in (
+      omega arith,
+      look-on _ _ (at-loop .loop .inv .1) (in-loop .loop-test .taken)
+          (sym (c .before .matches .ensures) ∙ c .if1 .left),
+    )
 
 returns-2 : tie.Need-returns-2 Inv-loop μ-loop
 returns-2 c = look-none _ _ (c .before .loop .inv .1) (c .loop-test .left)
