@@ -7,9 +7,11 @@ use lib.ListN.{set}
 use Rattle.reader.specs.declared.cursor.Cursor.{Cursor}
 use Rattle.reader.specs.declared.cursor.Parsed.{Parsed}
 use Rattle.reader.specs.declared.cursor.Parsed.the-variants.{Ok, Refused}
+use Rattle.reader.specs.working.Pieces.{pieceAt}
 use Rattle.reader.specs.working.Cursors.{moved, emitted, Past, Expected}
 use Rattle.reader.specs.working.Expressions.{Leaf, AfterNode, AfterClose}
 use Rattle.reader.specs.working.Items.{Marked, Skipped}
+use Rattle.reader.proofs.Lexing.{tokened}
 
 module _ (inner : Parsed) (code : ℕ) (b : List ℕ) where
   pub node-ok : (x r : Cursor) (a : List ℕ) → inner ≡ Ok x → (r ≡ emitted x) × (a ≡ set b (x .emitted) code) → AfterNode code inner b a (Ok r)
@@ -31,6 +33,11 @@ module _ (text : List ℕ) (inner : Parsed) where
   pub close-bad : (n i : ℕ) → inner ≡ Refused n i → AfterClose text inner (Refused n i)
   unfolding AfterClose
   close-bad n i e = subst (λ (x : Parsed). AfterClose text x (Refused n i)) (sym e) refl
+
+-- A cursor that was moved is past its piece.
+pub is-past : {text : List ℕ} {c d : Cursor} {items nodes stars : ℕ} → d ≡ moved (pieceAt text (c .next .end)) c items nodes stars → Past text c items nodes stars d
+is-past {text} {c} {d} {items} {nodes} {stars} e =
+    subst (λ (z : Cursor). Past text c items nodes stars z) (sym e) (record { next = tokened text (c .next .end); is = refl })
 
 -- A cursor past a piece, with one code word more.
 past-emitted : (text : List ℕ) (c d r : Cursor) (items nodes stars : ℕ) → Past text c items nodes stars d → r ≡ emitted d → r ≡ emitted (moved (d .next) c items nodes stars)

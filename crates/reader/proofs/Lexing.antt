@@ -1,44 +1,24 @@
 -- The piece that is made of a run of word bytes, or of a mark, is the next of the lexemes of its text.
 -- Assumes nothing.
-use mathlib.Core.Path.{_≡_, refl, sym, ap, _∙_}
+use mathlib.Core.Path.{_≡_, refl, sym, ap, _∙_, subst}
 use mathlib.Core.Bool.{Bool, true, false, cond}
 use mathlib.Core.List.{List, [], _∷_}
 use mathlib.Core.Option.{none, some}
 use Prim.Native.Nat.{ℕ, zero, suc, _+_, _-_, _≤_, _<_}
 use native.Mathlib.Numerals.{add-one}
 use native.Mathlib.Omega.{arith}
-use lib.Dec.{eqb}
-use lib.ListN.{length, getD, drop, take, drop-of-length-le, length-drop}
+use lib.Dec.{eqb, ltb, leb}
+use lib.ListN.{length, getD, drop, take, length-drop}
 use lib.Seq.{slice, slice-cons, slice-empty, drop-cons, length-slice, take-add, drop-at, length-take-le}
-use borrow.Author.Tests.{eq-eqb, ne-eqb}
-use Rattle.notation.specs.Bytes.{letter, wordByte, blankByte, begins}
+use borrow.Author.Tests.{eq-eqb, ne-eqb, eqb-true, eqb-false, ltb-true, ltb-false, leb-true, leb-false, le-leb, lt-leb}
+use Rattle.notation.specs.Bytes.{letter, wordByte, begins}
 use Rattle.notation.specs.Tokens.{sign, name, Word, reserved, wordIn, plainWord, wordToken}
 use Rattle.notation.specs.working.Lexing.{span, beginsWith, Front, oneByte, mark, front, tokensFrom}
 use Rattle.notation.proofs.Lexes.{from-end, from-token}
 use Rattle.reader.specs.declared.pieces.Piece.{Piece}
-use Rattle.reader.specs.working.Pieces.{numberOr, pieceOf, tokenOf, listed, Fresh, Tokened, Worded, markPiece}
+use Rattle.reader.specs.working.Pieces.{numberOr, pieceOf, tokenOf, listed, Fresh, Tokened, blanks, plainPiece, numberedPiece, wordPiece, markPiece, pieceFrom, pieceAt}
+use Rattle.reader.proofs.Runs.{word-run, run-step, run-within, Behind, behind-blanks}
 use Rattle.reader.proofs.Spelling.{token-long, token-reserved, token-plain, plain-other, plain-digit}
-
--- Runs of word bytes.
-
-span-word : (text : List ℕ) (i : ℕ) → i < length text → wordByte (getD text i 0) ≡ true → span (drop i text) ≡ suc (span (drop (suc i) text))
-unfolding span
-span-word text i h t = rw (drop-cons text i 0, t)
-
-pub span-more : (text : List ℕ) (i : ℕ) → i < length text → wordByte (getD text i 0) ≡ true → i + 1 + span (drop (i + 1) text) ≡ i + span (drop i text)
-span-more text i h t = rw (span-word text i h t, add-one) (omega arith)
-
-pub span-here : (text : List ℕ) (i : ℕ) → i < length text → wordByte (getD text i 0) ≡ false → i ≡ i + span (drop i text)
-unfolding span
-span-here text i h t =
-    let e : span (drop i text) ≡ 0 = rw (drop-cons text i 0, t) in
-    omega arith
-
-pub span-end : (text : List ℕ) (i : ℕ) → length text ≤ i → i ≡ i + span (drop i text)
-unfolding span
-span-end text i h =
-    let e : span (drop i text) ≡ 0 = rw (drop-of-length-le text h) in
-    omega arith
 
 -- Parts of a text.
 
@@ -61,7 +41,7 @@ module _ (text : List ℕ) (k s e : ℕ) (h : k < 24) where
   sign-fault : pieceOf k s e 3 .fault ≡ cond (eqb k 25) 2 3
   sign-fault = rw (ne-eqb k 25 (λ z. absurd (omega arith)))
 
--- The word from s to e, and the piece r that is made of it.
+-- The word from s to e.
 
 module _ (text : List ℕ) (s e : ℕ) (fits : (s < e) × (e ≤ length text)) where
   size : length (slice s e text) ≡ e - s
@@ -75,46 +55,55 @@ module _ (text : List ℕ) (s e : ℕ) (fits : (s < e) × (e ≤ length text)) w
       let none-left : slice (suc s) e text ≡ [] = ap (λ (i : ℕ). slice i e text) {x = suc s} {y = e} (omega arith) ∙ slice-empty e text in
       slice-cons s e text 0 (fits .0) (fits .1) ∙ ap (λ (v : Word). getD text s 0 ∷ v) none-left
 
+-- The piece is the word from s to e.
+record Worded (text : List ℕ) (s e : ℕ) (r : Piece) : Type 0 where
+  pub start : r .start ≡ s
+  pub ends : r .end ≡ e
+  pub token : tokenOf text r ≡ wordToken s (slice s e text)
+  pub fault : r .fault ≡ cond (eqb (r .kind) 25) 2 3
+  pub kind : r .kind < 26
+  pub short : r .kind ≡ 24 → e ≤ s + 16
+
 -- The word is short and not reserved.
-pub record Plain (text : List ℕ) (s e : ℕ) : Type 0 where
+record Plain (text : List ℕ) (s e : ℕ) : Type 0 where
   pub fits : (s < e) × (e ≤ length text)
   pub short : e - s ≤ 16
   pub token : wordToken s (slice s e text) ≡ some (plainWord s (slice s e text))
 
 module _ {text : List ℕ} {s e : ℕ} where
-  is-sign : {r : Piece} (k : ℕ) → k < 24 → wordToken s (slice s e text) ≡ some (sign k) → r ≡ pieceOf k s e 3 → Worded text s e r
-  is-sign k h t q = rw q (record {
+  is-sign : (k : ℕ) → k < 24 → wordToken s (slice s e text) ≡ some (sign k) → Worded text s e (pieceOf k s e 3)
+  is-sign k h t = record {
     start = refl;
     ends = refl;
     token = sign-token text k s e h ∙ sym t;
     fault = sign-fault text k s e h;
     kind = omega arith;
     short = λ z. absurd (omega arith);
-  })
+  }
 
   module _ (fits : (s < e) × (e ≤ length text)) where
-    pub word-long : {r : Piece} → 16 < e - s → r ≡ pieceOf 25 s e 2 → Worded text s e r
+    word-long : 16 < e - s → Worded text s e (pieceOf 25 s e 2)
     unfolding tokenOf
-    word-long h q =
+    word-long h =
         let t : wordToken s (slice s e text) ≡ none = token-long s (slice s e text) (omega (arith, size text s e fits)) in
-        rw q (record { start = refl; ends = refl; token = sym t; fault = refl; kind = omega arith; short = λ z. absurd (omega arith) })
+        record { start = refl; ends = refl; token = sym t; fault = refl; kind = omega arith; short = λ z. absurd (omega arith) }
 
     module _ (h : e - s ≤ 16) {k : ℕ} (is : k ≡ numberOr (wordIn (slice s e text) reserved 0)) where
-      pub word-reserved : {r : Piece} → k < 15 → r ≡ pieceOf k s e 3 → Worded text s e r
+      word-reserved : k < 15 → Worded text s e (pieceOf k s e 3)
       word-reserved u = is-sign k (omega arith) (token-reserved s (slice s e text) (omega (arith, size text s e fits)) k is u)
 
-      pub plain : 15 ≤ k → Plain text s e
+      plain : 15 ≤ k → Plain text s e
       plain u = record { fits = fits; short = h; token = token-plain s (slice s e text) (omega (arith, size text s e fits)) k is u }
 
   module _ (p : Plain text s e) where
-    pub word-name : {r : Piece} → letter (getD text s 0) ≡ true → r ≡ pieceOf 24 s e 3 → Worded text s e r
+    word-name : letter (getD text s 0) ≡ true → Worded text s e (pieceOf 24 s e 3)
     unfolding tokenOf
-    word-name h q =
+    word-name h =
         let t : wordToken s (slice s e text) ≡ some (name (record { place = s; word = slice s e text })) = p .token ∙ rw (first text s e (p .fits) ∙ h) in
-        rw q (record { start = refl; ends = refl; token = sym t; fault = refl; kind = omega arith; short = λ z. omega arith })
+        record { start = refl; ends = refl; token = sym t; fault = refl; kind = omega arith; short = λ z. omega arith }
 
     module _ (h : letter (getD text s 0) ≡ false) where
-      pub word-other : {r : Piece} → (e - s ≡ 1 → ⊥) → r ≡ pieceOf 23 s e 3 → Worded text s e r
+      word-other : (e - s ≡ 1 → ⊥) → Worded text s e (pieceOf 23 s e 3)
       word-other n =
           is-sign 23 (omega arith) (p .token ∙ ap some (plain-other s (slice s e text) (first text s e (p .fits) ∙ h) (λ z. n (sym (size text s e (p .fits)) ∙ z))))
 
@@ -122,14 +111,36 @@ module _ {text : List ℕ} {s e : ℕ} where
         digit : wordToken s (slice s e text) ≡ some (cond (eqb (getD text s 0) 48) (sign 15) (cond (eqb (getD text s 0) 49) (sign 16) (sign 23)))
         digit = p .token ∙ ap some (ap (plainWord s) (alone text s e (p .fits) n) ∙ plain-digit s (getD text s 0) h)
 
-        pub word-zero : {r : Piece} → getD text s 0 ≡ 48 → r ≡ pieceOf 15 s e 3 → Worded text s e r
+        word-zero : getD text s 0 ≡ 48 → Worded text s e (pieceOf 15 s e 3)
         word-zero i = is-sign 15 (omega arith) (digit ∙ rw (eq-eqb _ _ i))
 
-        pub word-one : {r : Piece} → (getD text s 0 ≡ 48 → ⊥) → getD text s 0 ≡ 49 → r ≡ pieceOf 16 s e 3 → Worded text s e r
+        word-one : (getD text s 0 ≡ 48 → ⊥) → getD text s 0 ≡ 49 → Worded text s e (pieceOf 16 s e 3)
         word-one i j = is-sign 16 (omega arith) (digit ∙ rw (ne-eqb _ _ i, eq-eqb _ _ j))
 
-        pub word-digit : {r : Piece} → (getD text s 0 ≡ 48 → ⊥) → (getD text s 0 ≡ 49 → ⊥) → r ≡ pieceOf 23 s e 3 → Worded text s e r
+        word-digit : (getD text s 0 ≡ 48 → ⊥) → (getD text s 0 ≡ 49 → ⊥) → Worded text s e (pieceOf 23 s e 3)
         word-digit i j = is-sign 23 (omega arith) (digit ∙ rw (ne-eqb _ _ i, ne-eqb _ _ j))
+
+  -- By the tests that the definition makes.
+  by-test : {t u : Piece} (x : Bool) → (x ≡ true → Worded text s e t) → (x ≡ false → Worded text s e u) → Worded text s e (cond x t u)
+  by-test true a b = a refl
+  by-test false a b = b refl
+
+  worded : (s < e) × (e ≤ length text) → Worded text s e (wordPiece text s e)
+  unfolding wordPiece numberedPiece plainPiece
+  worded fits =
+      let b = getD text s 0 in
+      let k = numberOr (wordIn (slice s e text) reserved 0) in
+      by-test (ltb 16 (e - s)) (λ h. word-long fits (ltb-true 16 (e - s) h))
+      (λ h. let short : e - s ≤ 16 = ltb-false 16 (e - s) h in
+      by-test (ltb k 15) (λ u. word-reserved fits short refl (ltb-true k 15 u))
+      (λ u. let p : Plain text s e = plain fits short refl (ltb-false k 15 u) in
+      by-test (letter b) (λ l. word-name p l)
+      (λ l. by-test (eqb (e - s) 1)
+      (λ n. let one : e - s ≡ 1 = eqb-true (e - s) 1 n in
+      by-test (eqb b 48) (λ z. word-zero p l one (eqb-true b 48 z))
+      (λ z. by-test (eqb b 49) (λ o. word-one p l one (eqb-false b 48 z) (eqb-true b 49 o))
+      (λ o. word-digit p l one (eqb-false b 48 z) (eqb-false b 49 o))))
+      (λ n. word-other p l (eqb-false (e - s) 1 n)))))
 
 -- The piece that stands at the front.
 
@@ -186,47 +197,82 @@ module _ {text : List ℕ} {s : ℕ} (h : s < length text) where
 
 -- The next piece.
 
-pub piece-end : {text : List ℕ} {i s : ℕ} {t : Piece} → tokensFrom text i ≡ tokensFrom text s → length text ≤ s → t ≡ pieceOf 26 (length text) (length text) 3 → Tokened text i t
+piece-end : {text : List ℕ} {i s : ℕ} → Behind text i s → length text ≤ s → Tokened text i (pieceOf 26 (length text) (length text) 3)
 unfolding listed
-piece-end {text} {s = s} same h q =
-    rw q (record { tokens = same ∙ from-end text s h; fresh = record { fault = refl; last = λ z. refl; ordered = omega arith; inside = omega arith; short = λ z. absurd (omega arith) } })
+piece-end {text} {s = s} b h =
+    record { tokens = b .same ∙ from-end text s h; fresh = record { fault = refl; last = λ z. refl; ordered = omega arith; inside = omega arith; short = λ z. absurd (omega arith) } }
 
--- The first place from i on that holds no blank is s.
-pub record Held (text : List ℕ) (i s : ℕ) : Type 0 where
-  pub same : tokensFrom text i ≡ tokensFrom text s
-  pub within : s < length text
-  pub held : blankByte (getD text s 0) ≡ false
-
-module _ {text : List ℕ} {i s : ℕ} (c : Held text i s) where
+module _ {text : List ℕ} {i s : ℕ} (b : Behind text i s) (within : s < length text) where
   fronts : (t : Piece) → Fronts text s (front s (getD text s 0) (drop (suc s) text)) t → Tokened text i t
   unfolding listed
   fronts t f = record {
-    tokens = c .same ∙ from-token text s (c .within) (c .held) ∙ sym (rw (ne-eqb (t .kind) 26 (λ z. absurd (omega arith)), f .token, f .start, f .ends));
+    tokens = b .same ∙ from-token text s within (b .held within) ∙ sym (rw (ne-eqb (t .kind) 26 (λ z. absurd (omega arith)), f .token, f .start, f .ends));
     fresh = f .fresh;
   }
 
-  pub piece-mark : {next : ℕ} {t : Piece} → wordByte (getD text s 0) ≡ false → next ≡ getD text (s + 1) 0 → t ≡ markPiece (getD text s 0) next s → Tokened text i t
+  piece-mark : wordByte (getD text s 0) ≡ false → Tokened text i (markPiece (getD text s 0) (getD text (s + 1) 0) s)
   unfolding front
-  piece-mark {next} {t} e k q =
-      let m = mark-fronts {text = text} (c .within) (getD text s 0) next (drop (suc s) text) (rw (k, add-one) (begins-drop text (suc s))) (simp length-drop (omega arith)) in
-      fronts t (rw (e, q) m)
+  piece-mark e =
+      let m = mark-fronts {text = text} within (getD text s 0) (getD text (s + 1) 0) (drop (suc s) text) (rw add-one (begins-drop text (suc s))) (simp length-drop (omega arith)) in
+      fronts (markPiece (getD text s 0) (getD text (s + 1) 0) s) (rw e m)
 
-  module _ {e : ℕ} (w : wordByte (getD text s 0) ≡ true) (k : e ≡ s + span (drop s text)) where
-    run : span (drop s text) ≡ suc (span (drop (suc s) text))
-    run = span-word text s (c .within) w
+  piece-word : wordByte (getD text s 0) ≡ true → Tokened text i (wordPiece text s (s + span (drop s text)))
+  unfolding front
+  piece-word w =
+      let e = s + span (drop s text) in
+      let run : span (drop s text) ≡ suc (span (drop (suc s) text)) = run-step word-run text s within w in
+      let fits : (s < e) × (e ≤ length text) = (omega arith, run-within word-run text s (omega arith)) in
+      let q = worded {text = text} fits in
+      let word : slice s e text ≡ take (suc (span (drop (suc s) text))) (getD text s 0 ∷ drop (suc s) text) =
+      cut s (span (drop s text)) text (omega arith) ∙ rw (run, drop-cons text s 0 within) in
+      fronts (wordPiece text s e) (rw w (record {
+        start = q .start;
+        ends = q .ends ∙ omega (arith, run);
+        token = q .token ∙ ap (wordToken s) word;
+        kind = q .kind;
+        fresh = record {
+          fault = q .fault;
+          last = λ z. absurd (omega (arith, q .kind));
+          ordered = omega (arith, q .start, q .ends);
+          inside = omega (arith, q .ends);
+          short = λ z. omega (arith, q .start, q .ends, q .short z);
+        };
+      }))
 
-    pub run-grows : s < e
-    run-grows = omega (arith, run)
+pub tokened : (text : List ℕ) (i : ℕ) → Tokened text i (pieceAt text i)
+unfolding pieceAt pieceFrom
+tokened text i = go (leb (length text) s) (wordByte (getD text s 0)) refl refl
+  where
+    s : ℕ
+    s = i + blanks (drop i text)
 
-    pub piece-word : {t : Piece} → e ≤ length text → Worded text s e t → Tokened text i t
-    unfolding front
-    piece-word {t} l q =
-        let word : slice s e text ≡ take (suc (span (drop (suc s) text))) (getD text s 0 ∷ drop (suc s) text) =
-        rw (k, cut s (span (drop s text)) text (omega arith), run, drop-cons text s 0 (c .within)) in
-        fronts t (rw w (record {
-          start = q .start;
-          ends = q .ends ∙ omega (arith, run);
-          token = q .token ∙ ap (wordToken s) word;
-          kind = q .kind;
-          fresh = record { fault = q .fault; last = λ z. absurd (omega arith); ordered = omega (arith, run-grows); inside = omega arith; short = λ z. omega (arith, q .short z) };
-        }))
+    b : Behind text i s
+    b = behind-blanks text (length text) i (omega arith)
+
+    go : (x y : Bool) → leb (length text) s ≡ x → wordByte (getD text s 0) ≡ y →
+        Tokened text i (cond x (pieceOf 26 (length text) (length text) 3) (cond y (wordPiece text s (s + span (drop s text))) (markPiece (getD text s 0) (getD text (s + 1) 0) s)))
+    go true y e f = piece-end b (leb-true (length text) s e)
+    go false true e f = piece-word b (leb-false (length text) s e) f
+    go false false e f = piece-mark b (leb-false (length text) s e) f
+
+pub is-tokened : {text : List ℕ} {i : ℕ} {t : Piece} → t ≡ pieceAt text i → Tokened text i t
+is-tokened {text} {i} e = subst (λ (z : Piece). Tokened text i z) (sym e) (tokened text i)
+
+-- A piece made at the place s behind the blanks.
+module _ (text : List ℕ) (i s : ℕ) {r : Piece} (is : s ≡ i + blanks (drop i text)) where
+  from-here : r ≡ pieceFrom text s → r ≡ pieceAt text i
+  unfolding pieceAt
+  from-here q = q ∙ ap (pieceFrom text) is
+
+  pub at-end : length text ≤ s → r ≡ pieceOf 26 (length text) (length text) 3 → r ≡ pieceAt text i
+  unfolding pieceFrom
+  at-end h q = from-here (q ∙ rw (le-leb (length text) s h))
+
+  module _ (within : s < length text) where
+    pub at-word : {e : ℕ} → wordByte (getD text s 0) ≡ true → e ≡ s + span (drop s text) → r ≡ wordPiece text s e → r ≡ pieceAt text i
+    unfolding pieceFrom
+    at-word w k q = from-here (q ∙ ap (wordPiece text s) k ∙ rw (lt-leb (length text) s within, w))
+
+    pub at-mark : {next : ℕ} → wordByte (getD text s 0) ≡ false → next ≡ getD text (s + 1) 0 → r ≡ markPiece (getD text s 0) next s → r ≡ pieceAt text i
+    unfolding pieceFrom
+    at-mark w k q = from-here (q ∙ ap (λ (b : ℕ). markPiece (getD text s 0) b s) k ∙ rw (lt-leb (length text) s within, w))

@@ -5,6 +5,7 @@ pub mod Chains
 pub mod Factors
 pub mod Lookup
 pub mod Spelling
+pub mod Runs
 pub mod Lexing
 pub mod Operands
 pub mod Answers

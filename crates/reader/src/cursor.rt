@@ -2,7 +2,8 @@
 ghost use mathlib.Core.Path.{_≡_};
 ghost use Prim.Native.Nat.{_<_};
 ghost use lib.ListN.{set};
-ghost use Rattle.reader.specs.working.Cursors.{Past, Expected, emitted};
+ghost use Rattle.reader.specs.working.Pieces.{pieceAt};
+ghost use Rattle.reader.specs.working.Cursors.{moved, Expected, emitted};
 use crate::pieces::Piece;
 use crate::pieces::piece_at;
 
@@ -36,7 +37,7 @@ pub enum Parsed {
 
 // The cursor past its piece, with these counts.
 pub fn past(text: &[u8], c: Cursor, items: usize, nodes: usize, stars: usize) -> Cursor
-    ensures { λ r. ⌜ Past (now (text .entry)) c items nodes stars r ⌝ }
+    ensures { λ r. ⌜ r ≡ moved (pieceAt (now (text .entry)) (c .next .end)) c items nodes stars ⌝ }
 {
     let t = c.next;
     let next = piece_at(text, t.end);

@@ -1,11 +1,9 @@
 // Pieces of a text: the next token, with its place, or what is no token.
 ghost use mathlib.Core.Path.{_≡_};
-ghost use mathlib.Core.Bool.{false};
 ghost use Prim.Native.Nat.{_+_, _≤_, _<_, _^_};
-ghost use lib.ListN.{length, getD, drop};
-ghost use Rattle.notation.specs.Bytes.{blankByte};
-ghost use Rattle.notation.specs.working.Lexing.{tokensFrom, span};
-ghost use Rattle.reader.specs.working.Pieces.{pieceOf, Worded, markPiece, Tokened};
+ghost use lib.ListN.{length, drop};
+ghost use Rattle.notation.specs.working.Lexing.{span};
+ghost use Rattle.reader.specs.working.Pieces.{pieceOf, blanks, wordPiece, markPiece, pieceAt};
 use crate::bytes::byte_at;
 use crate::bytes::is_blank;
 use crate::bytes::is_letter;
@@ -101,8 +99,7 @@ pub fn refused(start: usize, end: usize) -> Piece
 
 // The first place from `at` on that holds no blank.
 pub fn skip_blanks(text: &[u8], at: usize) -> usize
-    ensures same { λ r. ⌜ tokensFrom (now (text .entry)) at ≡ tokensFrom (now (text .entry)) r ⌝ }
-    ensures held { λ r. ⌜ (r < length (now (text .entry)) → blankByte (getD (now (text .entry)) r 0) ≡ false) ⌝ }
+    ensures { λ r. ⌜ r ≡ at + blanks (drop at (now (text .entry))) ⌝ }
 {
     let mut i = at;
     while i < text.len() {
@@ -134,7 +131,7 @@ pub fn word_end(text: &[u8], from: usize) -> usize
 // The piece that the word from s to e is.
 pub fn word_piece(text: &[u8], s: usize, e: usize) -> Piece
     requires { ⌜ (s < e) × (e ≤ length (now text)) ⌝ }
-    ensures { λ r. ⌜ Worded (now (text .entry)) s e r ⌝ }
+    ensures { λ r. ⌜ r ≡ wordPiece (now (text .entry)) s e ⌝ }
 {
     let n = e - s;
     if 16 < n {
@@ -186,7 +183,7 @@ pub fn mark_piece(b: u8, next: u8, s: usize) -> Piece
 
 // The next piece from `at` on.
 pub fn piece_at(text: &[u8], at: usize) -> Piece
-    ensures { λ r. ⌜ Tokened (now (text .entry)) at r ⌝ }
+    ensures { λ r. ⌜ r ≡ pieceAt (now (text .entry)) at ⌝ }
 {
     let s = skip_blanks(text, at);
     let n = text.len();

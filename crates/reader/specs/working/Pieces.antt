@@ -4,12 +4,13 @@ use mathlib.Core.Path.{_≡_}
 use mathlib.Core.Bool.{cond}
 use mathlib.Core.List.{List, [], _∷_}
 use mathlib.Core.Option.{Option, none, some}
-use Prim.Native.Nat.{ℕ, _+_, _≤_, _<_}
-use lib.Dec.{eqb}
-use lib.ListN.{length}
+use Prim.Native.Nat.{ℕ, suc, _+_, _-_, _≤_}
+use lib.Dec.{eqb, ltb, leb}
+use lib.ListN.{length, getD, drop}
 use lib.Seq.{slice}
-use Rattle.notation.specs.Tokens.{Token, sign, name, Name, Lexeme, at, wordToken}
-use Rattle.notation.specs.working.Lexing.{tokensFrom}
+use Rattle.notation.specs.Bytes.{letter, wordByte, blankByte}
+use Rattle.notation.specs.Tokens.{Token, sign, name, Name, Lexeme, at, reserved, wordIn}
+use Rattle.notation.specs.working.Lexing.{span, tokensFrom}
 use Rattle.reader.specs.declared.pieces.Piece.{Piece}
 
 -- A number that was found, or 15.
@@ -45,15 +46,27 @@ pub record Tokened (text : List ℕ) (i : ℕ) (t : Piece) : Type 0 where
   pub tokens : tokensFrom text i ≡ listed text t
   pub fresh : Fresh text t
 
--- The piece is the word from s to e.
-pub record Worded (text : List ℕ) (s e : ℕ) (r : Piece) : Type 0 where
-  pub start : r .start ≡ s
-  pub ends : r .end ≡ e
-  pub token : tokenOf text r ≡ wordToken s (slice s e text)
-  pub fault : r .fault ≡ cond (eqb (r .kind) 25) 2 3
-  pub kind : r .kind < 26
-  pub short : r .kind ≡ 24 → e ≤ s + 16
+-- ---- the next piece, as a computation
 
+-- How many blanks stand at the front.
+unfoldable pub blanks : List ℕ → ℕ
+blanks [] = 0
+blanks (b ∷ bs) = cond (blankByte b) (suc (blanks bs)) 0
+
+-- The piece from s to e that a word is which is not reserved: it has n bytes, and b is the first.
+unfoldable pub plainPiece : ℕ → ℕ → ℕ → ℕ → Piece
+plainPiece n b s e =
+    cond (letter b) (pieceOf 24 s e 3)
+    (cond (eqb n 1) (cond (eqb b 48) (pieceOf 15 s e 3) (cond (eqb b 49) (pieceOf 16 s e 3) (pieceOf 23 s e 3))) (pieceOf 23 s e 3))
+
+-- The piece that the word from s to e is, whose number among the reserved words is k, or 15.
+unfoldable pub numberedPiece : ℕ → ℕ → ℕ → ℕ → Piece
+numberedPiece k b s e = cond (ltb 16 (e - s)) (pieceOf 25 s e 2) (cond (ltb k 15) (pieceOf k s e 3) (plainPiece (e - s) b s e))
+
+unfoldable pub wordPiece : List ℕ → ℕ → ℕ → Piece
+wordPiece text s e = numberedPiece (numberOr (wordIn (slice s e text) reserved 0)) (getD text s 0) s e
+
+-- The piece that the mark b is at s, with the byte after it, or 0.
 unfoldable pub markPiece : ℕ → ℕ → ℕ → Piece
 markPiece b next s =
     cond (eqb b 46) (pieceOf 18 s (s + 1) 3)
@@ -64,3 +77,13 @@ markPiece b next s =
     (cond (eqb b 61) (pieceOf 23 s (s + 1) 3)
     (cond (eqb b 58) (cond (eqb next 61) (pieceOf 20 s (s + 2) 3) (pieceOf 23 s (s + 1) 3))
     (pieceOf 25 s (s + 1) 2)))))))
+
+-- The piece that begins at s, where no blank stands.
+unfoldable pub pieceFrom : List ℕ → ℕ → Piece
+pieceFrom text s =
+    cond (leb (length text) s) (pieceOf 26 (length text) (length text) 3)
+    (cond (wordByte (getD text s 0)) (wordPiece text s (s + span (drop s text))) (markPiece (getD text s 0) (getD text (s + 1) 0) s))
+
+-- The next piece from place i on.
+unfoldable pub pieceAt : List ℕ → ℕ → Piece
+pieceAt text i = pieceFrom text (i + blanks (drop i text))

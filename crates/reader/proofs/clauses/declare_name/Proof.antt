@@ -1,6 +1,7 @@
 -- `declare_name` meets its contract: the look-up says whether the name is declared already, the counts whether it is one too many, and else it is stored as the next name.
 -- Assumes nothing.
 use Rattle.reader.proofs.Declaring.{name-again, name-many, row-full, shared-full, row-declared, shared-declared}
+use Rattle.reader.proofs.Answers.{is-past}
 use borrow.Author.Needs.{needs}
 use Rattle.reader.proofs.clauses.declare_name.Statement.{statement}
 use Rattle.reader.proofs.clauses.declare_name.Tie as tie
@@ -48,7 +49,7 @@ returns-4 c =
     let after-find-name : tie.After-find-name = search in
     let start : tie.Start = search in
     row-declared _ _ _ _ _ (start .pre .0) _ (after-find-name .find-name .ensures) (else1 .if1 .left) (else2 .if2 .left)
-    _ (c .past .ensures) _ (c .before .declare .ensures) (then3 .if3 .taken) (else4 .if4 .left)
+    _ (is-past (c .past .ensures)) _ (c .before .declare .ensures) (then3 .if3 .taken) (else4 .if4 .left)
 
 returns-5 : tie.Need-returns-5
 returns-5 c =
@@ -76,7 +77,7 @@ returns-6 c =
     let after-find-name : tie.After-find-name = search in
     let start : tie.Start = search in
     shared-declared _ _ _ _ _ (start .pre .0) _ (after-find-name .find-name .ensures) (else1 .if1 .left)
-    (else2 .if2 .left) _ (c .past2 .ensures) _ (c .before .declare2 .ensures) (else3 .if3 .left) (else5 .if5 .left)
+    (else2 .if2 .left) _ (is-past (c .past2 .ensures)) _ (c .before .declare2 .ensures) (else3 .if3 .left) (else5 .if5 .left)
 
 pub declare-name-spec : {M : Type 1} → statement M
 declare-name-spec =

@@ -3,6 +3,7 @@
 use mathlib.Core.Path.{refl}
 use native.Mathlib.Omega.{arith}
 use Rattle.reader.proofs.Titles.{title-bad, title-full, title-missing, title-twice, title-says}
+use Rattle.reader.proofs.Answers.{is-past}
 use borrow.Author.Needs.{needs}
 use Rattle.reader.proofs.commands.title.Statement.{statement}
 use Rattle.reader.proofs.commands.title.Tie as tie
@@ -17,7 +18,7 @@ returns-2 : tie.Need-returns-2
 returns-2 c =
     let after-past : tie.After-past = search in
     let else1 : tie.Else1 = search in
-    title-bad _ _ _ _ _ _ _ (title-missing _ _ _ _ (else1 .if1 .left) _ (after-past .past .ensures) (c .if2 .taken))
+    title-bad _ _ _ _ _ _ _ (title-missing _ _ _ _ (else1 .if1 .left) _ (is-past (after-past .past .ensures)) (c .if2 .taken))
 
 add-n : tie.Need-add-n
 add-n c =
@@ -36,7 +37,7 @@ find-name-requires c κs =
       omega arith,
       (
         omega (arith, start .pre .0 .ready .names, start .pre .0 .ready .commands),
-        after-past .past .ensures .next .fresh,
+        is-past {c = start .args .c} (after-past .past .ensures) .next .fresh,
       ),
     )
 
@@ -46,7 +47,7 @@ returns-3 c =
     let after-past : tie.After-past = search in
     let else1 : tie.Else1 = search in
     title-bad _ _ _ _ _ _ _
-    (title-twice _ _ _ _ (else1 .if1 .left) _ (after-past .past .ensures) (else2 .if2 .left) _ _ refl
+    (title-twice _ _ _ _ (else1 .if1 .left) _ (is-past (after-past .past .ensures)) (else2 .if2 .left) _ _ refl
     (c .before .find-name .ensures) (c .if3 .taken))
 
 declare-requires : tie.Need-declare-requires
@@ -56,9 +57,9 @@ declare-requires c κs =
     let start : tie.Start = search in (
       omega (arith, start .pre .0 .ready .names, else1 .if1 .left),
       (
-        after-past .past .ensures .next .fresh .ordered,
+        is-past {c = start .args .c} (after-past .past .ensures) .next .fresh .ordered,
         omega
-            (arith, after-past .past .ensures .next .fresh .inside, start .pre .0 .ready .fits),
+            (arith, is-past {c = start .args .c} (after-past .past .ensures) .next .fresh .inside, start .pre .0 .ready .fits),
       ),
     )
 
@@ -79,9 +80,9 @@ returns-4 c =
     let after-past : tie.After-past = search in
     let else1 : tie.Else1 = search in
     let start : tie.Start = search in
-    title-says _ _ _ _ (else1 .if1 .left) _ (after-past .past .ensures) (else2 .if2 .left) _ _ refl
+    title-says _ _ _ _ (else1 .if1 .left) _ (is-past (after-past .past .ensures)) (else2 .if2 .left) _ _ refl
     (after-find-name .find-name .ensures) (else3 .if3 .left) (start .pre .0 .long) (start .pre .0 .ready .names) _
-    (c .past2 .ensures) _ (c .before .declare .ensures)
+    (is-past (c .past2 .ensures)) _ (c .before .declare .ensures)
 
 pub title-spec : {M : Type 1} → statement M
 title-spec =

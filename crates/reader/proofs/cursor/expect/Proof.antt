@@ -2,6 +2,7 @@
 -- Assumes nothing.
 use borrow.Author.Needs.{needs}
 use Rattle.reader.specs.working.Cursors.{Expected}
+use Rattle.reader.proofs.Answers.{is-past}
 use Rattle.reader.proofs.cursor.expect.Statement.{statement}
 use Rattle.reader.proofs.cursor.expect.Tie as tie
 
@@ -14,7 +15,9 @@ past-requires c κs = search needs
 
 returns-2 : tie.Need-returns-2
 unfolding Expected
-returns-2 c = search needs
+returns-2 c =
+    let else1 : tie.Else1 = search in
+    (else1 .if1 .left, is-past (c .past .ensures))
 
 pub expect-spec : {M : Type 1} → statement M
 expect-spec = tie.close (tie.spec returns past-requires returns-2)

@@ -3,6 +3,7 @@
 use Prim.Native.Nat.{ℕ, _<_, _+_, _-_, _*_}
 use mathlib.Core.Path.{_≡_, ap}
 use native.Mathlib.Omega.{arith}
+use Rattle.reader.proofs.Answers.{is-past}
 use borrow.Author.Needs.{needs}
 use borrow.Fn.Kinds.{In}
 use borrow.Fn.PlainCycle.{Measures, is, falls, and}
@@ -210,7 +211,7 @@ and-level-factor-requires-2 t c κs =
       (
         start .pre .1 .0,
         turn-ready _ _ _ (andChain _ _ _ _ _) _ _ _ _ _ (at-ands .ands .inv) (else2 .if2 .left)
-            (c .before .past .ensures),
+            (is-past (c .before .past .ensures)),
       ),
     )
 
@@ -240,7 +241,7 @@ and-level-returns-4 t c =
     (at-ands .ands .inv .back _ _ _
     (rest-first _ _ _ (andChain _ _ _ _ _) _ _ _ _ _ _ (and-level-is _ _ _ _ _)
     (said-ok _ _ _ _ _ _ _ _ _ _ _ (after-factor .factor .ensures) (after-first .first .given .1))))
-    (else1 .if1 .left) (else2 .if2 .left) _ (after-past .past .ensures) _ _
+    (else1 .if1 .left) (else2 .if2 .left) _ (is-past (after-past .past .ensures)) _ _
     (said-bad _ _ _ _ _ _ _ _ _ _ _ _ (after-factor2 .factor2 .ensures) (c .enum-told2 .given .1)))
 
 and-level-emit-requires :
@@ -252,7 +253,7 @@ and-level-emit-requires t c κs =
     let after-past : and-level·After-past t = search in
     let else2 : and-level·Else2 t = search in
     let at-ands : and-level·At-ands t = search in
-    turn-room _ _ _ (andChain _ _ _ _ _) _ _ _ _ _ (at-ands .ands .inv) (else2 .if2 .left) (after-past .past .ensures) _
+    turn-room _ _ _ (andChain _ _ _ _ _) _ _ _ _ _ (at-ands .ands .inv) (else2 .if2 .left) (is-past (after-past .past .ensures)) _
     _ _ (said-ok _ _ _ _ _ _ _ _ _ _ _ (after-factor2 .factor2 .ensures) (after-next .next .given .1)) .0
 
 and-level-ands-less :
@@ -265,7 +266,7 @@ and-level-ands-less t c =
     let else2 : and-level·Else2 t = search in
     let at-ands : and-level·At-ands t = search in
     let k = turn-room _ _ _ (andChain _ _ _ _ _) _ _ _ _ _ (at-ands .ands .inv) (else2 .if2 .left)
-    (after-past .past .ensures) _ _ _
+    (is-past (after-past .past .ensures)) _ _ _
     (said-ok _ _ _ _ _ _ _ _ _ _ _ (after-factor2 .factor2 .ensures) (after-next .next .given .1)) in
     let e : c .emit .result .nodes ≡ _ = ap (λ (x : Cursor). x .nodes) (c .emit .ensures .0) in
     omega (arith, k .1, k .2)
@@ -280,7 +281,7 @@ and-level-ands-again t c =
     let else2 : and-level·Else2 t = search in
     let else1 : and-level·Else1 t = search in
     let at-ands : and-level·At-ands t = search in
-    turn-more _ _ _ (andChain _ _ _ _ _) _ _ _ _ _ (at-ands .ands .inv) (else2 .if2 .left) (after-past .past .ensures)
+    turn-more _ _ _ (andChain _ _ _ _ _) _ _ _ _ _ (at-ands .ands .inv) (else2 .if2 .left) (is-past (after-past .past .ensures))
     (else1 .if1 .left) _ _ _ _
     (said-ok _ _ _ _ _ _ _ _ _ _ _ (after-factor2 .factor2 .ensures) (after-next .next .given .1)) (c .emit .ensures)
 
@@ -336,7 +337,7 @@ factor-or-level-requires t c κs =
         omega (arith, start .pre .1 .0),
         open-ready (start .args .text .now) (start .args .names .now) (start .args .sc) _
             (start .args .depth) _ (start .pre .1 .1) (then1 .if1 .taken) (start .pre .1 .0) (else2 .if2 .left) _
-            (c .before .past .ensures),
+            (is-past (c .before .past .ensures)),
       ),
     )
 
@@ -351,7 +352,7 @@ factor-returns-2 t c =
     let then1 : factor·Then1 t = search in
     let start : factor·Start t = search in
     open-closes _ _ _ _ _ _ (start .pre .1 .1) (then1 .if1 .taken) (start .pre .1 .0) (else2 .if2 .left) _
-    (after-past .past .ensures) _ _ _ _ (c .before .or-level .ensures) (c .close-parenthesis .ensures)
+    (is-past (after-past .past .ensures)) _ _ _ _ (c .before .or-level .ensures) (c .close-parenthesis .ensures)
 
 factor-returns-3 : (t : ℕ) → factor-lts.Need-returns-3 (factor-calls t) (factor-at t) factor.Post
 factor-returns-3 t c =
@@ -386,7 +387,7 @@ factor-factor-requires t c κs =
         omega (arith, start .pre .1 .0),
         not-ready (start .args .text .now) (start .args .names .now) (start .args .sc) _
             (start .args .depth) _ (start .pre .1 .1) (then3 .if3 .taken) (start .pre .1 .0) (else4 .if4 .left)
-            (else5 .if5 .left) _ (c .before .past2 .ensures),
+            (else5 .if5 .left) _ (is-past (c .before .past2 .ensures)),
       ),
     )
 
@@ -399,7 +400,7 @@ factor-close-node-requires t c κs =
     let start : factor·Start t = search in
     not-room (start .args .text .now) (start .args .names .now) (start .args .sc) _ (start .args .depth) _
     (start .pre .1 .1) (then3 .if3 .taken) (start .pre .1 .0) (else4 .if4 .left) (else5 .if5 .left) _
-    (after-past2 .past2 .ensures) _ _ _ _ (c .before .factor .ensures)
+    (is-past (after-past2 .past2 .ensures)) _ _ _ _ (c .before .factor .ensures)
 
 factor-returns-5 : (t : ℕ) → factor-lts.Need-returns-5 (factor-calls t) (factor-at t) factor.Post
 factor-returns-5 t c =
@@ -410,7 +411,7 @@ factor-returns-5 t c =
     let then3 : factor·Then3 t = search in
     let start : factor·Start t = search in
     not-closes _ _ _ _ _ _ (start .pre .1 .1) (then3 .if3 .taken) (start .pre .1 .0) (else4 .if4 .left)
-    (else5 .if5 .left) _ (after-past2 .past2 .ensures) _ _ _ _ _ (after-factor .factor .ensures)
+    (else5 .if5 .left) _ (is-past (after-past2 .past2 .ensures)) _ _ _ _ _ (after-factor .factor .ensures)
     (c .close-node .ensures)
 
 factor-operand-requires : (t : ℕ) → factor-lts.Need-operand-requires (factor-calls t) (factor-at t) factor.Post
@@ -539,7 +540,7 @@ or-level-and-level-requires-2 t c κs =
       (
         start .pre .1 .0,
         turn-ready _ _ _ (orChain _ _ _ _ _) _ _ _ _ _ (at-ors .ors .inv) (else2 .if2 .left)
-            (c .before .past .ensures),
+            (is-past (c .before .past .ensures)),
       ),
     )
 
@@ -567,7 +568,7 @@ or-level-returns-4 t c =
     (at-ors .ors .inv .back _ _ _
     (rest-first _ _ _ (orChain _ _ _ _ _) _ _ _ _ _ _ (or-level-is _ _ _ _ _)
     (said-ok _ _ _ _ _ _ _ _ _ _ _ (after-and-level .and-level .ensures) (after-first .first .given .1))))
-    (else1 .if1 .left) (else2 .if2 .left) _ (after-past .past .ensures) _ _
+    (else1 .if1 .left) (else2 .if2 .left) _ (is-past (after-past .past .ensures)) _ _
     (said-bad _ _ _ _ _ _ _ _ _ _ _ _ (after-and-level2 .and-level2 .ensures) (c .enum-told2 .given .1)))
 
 or-level-emit-requires :
@@ -578,7 +579,7 @@ or-level-emit-requires t c κs =
     let after-past : or-level·After-past t = search in
     let else2 : or-level·Else2 t = search in
     let at-ors : or-level·At-ors t = search in
-    turn-room _ _ _ (orChain _ _ _ _ _) _ _ _ _ _ (at-ors .ors .inv) (else2 .if2 .left) (after-past .past .ensures) _ _
+    turn-room _ _ _ (orChain _ _ _ _ _) _ _ _ _ _ (at-ors .ors .inv) (else2 .if2 .left) (is-past (after-past .past .ensures)) _ _
     _ (said-ok _ _ _ _ _ _ _ _ _ _ _ (after-and-level2 .and-level2 .ensures) (after-next .next .given .1)) .0
 
 or-level-ors-less :
@@ -590,7 +591,7 @@ or-level-ors-less t c =
     let else2 : or-level·Else2 t = search in
     let at-ors : or-level·At-ors t = search in
     let k = turn-room _ _ _ (orChain _ _ _ _ _) _ _ _ _ _ (at-ors .ors .inv) (else2 .if2 .left)
-    (after-past .past .ensures) _ _ _
+    (is-past (after-past .past .ensures)) _ _ _
     (said-ok _ _ _ _ _ _ _ _ _ _ _ (after-and-level2 .and-level2 .ensures) (after-next .next .given .1)) in
     let e : c .emit .result .nodes ≡ _ = ap (λ (x : Cursor). x .nodes) (c .emit .ensures .0) in
     omega (arith, k .1, k .2)
@@ -604,7 +605,7 @@ or-level-ors-again t c =
     let else2 : or-level·Else2 t = search in
     let else1 : or-level·Else1 t = search in
     let at-ors : or-level·At-ors t = search in
-    turn-more _ _ _ (orChain _ _ _ _ _) _ _ _ _ _ (at-ors .ors .inv) (else2 .if2 .left) (after-past .past .ensures)
+    turn-more _ _ _ (orChain _ _ _ _ _) _ _ _ _ _ (at-ors .ors .inv) (else2 .if2 .left) (is-past (after-past .past .ensures))
     (else1 .if1 .left) _ _ _ _
     (said-ok _ _ _ _ _ _ _ _ _ _ _ (after-and-level2 .and-level2 .ensures) (after-next .next .given .1))
     (c .emit .ensures)

@@ -1,6 +1,6 @@
 -- `leaf` meets its contract: one test of the count, and then the piece is passed and its code word stored.
 -- Assumes nothing.
-use Rattle.reader.proofs.Answers.{leaf-full, leaf-fits, past-room}
+use Rattle.reader.proofs.Answers.{leaf-full, leaf-fits, past-room, is-past}
 use borrow.Author.Needs.{needs}
 use Rattle.reader.proofs.expressions.leaf.Statement.{statement}
 use Rattle.reader.proofs.expressions.leaf.Tie as tie
@@ -17,13 +17,13 @@ past-requires c κs = search needs
 emit-requires : tie.Need-emit-requires
 emit-requires c κs =
     let start : tie.Start = search in
-    past-room _ _ (start .args .ops .now) _ _ _ _ (c .before .past .ensures) (start .pre)
+    past-room _ (start .args .c) (start .args .ops .now) _ _ _ _ (is-past (c .before .past .ensures)) (start .pre)
 
 returns-2 : tie.Need-returns-2
 returns-2 c =
     let after-past : tie.After-past = search in
     let else1 : tie.Else1 = search in
-    leaf-fits _ _ _ _ _ _ _ _ (else1 .if1 .left) (after-past .past .ensures) (c .emit .ensures)
+    leaf-fits _ _ _ _ _ _ _ _ (else1 .if1 .left) (is-past (after-past .past .ensures)) (c .emit .ensures)
 
 pub leaf-spec : {M : Type 1} → statement M
 leaf-spec = tie.close (tie.spec returns add-past past-requires emit-requires returns-2)

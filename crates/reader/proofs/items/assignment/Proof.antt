@@ -2,7 +2,7 @@
 -- Assumes nothing.
 use native.Mathlib.Omega.{arith}
 use Rattle.reader.proofs.Done.{says-bad, says-same}
-use Rattle.reader.proofs.Answers.{expected-said}
+use Rattle.reader.proofs.Answers.{expected-said, is-past}
 use Rattle.reader.proofs.Operands.{target-range}
 use Rattle.reader.proofs.Sequences.{ready-less, says-roomed}
 use Rattle.reader.proofs.Branches.{assign-unknown, assign-full, assign-bad, value-ready, target-few, assign-says}
@@ -75,7 +75,7 @@ returns-3 c =
     says-same _ _ _ _ _ _ _ _ _ _ _ _ (c .enum-told .given .1)
     (assign-bad _ (start .args .names .now) _ _ (start .pre .0) (start .args .rows) _ _ _
     (after-first-target .first-target .ensures) (after-visible .visible .ensures) (after-find-name .find-name .ensures)
-    (else1 .if1 .left) (else2 .if2 .left) _ (after-past .past .ensures) _ _
+    (else1 .if1 .left) (else2 .if2 .left) _ (is-past (after-past .past .ensures)) _ _
     (expected-said _ _ _ _ _ (after-expect .expect .ensures) (c .enum-told .given .1)))
 
 or-level-requires : tie.Need-or-level-requires
@@ -94,7 +94,7 @@ or-level-requires c κs =
       ready-less _ names _ 1 0 _ (omega arith)
           (value-ready _ names _ _ (start .pre .0) (start .args .rows) _ _ _ (after-first-target .first-target .ensures)
           (after-visible .visible .ensures) (after-find-name .find-name .ensures) (else1 .if1 .left) (else2 .if2 .left) _
-          (after-past .past .ensures) _
+          (is-past (after-past .past .ensures)) _
           (expected-said _ _ _ _ _ (after-expect .expect .ensures) (after-marked .marked .given .1))),
     )
 
@@ -140,7 +140,7 @@ close-node-requires c κs =
     says-roomed _ _ _ _ 0 _ _ _ _ 0 _
     (value-ready _ (start .args .names .now) _ _ (start .pre .0) (start .args .rows) _ _ _
     (after-first-target .first-target .ensures) (after-visible .visible .ensures) (after-find-name .find-name .ensures)
-    (else1 .if1 .left) (else2 .if2 .left) _ (after-past .past .ensures) _
+    (else1 .if1 .left) (else2 .if2 .left) _ (is-past (after-past .past .ensures)) _
     (expected-said _ _ _ _ _ (after-expect .expect .ensures) (after-marked .marked .given .1)))
     (c .before .or-level .ensures)
 
@@ -158,7 +158,7 @@ returns-4 c =
     let start : tie.Start = search in
     assign-says _ (start .args .names .now) _ _ (start .pre .0) (start .args .rows) _ _ _
     (after-first-target .first-target .ensures) (after-visible .visible .ensures) (after-find-name .find-name .ensures)
-    (else1 .if1 .left) (else2 .if2 .left) _ (after-past .past .ensures) _
+    (else1 .if1 .left) (else2 .if2 .left) _ (is-past (after-past .past .ensures)) _
     (expected-said _ _ _ _ _ (after-expect .expect .ensures) (after-marked .marked .given .1)) _ _ _ _ _
     (after-or-level .or-level .ensures) (c .close-node .ensures)
 

@@ -9,6 +9,7 @@ use Rattle.reader.specs.working.Sequences.{allRows}
 use Rattle.reader.proofs.Tests.{test-roomed, first-bad, yes-ready, done-roomed, second-bad, no-ready}
 use Rattle.reader.proofs.Tests.{rest-roomed, tested-says}
 use Rattle.reader.proofs.Branches.{for-full, for-ready, for-says}
+use Rattle.reader.proofs.Answers.{is-past}
 use borrow.Author.Needs.{needs}
 use Rattle.reader.proofs.items.for_item.Statement.{statement}
 use Rattle.reader.proofs.items.for_item.Tie as tie
@@ -32,7 +33,7 @@ or-level-requires c κs =
       omega arith,
       ready-less _ names _ 3 0 _ (omega arith)
           (for-ready (start .args .text .now) names (start .args .l) _ (start .pre .0) (start .pre .1) (else1 .if1 .left) _
-          (c .before .past .ensures)),
+          (is-past (c .before .past .ensures))),
     )
 
 mark-requires : tie.Need-mark-requires
@@ -44,7 +45,7 @@ mark-requires c κs =
     let text = start .args .text .now in
     let l = start .args .l in
     test-roomed text names l (rowItemsWords text names l) (allRows (length text)) 10 (omega arith) _
-    (for-ready text names l _ (start .pre .0) (start .pre .1) (else1 .if1 .left) _ (after-past .past .ensures)) _ _ _ _
+    (for-ready text names l _ (start .pre .0) (start .pre .1) (else1 .if1 .left) _ (is-past (after-past .past .ensures))) _ _ _ _
     (c .before .or-level .ensures)
 
 enum-known-first : tie.Need-enum-known-first
@@ -63,9 +64,9 @@ returns-2 c =
     let names = start .args .names .now in
     let text = start .args .text .now in
     let l = start .args .l in
-    for-says _ _ _ _ (start .pre .0) (start .pre .1) (else1 .if1 .left) _ (after-past .past .ensures) _ _ _
+    for-says _ _ _ _ (start .pre .0) (start .pre .1) (else1 .if1 .left) _ (is-past (after-past .past .ensures)) _ _ _
     (first-bad text names l (rowItemsWords text names l) (allRows (length text)) 10 (omega arith) _
-    (for-ready text names l _ (start .pre .0) (start .pre .1) (else1 .if1 .left) _ (after-past .past .ensures)) _ _ _ _
+    (for-ready text names l _ (start .pre .0) (start .pre .1) (else1 .if1 .left) _ (is-past (after-past .past .ensures))) _ _ _ _
     (after-or-level .or-level .ensures) _ _ (after-mark .mark .ensures) _ _ (c .enum-told .given .1))
 
 row-items-requires : tie.Need-row-items-requires
@@ -80,7 +81,7 @@ row-items-requires c κs =
     let text = start .args .text .now in
     let l = start .args .l in
     yes-ready text names l (rowItemsWords text names l) (allRows (length text)) 10 (omega arith) _
-    (for-ready text names l _ (start .pre .0) (start .pre .1) (else1 .if1 .left) _ (after-past .past .ensures)) _ _ _ _
+    (for-ready text names l _ (start .pre .0) (start .pre .1) (else1 .if1 .left) _ (is-past (after-past .past .ensures))) _ _ _ _
     (after-or-level .or-level .ensures) _ _ (after-mark .mark .ensures) _ (after-first .first .given .1)
 
 mark-requires-2 : tie.Need-mark-requires-2
@@ -95,7 +96,7 @@ mark-requires-2 c κs =
     let text = start .args .text .now in
     let l = start .args .l in
     done-roomed text names l (rowItemsWords text names l) (allRows (length text)) 10 (omega arith) _
-    (for-ready text names l _ (start .pre .0) (start .pre .1) (else1 .if1 .left) _ (after-past .past .ensures)) _ _ _ _
+    (for-ready text names l _ (start .pre .0) (start .pre .1) (else1 .if1 .left) _ (is-past (after-past .past .ensures))) _ _ _ _
     (after-or-level .or-level .ensures) _ _ (after-mark .mark .ensures) _ (after-first .first .given .1) _ _
     (c .before .row-items .ensures)
 
@@ -118,9 +119,9 @@ returns-3 c =
     let names = start .args .names .now in
     let text = start .args .text .now in
     let l = start .args .l in
-    for-says _ _ _ _ (start .pre .0) (start .pre .1) (else1 .if1 .left) _ (after-past .past .ensures) _ _ _
+    for-says _ _ _ _ (start .pre .0) (start .pre .1) (else1 .if1 .left) _ (is-past (after-past .past .ensures)) _ _ _
     (second-bad text names l (rowItemsWords text names l) (allRows (length text)) 10 (omega arith) _
-    (for-ready text names l _ (start .pre .0) (start .pre .1) (else1 .if1 .left) _ (after-past .past .ensures)) _ _ _ _
+    (for-ready text names l _ (start .pre .0) (start .pre .1) (else1 .if1 .left) _ (is-past (after-past .past .ensures))) _ _ _ _
     (after-or-level .or-level .ensures) _ _ (after-mark .mark .ensures) _ (after-first .first .given .1) _ _
     (after-row-items .row-items .ensures) _ _ (after-mark2 .mark2 .ensures) _ _ (c .enum-told2 .given .1))
 
@@ -139,7 +140,7 @@ row-items-requires-2 c κs =
     let text = start .args .text .now in
     let l = start .args .l in
     no-ready text names l (rowItemsWords text names l) (allRows (length text)) 10 (omega arith) _
-    (for-ready text names l _ (start .pre .0) (start .pre .1) (else1 .if1 .left) _ (after-past .past .ensures)) _ _ _ _
+    (for-ready text names l _ (start .pre .0) (start .pre .1) (else1 .if1 .left) _ (is-past (after-past .past .ensures))) _ _ _ _
     (after-or-level .or-level .ensures) _ _ (after-mark .mark .ensures) _ (after-first .first .given .1) _ _
     (after-row-items .row-items .ensures) _ _ (after-mark2 .mark2 .ensures) _ (after-second .second .given .1)
 
@@ -158,7 +159,7 @@ mark-requires-3 c κs =
     let text = start .args .text .now in
     let l = start .args .l in
     rest-roomed text names l (rowItemsWords text names l) (allRows (length text)) 10 (omega arith) _
-    (for-ready text names l _ (start .pre .0) (start .pre .1) (else1 .if1 .left) _ (after-past .past .ensures)) _ _ _ _
+    (for-ready text names l _ (start .pre .0) (start .pre .1) (else1 .if1 .left) _ (is-past (after-past .past .ensures))) _ _ _ _
     (after-or-level .or-level .ensures) _ _ (after-mark .mark .ensures) _ (after-first .first .given .1) _ _
     (after-row-items .row-items .ensures) _ _ (after-mark2 .mark2 .ensures) _ (after-second .second .given .1) _ _
     (c .before .row-items2 .ensures)
@@ -178,9 +179,9 @@ returns-4 c =
     let names = start .args .names .now in
     let text = start .args .text .now in
     let l = start .args .l in
-    for-says _ _ _ _ (start .pre .0) (start .pre .1) (else1 .if1 .left) _ (after-past .past .ensures) _ _ _
+    for-says _ _ _ _ (start .pre .0) (start .pre .1) (else1 .if1 .left) _ (is-past (after-past .past .ensures)) _ _ _
     (tested-says text names l (rowItemsWords text names l) (allRows (length text)) 10 (omega arith) _
-    (for-ready text names l _ (start .pre .0) (start .pre .1) (else1 .if1 .left) _ (after-past .past .ensures)) _ _ _ _
+    (for-ready text names l _ (start .pre .0) (start .pre .1) (else1 .if1 .left) _ (is-past (after-past .past .ensures))) _ _ _ _
     (after-or-level .or-level .ensures) _ _ (after-mark .mark .ensures) _ (after-first .first .given .1) _ _
     (after-row-items .row-items .ensures) _ _ (after-mark2 .mark2 .ensures) _ (after-second .second .given .1) _ _
     (after-row-items2 .row-items2 .ensures) _ _ (c .mark3 .ensures))

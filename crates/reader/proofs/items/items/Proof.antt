@@ -2,6 +2,7 @@
 -- Assumes nothing.
 use Prim.Native.Nat.{_+_, _-_, _*_}
 use native.Mathlib.Omega.{arith}
+use Rattle.reader.proofs.Answers.{is-past}
 use borrow.Author.Needs.{needs}
 use Rattle.reader.proofs.Done.{said-ok, said-bad, says-ok, says-same}
 use Rattle.reader.proofs.Series.{Turn, first-bad, rest-first, rest-stop, rest-bad, turn-none, turn-ready}
@@ -82,7 +83,7 @@ past-requires c κs = search needs
 item-requires-2 : tie.Need-item-requires-2 Inv-list μ-list
 item-requires-2 c κs =
     let at-list : At-list = search in
-    turn-ready _ _ _ (itemSeries _ _ _) _ _ _ _ _ (at-list .list .inv) (c .before .past .ensures)
+    turn-ready _ _ _ (itemSeries _ _ _) _ _ _ _ _ (at-list .list .inv) (is-past (c .before .past .ensures))
 
 enum-known-next : tie.Need-enum-known-next Inv-list μ-list
 enum-known-next c = search needs
@@ -103,7 +104,7 @@ returns-3 c =
     (at-list .list .inv .back _ _ _
     (rest-first _ _ _ (itemSeries _ _ _) _ _ _ _ _
     (said-ok _ _ _ _ _ _ _ _ _ _ _ (after-item .item .ensures) (after-first .first .given .1))))
-    (else1 .if1 .left) _ (after-past .past .ensures) _ _
+    (else1 .if1 .left) _ (is-past (after-past .past .ensures)) _ _
     (said-bad _ _ _ _ _ _ _ _ _ _ _ _ (after-item2 .item2 .ensures) (c .enum-told2 .given .1)))
 
 list-less : tie.Need-list-less Inv-list μ-list
@@ -111,7 +112,7 @@ list-less c =
     let after-item2 : After-item2 = search in
     let after-past : After-past = search in
     let at-list : At-list = search in
-    let k = turn-less _ _ _ (itemSeries _ _ _) _ _ _ _ _ (at-list .list .inv) (after-past .past .ensures) _ _ _
+    let k = turn-less _ _ _ (itemSeries _ _ _) _ _ _ _ _ (at-list .list .inv) (is-past (after-past .past .ensures)) _ _ _
     (said-ok _ _ _ _ _ _ _ _ _ _ _ (after-item2 .item2 .ensures) (c .before .next .given .1)) in
     omega (arith, k .0, k .1, k .2)
 
@@ -121,7 +122,7 @@ list-again c =
     let after-past : After-past = search in
     let else1 : Else1 = search in
     let at-list : At-list = search in
-    turn-more _ _ _ (itemSeries _ _ _) _ _ _ _ _ (at-list .list .inv) (after-past .past .ensures) (else1 .if1 .left) _ _
+    turn-more _ _ _ (itemSeries _ _ _) _ _ _ _ _ (at-list .list .inv) (is-past (after-past .past .ensures)) (else1 .if1 .left) _ _
     (said-ok _ _ _ _ _ _ _ _ _ _ _ (after-item2 .item2 .ensures) (c .before .next .given .1))
 
 pub items-spec : {M : Type 1} → statement M

@@ -2,6 +2,7 @@
 -- Assumes nothing.
 use Prim.Native.Nat.{_+_, _-_, _*_}
 use native.Mathlib.Omega.{arith}
+use Rattle.reader.proofs.Answers.{is-past}
 use borrow.Author.Needs.{needs}
 use Rattle.reader.proofs.Done.{said-ok, said-bad, says-ok, says-same}
 use Rattle.reader.proofs.Series.{Turn, first-bad, rest-first, rest-stop, rest-bad, turn-none, turn-ready}
@@ -82,7 +83,7 @@ past-requires c κs = search needs
 row-item-requires-2 : tie.Need-row-item-requires-2 Inv-rows μ-rows
 row-item-requires-2 c κs =
     let at-rows : At-rows = search in
-    turn-ready _ _ _ (rowSeries _ _ _) _ _ _ _ _ (at-rows .rows .inv) (c .before .past .ensures)
+    turn-ready _ _ _ (rowSeries _ _ _) _ _ _ _ _ (at-rows .rows .inv) (is-past (c .before .past .ensures))
 
 enum-known-next : tie.Need-enum-known-next Inv-rows μ-rows
 enum-known-next c = search needs
@@ -103,7 +104,7 @@ returns-3 c =
     (at-rows .rows .inv .back _ _ _
     (rest-first _ _ _ (rowSeries _ _ _) _ _ _ _ _
     (said-ok _ _ _ _ _ _ _ _ _ _ _ (after-row-item .row-item .ensures) (after-first .first .given .1))))
-    (else1 .if1 .left) _ (after-past .past .ensures) _ _
+    (else1 .if1 .left) _ (is-past (after-past .past .ensures)) _ _
     (said-bad _ _ _ _ _ _ _ _ _ _ _ _ (after-row-item2 .row-item2 .ensures) (c .enum-told2 .given .1)))
 
 rows-less : tie.Need-rows-less Inv-rows μ-rows
@@ -111,7 +112,7 @@ rows-less c =
     let after-row-item2 : After-row-item2 = search in
     let after-past : After-past = search in
     let at-rows : At-rows = search in
-    let k = turn-less _ _ _ (rowSeries _ _ _) _ _ _ _ _ (at-rows .rows .inv) (after-past .past .ensures) _ _ _
+    let k = turn-less _ _ _ (rowSeries _ _ _) _ _ _ _ _ (at-rows .rows .inv) (is-past (after-past .past .ensures)) _ _ _
     (said-ok _ _ _ _ _ _ _ _ _ _ _ (after-row-item2 .row-item2 .ensures) (c .before .next .given .1)) in
     omega (arith, k .0, k .1, k .2)
 
@@ -121,7 +122,7 @@ rows-again c =
     let after-past : After-past = search in
     let else1 : Else1 = search in
     let at-rows : At-rows = search in
-    turn-more _ _ _ (rowSeries _ _ _) _ _ _ _ _ (at-rows .rows .inv) (after-past .past .ensures) (else1 .if1 .left) _ _
+    turn-more _ _ _ (rowSeries _ _ _) _ _ _ _ _ (at-rows .rows .inv) (is-past (after-past .past .ensures)) (else1 .if1 .left) _ _
     (said-ok _ _ _ _ _ _ _ _ _ _ _ (after-row-item2 .row-item2 .ensures) (c .before .next .given .1))
 
 pub row-items-spec : {M : Type 1} → statement M

@@ -2,6 +2,7 @@
 -- Assumes nothing.
 use native.Mathlib.Omega.{arith}
 use Rattle.reader.proofs.Headings.{shared-bad, row-listing, heads-say}
+use Rattle.reader.proofs.Lexing.{is-tokened}
 use borrow.Author.Needs.{needs}
 use Rattle.reader.proofs.model.declarations.Statement.{statement}
 use Rattle.reader.proofs.model.declarations.Tie as tie
@@ -10,7 +11,10 @@ piece-at-requires : tie.Need-piece-at-requires
 piece-at-requires c κs = search needs
 
 declaration-requires : tie.Need-declaration-requires
-declaration-requires c κs = search needs
+declaration-requires c κs =
+    let after-piece-at : tie.After-piece-at = search in
+    let t = is-tokened (after-piece-at .piece-at .ensures) in
+    search needs
 
 enum-known-shared : tie.Need-enum-known-shared
 enum-known-shared c = search needs
@@ -22,7 +26,7 @@ returns : tie.Need-returns
 returns c =
     let after-declaration : tie.After-declaration = search in
     let after-piece-at : tie.After-piece-at = search in
-    shared-bad _ _ _ (after-piece-at .piece-at .ensures) _ _ (after-declaration .declaration .ensures) _ _
+    shared-bad _ _ _ (is-tokened (after-piece-at .piece-at .ensures)) _ _ (after-declaration .declaration .ensures) _ _
     (c .enum-told .given .1)
 
 declaration-requires-2 : tie.Need-declaration-requires-2
@@ -30,7 +34,7 @@ declaration-requires-2 c κs =
     let after-shared : tie.After-shared = search in
     let after-declaration : tie.After-declaration = search in
     let after-piece-at : tie.After-piece-at = search in (
-      row-listing _ _ _ (after-piece-at .piece-at .ensures) _ _ (after-declaration .declaration .ensures) _ _
+      row-listing _ _ _ (is-tokened (after-piece-at .piece-at .ensures)) _ _ (after-declaration .declaration .ensures) _ _
           (after-shared .shared .given .1),
       omega arith,
     )
@@ -40,7 +44,7 @@ returns-2 c =
     let after-shared : tie.After-shared = search in
     let after-declaration : tie.After-declaration = search in
     let after-piece-at : tie.After-piece-at = search in
-    heads-say _ _ _ (after-piece-at .piece-at .ensures) _ _ (after-declaration .declaration .ensures) _ _
+    heads-say _ _ _ (is-tokened (after-piece-at .piece-at .ensures)) _ _ (after-declaration .declaration .ensures) _ _
     (after-shared .shared .given .1) _ _ (c .declaration2 .ensures)
 
 pub declarations-spec : {M : Type 1} → statement M

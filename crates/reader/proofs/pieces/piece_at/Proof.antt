@@ -2,21 +2,10 @@
 -- Assumes nothing.
 use mathlib.Core.Path.{sym, _∙_}
 use borrow.Author.Needs.{needs}
-use Rattle.reader.proofs.Lexing.{piece-end, Held, piece-mark, run-grows, piece-word}
+use Rattle.reader.proofs.Runs.{word-run, run-grows}
+use Rattle.reader.proofs.Lexing.{at-end, at-word, at-mark}
 use Rattle.reader.proofs.pieces.piece_at.Statement.{statement}
 use Rattle.reader.proofs.pieces.piece_at.Tie as tie
-
-held : (c : tie.Else1) →
-    let start : tie.Start = search in
-    let a = start .args in
-    Held (a .text .now) (a .at) (c .before .skip-blanks .result)
-held c =
-    record {
-      same = c .before .skip-blanks .ensures .0;
-      within = c .if1 .left;
-      held = c .before .skip-blanks .ensures .1
-          (c .if1 .left);
-    }
 
 skip-blanks-requires : tie.Need-skip-blanks-requires
 skip-blanks-requires c κs = search needs
@@ -27,7 +16,7 @@ token-requires c κs = search needs
 returns : tie.Need-returns
 returns c =
     let after-skip-blanks : tie.After-skip-blanks = search in
-    piece-end (after-skip-blanks .skip-blanks .ensures .0) (c .before .if1 .taken) (c .token .ensures)
+    at-end _ _ _ (after-skip-blanks .skip-blanks .ensures) (c .before .if1 .taken) (c .token .ensures)
 
 shared-slice-read-b : tie.Need-shared-slice-read-b
 shared-slice-read-b c = search needs
@@ -42,7 +31,7 @@ word-piece-requires : tie.Need-word-piece-requires
 word-piece-requires c κs =
     let after-is-word : tie.After-is-word = search in
     let else1 : tie.Else1 = search in (
-      run-grows (held else1) (sym (after-is-word .is-word .ensures) ∙ c .before .if2 .taken) (c .word-end .ensures .0),
+      run-grows word-run _ _ _ (else1 .if1 .left) (sym (after-is-word .is-word .ensures) ∙ c .before .if2 .taken) (c .word-end .ensures .0),
       c .word-end .ensures .1,
     )
 
@@ -51,8 +40,9 @@ returns-2 c =
     let then2 : tie.Then2 = search in
     let after-is-word : tie.After-is-word = search in
     let else1 : tie.Else1 = search in
-    piece-word (held else1) (sym (after-is-word .is-word .ensures) ∙ then2 .if2 .taken)
-    (c .before .word-end .ensures .0) (c .before .word-end .ensures .1) (c .word-piece .ensures)
+    let after-skip-blanks : tie.After-skip-blanks = search in
+    at-word _ _ _ (after-skip-blanks .skip-blanks .ensures) (else1 .if1 .left) (sym (after-is-word .is-word .ensures) ∙ then2 .if2 .taken)
+    (c .before .word-end .ensures .0) (c .word-piece .ensures)
 
 add-byte-at : tie.Need-add-byte-at
 add-byte-at c = search needs
@@ -68,8 +58,9 @@ returns-3 c =
     let else2 : tie.Else2 = search in
     let after-is-word : tie.After-is-word = search in
     let else1 : tie.Else1 = search in
-    piece-mark (held else1) (sym (after-is-word .is-word .ensures) ∙ else2 .if2 .left) (c .before .byte-at .ensures)
-    (c .mark-piece .ensures)
+    let after-skip-blanks : tie.After-skip-blanks = search in
+    at-mark _ _ _ (after-skip-blanks .skip-blanks .ensures) (else1 .if1 .left) (sym (after-is-word .is-word .ensures) ∙ else2 .if2 .left)
+    (c .before .byte-at .ensures) (c .mark-piece .ensures)
 
 pub piece-at-spec : {M : Type 1} → statement M
 piece-at-spec =

@@ -1,18 +1,17 @@
--- The invariant: the tokens from `at` on are those from i on, since a blank is part of none.
+-- The invariant: the blanks from i on end where those from `at` on do.
 -- Assumes nothing.
 use mathlib.Core.Path.{_≡_, refl, sym, _∙_}
-use Prim.Native.Nat.{_-_}
-use native.Mathlib.Numerals.{add-one}
+use Prim.Native.Nat.{_+_, _-_}
 use native.Mathlib.Omega.{arith}
-use lib.ListN.{length}
+use lib.ListN.{length, drop}
 use borrow.Author.Tests.{not-true, not-false}
-use Rattle.notation.specs.working.Lexing.{tokensFrom}
-use Rattle.notation.proofs.Lexes.{from-blank}
+use Rattle.reader.specs.working.Pieces.{blanks}
+use Rattle.reader.proofs.Runs.{blank-run, run-more, run-here, run-end}
 use Rattle.reader.proofs.pieces.skip_blanks.Statement.{statement}
 use Rattle.reader.proofs.pieces.skip_blanks.Tie as tie
 
 abbrev Inv-loop : tie.InvT-loop
-Inv-loop text at i₀ i = tokensFrom text at ≡ tokensFrom text i
+Inv-loop text at i₀ i = i + blanks (drop i text) ≡ at + blanks (drop at text)
 
 abbrev μ-loop : tie.MeasureT-loop
 μ-loop text at i₀ i = length text - i
@@ -36,7 +35,9 @@ is-blank-requires c κs = tt
 returns : tie.Need-returns Inv-loop μ-loop
 returns c =
     let at-loop : At-loop = search in
-    (at-loop .loop .inv, λ h. sym (c .before .is-blank .ensures) ∙ not-true _ (c .if1 .taken))
+    let in-loop : In-loop = search in
+    run-here blank-run _ _ (in-loop .loop-test .taken) (sym (c .before .is-blank .ensures) ∙ not-true _ (c .if1 .taken))
+    ∙ at-loop .loop .inv
 
 add-i : tie.Need-add-i Inv-loop μ-loop
 add-i c = omega arith
@@ -48,11 +49,11 @@ loop-again : tie.Need-loop-again Inv-loop μ-loop
 loop-again c =
     let in-loop : In-loop = search in
     let at-loop : At-loop = search in
-    at-loop .loop .inv ∙ rw add-one
-    (from-blank _ _ (in-loop .loop-test .taken) (sym (c .before .is-blank .ensures) ∙ not-false _ (c .if1 .left)))
+    run-more blank-run _ _ (in-loop .loop-test .taken) (sym (c .before .is-blank .ensures) ∙ not-false _ (c .if1 .left))
+    ∙ at-loop .loop .inv
 
 returns-2 : tie.Need-returns-2 Inv-loop μ-loop
-returns-2 c = (c .before .loop .inv, λ h. absurd (omega arith))
+returns-2 c = run-end blank-run _ _ (c .loop-test .left) ∙ c .before .loop .inv
 
 pub skip-blanks-spec : {M : Type 1} → statement M
 skip-blanks-spec =

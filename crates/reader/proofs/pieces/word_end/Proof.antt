@@ -6,7 +6,7 @@ use native.Mathlib.Omega.{arith}
 use lib.ListN.{length, drop}
 use borrow.Author.Tests.{not-true, not-false}
 use Rattle.notation.specs.working.Lexing.{span}
-use Rattle.reader.proofs.Lexing.{span-more, span-here, span-end}
+use Rattle.reader.proofs.Runs.{word-run, run-more, run-here, run-end}
 use Rattle.reader.proofs.pieces.word_end.Statement.{statement}
 use Rattle.reader.proofs.pieces.word_end.Tie as tie
 
@@ -37,7 +37,7 @@ returns c =
     let in-loop : In-loop = search in
     let at-loop : At-loop = search in
     let before = at-loop .loop .inv in (
-      span-here _ _ (in-loop .loop-test .taken) (sym (c .before .is-word .ensures) ∙ not-true _ (c .if1 .taken)) ∙
+      run-here word-run _ _ (in-loop .loop-test .taken) (sym (c .before .is-word .ensures) ∙ not-true _ (c .if1 .taken)) ∙
           before .0,
       before .1,
     )
@@ -53,13 +53,13 @@ loop-again c =
     let in-loop : In-loop = search in
     let at-loop : At-loop = search in
     let before = at-loop .loop .inv in (
-      span-more _ _ (in-loop .loop-test .taken) (sym (c .before .is-word .ensures) ∙ not-false _ (c .if1 .left)) ∙
+      run-more word-run _ _ (in-loop .loop-test .taken) (sym (c .before .is-word .ensures) ∙ not-false _ (c .if1 .left)) ∙
           before .0,
       omega arith,
     )
 
 returns-2 : tie.Need-returns-2 Inv-loop μ-loop
-returns-2 c = (span-end _ _ (c .loop-test .left) ∙ c .before .loop .inv .0, c .before .loop .inv .1)
+returns-2 c = (run-end word-run _ _ (c .loop-test .left) ∙ c .before .loop .inv .0, c .before .loop .inv .1)
 
 pub word-end-spec : {M : Type 1} → statement M
 word-end-spec =

@@ -1,0 +1,20 @@
+-- `past` meets its contract: the piece that it takes is the next one.
+-- Assumes nothing.
+use mathlib.Core.Path.{ap}
+use borrow.Author.Needs.{needs}
+use Rattle.reader.specs.declared.pieces.Piece.{Piece}
+use Rattle.reader.specs.working.Cursors.{moved}
+use Rattle.reader.proofs.cursor.past.Statement.{statement}
+use Rattle.reader.proofs.cursor.past.Tie as tie
+
+piece-at-requires : tie.Need-piece-at-requires
+piece-at-requires c κs = search needs
+
+returns : tie.Need-returns
+returns c =
+    let start : tie.Start = search in
+    let a = start .args in
+    ap (λ (u : Piece). moved u (a .c) (a .items) (a .nodes) (a .stars)) (c .piece-at .ensures)
+
+pub past-spec : {M : Type 1} → statement M
+past-spec = tie.close (tie.spec piece-at-requires returns)
