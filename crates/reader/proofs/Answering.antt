@@ -52,4 +52,5 @@ module _ (text : List ℕ) where
       pub is-refused : (n i : ℕ) (e : Code) → said ≡ D.Refused n i → e ≡ emptyCode → _≡_ {A = Reading} (record { answer = Refused n i; code = e }) (readingOf text)
       unfolding ModelSays readingIn
       is-refused n i e f g =
-          ap (λ (z : Code). record { answer = Refused n i; code = z }) g ∙ ap readingIn (sym (fits ∙ subst (λ (z : Declared). ModelSays text zeros s z) f k))
+          let q : ModelSays text zeros s (D.Refused n i) = subst (λ (z : Declared). ModelSays text zeros s z) f k in
+          ap (λ (z : Code). record { answer = Refused n i; code = z }) g ∙ ap readingIn (sym (fits ∙ q .0))

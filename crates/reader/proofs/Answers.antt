@@ -8,10 +8,10 @@ use Rattle.reader.specs.declared.cursor.Cursor.{Cursor}
 use Rattle.reader.specs.declared.cursor.Parsed.{Parsed}
 use Rattle.reader.specs.declared.cursor.Parsed.the-variants.{Ok, Refused}
 use Rattle.reader.specs.working.Pieces.{pieceAt}
-use Rattle.reader.specs.working.Cursors.{moved, emitted, Past, Expected}
+use Rattle.reader.specs.working.Cursors.{moved, emitted, Expected}
 use Rattle.reader.specs.working.Expressions.{Leaf, AfterNode, AfterClose}
 use Rattle.reader.specs.working.Items.{Marked, Skipped}
-use Rattle.reader.proofs.Lexing.{tokened}
+use Rattle.reader.proofs.Lexing.{Tokened, tokened}
 
 module _ (inner : Parsed) (code : ℕ) (b : List ℕ) where
   pub node-ok : (x r : Cursor) (a : List ℕ) → inner ≡ Ok x → (r ≡ emitted x) × (a ≡ set b (x .emitted) code) → AfterNode code inner b a (Ok r)
@@ -34,45 +34,50 @@ module _ (text : List ℕ) (inner : Parsed) where
   unfolding AfterClose
   close-bad n i e = subst (λ (x : Parsed). AfterClose text x (Refused n i)) (sym e) refl
 
+-- The cursor is past the piece of c, with these counts.
+pub record Past (text : List ℕ) (c : Cursor) (items nodes stars : ℕ) (d : Cursor) : Type 0 where
+  pub next : Tokened text (c .next .end) (d .next)
+  pub is : d ≡ moved (d .next) c items nodes stars
+
 -- A cursor that was moved is past its piece.
 pub is-past : {text : List ℕ} {c d : Cursor} {items nodes stars : ℕ} → d ≡ moved (pieceAt text (c .next .end)) c items nodes stars → Past text c items nodes stars d
 is-past {text} {c} {d} {items} {nodes} {stars} e =
     subst (λ (z : Cursor). Past text c items nodes stars z) (sym e) (record { next = tokened text (c .next .end); is = refl })
 
--- A cursor past a piece, with one code word more.
-past-emitted : (text : List ℕ) (c d r : Cursor) (items nodes stars : ℕ) → Past text c items nodes stars d → r ≡ emitted d → r ≡ emitted (moved (d .next) c items nodes stars)
-past-emitted text c d r items nodes stars q e = e ∙ ap emitted (q .is)
-
 module _ (text : List ℕ) (c : Cursor) (b : List ℕ) where
-  pub leaf-full : (code stars : ℕ) (a : List ℕ) → 1024 ≤ c .nodes → Leaf text c code stars b a (Refused 7 (c .next .start))
+  pub leaf-full : (code stars : ℕ) → 1024 ≤ c .nodes → Leaf text c code stars b b (Refused 7 (c .next .start))
   unfolding Leaf
-  leaf-full code stars a h = (h, (refl, refl))
+  leaf-full code stars h = (h, (refl, (refl, refl)))
 
-  pub leaf-fits : (code stars : ℕ) (d r : Cursor) (a : List ℕ) → c .nodes < 1024 → Past text c (c .items) (c .nodes + 1) stars d → (r ≡ emitted d) × (a ≡ set b (d .emitted) code) → Leaf text c code stars b a (Ok r)
+  pub leaf-fits : (code stars : ℕ) (d r : Cursor) (a : List ℕ) → c .nodes < 1024 → d ≡ moved (pieceAt text (c .next .end)) c (c .items) (c .nodes + 1) stars →
+      (r ≡ emitted d) × (a ≡ set b (d .emitted) code) → Leaf text c code stars b a (Ok r)
   unfolding Leaf
-  leaf-fits code stars d r a h q e = (h, (d .next, (q .next, (past-emitted text c d r (c .items) (c .nodes + 1) stars q (e .0), e .1 ∙ ap (λ (z : Cursor). set b (z .emitted) code) (q .is)))))
+  leaf-fits code stars d r a h q e = (h, (e .0 ∙ ap emitted q, e .1 ∙ ap (λ (z : Cursor). set b (z .emitted) code) q))
 
-  pub skip-full : (a : List ℕ) → 256 ≤ c .items → Skipped text c b a (Refused 7 (c .next .start))
+  pub skip-full : 256 ≤ c .items → Skipped text c b b (Refused 7 (c .next .start))
   unfolding Skipped
-  skip-full a h = (h, (refl, refl))
+  skip-full h = (h, (refl, (refl, refl)))
 
-  pub skip-fits : (d r : Cursor) (a : List ℕ) → c .items < 256 → Past text c (c .items + 1) (c .nodes) (c .stars) d → (r ≡ emitted d) × (a ≡ set b (d .emitted) 320) → Skipped text c b a (Ok r)
+  pub skip-fits : (d r : Cursor) (a : List ℕ) → c .items < 256 → d ≡ moved (pieceAt text (c .next .end)) c (c .items + 1) (c .nodes) (c .stars) →
+      (r ≡ emitted d) × (a ≡ set b (d .emitted) 320) → Skipped text c b a (Ok r)
   unfolding Skipped
-  skip-fits d r a h q e = (h, (d .next, (q .next, (past-emitted text c d r (c .items + 1) (c .nodes) (c .stars) q (e .0), e .1 ∙ ap (λ (z : Cursor). set b (z .emitted) 320) (q .is)))))
+  skip-fits d r a h q e = (h, (e .0 ∙ ap emitted q, e .1 ∙ ap (λ (z : Cursor). set b (z .emitted) 320) q))
 
   pub past-room : (items nodes stars : ℕ) (d : Cursor) → Past text c items nodes stars d → c .emitted < 2048 → d .emitted < 2048
   past-room items nodes stars d q h = subst (λ (z : Cursor). z .emitted < 2048) (sym (q .is)) h
 
 -- A sign that has to follow, and a code word.
 module _ (text : List ℕ) (kind word : ℕ) (read : Parsed) (b : List ℕ) where
-  pub mark-bad : (n i : ℕ) (a : List ℕ) → read ≡ Refused n i → Marked text kind word read b a read
+  pub mark-bad : (n i : ℕ) → read ≡ Refused n i → Marked text kind word read b b read
   unfolding Marked
-  mark-bad n i a e = subst (λ (x : Parsed). Marked text kind word x b a x) (sym e) refl
+  mark-bad n i e = subst (λ (x : Parsed). Marked text kind word x b b x) (sym e) (refl, refl)
 
   module _ (c : Cursor) (e : read ≡ Ok c) (next : Parsed) (h : Expected text c kind next) where
-    pub mark-missing : (n i : ℕ) (a : List ℕ) → next ≡ Refused n i → Marked text kind word read b a next
+    pub mark-missing : (n i : ℕ) → next ≡ Refused n i → Marked text kind word read b b next
     unfolding Marked
-    mark-missing n i a f = subst (λ (x : Parsed). Marked text kind word x b a next) (sym e) (subst (λ (x : Parsed). Marked text kind word (Ok c) b a x) (sym f) (subst (λ (x : Parsed). Expected text c kind x) f h))
+    mark-missing n i f =
+        subst (λ (x : Parsed). Marked text kind word x b b next) (sym e)
+        (subst (λ (x : Parsed). Marked text kind word (Ok c) b b x) (sym f) (subst (λ (x : Parsed). Expected text c kind x) f h, refl))
 
     pub mark-ok : (d r : Cursor) (a : List ℕ) → next ≡ Ok d → (r ≡ emitted d) × (a ≡ set b (d .emitted) word) → Marked text kind word read b a (Ok r)
     unfolding Marked
@@ -80,4 +85,4 @@ module _ (text : List ℕ) (kind word : ℕ) (read : Parsed) (b : List ℕ) wher
 
     pub mark-room : (d : Cursor) → next ≡ Ok d → c .emitted < 2048 → d .emitted < 2048
     unfolding Expected
-    mark-room d f k = let q = subst (λ (x : Parsed). Expected text c kind x) f h in past-room text c b (c .items) (c .nodes) (c .stars) d (q .1) k
+    mark-room d f k = let q = subst (λ (x : Parsed). Expected text c kind x) f h in past-room text c b (c .items) (c .nodes) (c .stars) d (is-past (q .1)) k

@@ -19,6 +19,7 @@ use Rattle.reader.specs.working.Expressions.{orAt}
 use Rattle.reader.specs.working.Items.{itemsWords}
 use Rattle.reader.specs.working.Sequences.{Tested, tested, testedWords, allItems}
 use Rattle.reader.specs.working.Commands.{bodyReader, BodySays}
+use Rattle.reader.proofs.Answers.{is-past}
 use Rattle.reader.proofs.Factors.{expected-ok, expected-bad}
 use Rattle.reader.proofs.Sequences.{says-from, sign-ready}
 
@@ -43,5 +44,5 @@ module _ (text names : List ℕ) (l : Ledger) (c : Cursor) (r : Ready text l 3 c
     pub body-says : (p a : List ℕ) (y : Parsed) → Says text names l (testedWords text names l (itemsWords text names l)) 3 d p (tested (length text) (allItems (length text)) 18 (orAt text names inTable l 16 d)) a y → BodySays text names l c p a y
     unfolding Expected
     body-says p a y h =
-        says-from text names l (testedWords text names l (itemsWords text names l)) 3 3 c d (c .items) (c .nodes) p G a y (e .1) (omega arith) (omega arith) (omega arith)
+        says-from text names l (testedWords text names l (itemsWords text names l)) 3 3 c d (c .items) (c .nodes) p G a y (is-past (e .1)) (omega arith) (omega arith) (omega arith)
         (subst (λ (o : Got (Tested Item)). Says text names l (testedWords text names l (itemsWords text names l)) 3 d p o a y) (sym (ap rest (expected-ok text names l c 6 d (omega arith) e))) h)

@@ -27,14 +27,16 @@ use Rattle.reader.specs.declared.cursor.Ledger.{Ledger}
 use Rattle.reader.specs.declared.cursor.Scope.{Scope}
 use Rattle.reader.specs.declared.cursor.Parsed.{Parsed}
 use Rattle.reader.specs.declared.cursor.Parsed.the-variants.{Ok, Refused}
-use Rattle.reader.specs.working.Pieces.{nameIn, listed}
+use Rattle.reader.specs.working.Pieces.{nameIn, listed, pieceAt}
 use Rattle.reader.specs.working.Names.{wordsIn, sharedWords, rowWords, namesKept}
-use Rattle.reader.specs.working.Cursors.{modeOf, bookOf, moved, emitted, Past, Expected, Ready, Done, Says}
+use Rattle.reader.specs.working.Cursors.{modeOf, bookOf, moved, emitted, Expected, Ready, Done, Says}
 use Rattle.reader.specs.working.Expressions.{exprWords, SaysExpr, orAt, AfterNode}
 use Rattle.reader.specs.working.Items.{rowItemWords, rowItemsWords, itemWords, withWord, Skipped, kindOf, modeIn, assignAt, bitIn, SaysAssign, SaysRowItem, rowItemAt, SaysItem, itemAt}
 use Rattle.reader.proofs.Books.{target-unknown, target-full, target-fits, item-full, item-fits, note-target, note-item}
 use Rattle.reader.proofs.Symbols.{listed-sign, listed-name, missing}
-use Rattle.reader.proofs.Done.{stores}
+use Rattle.reader.proofs.Lexing.{tokened}
+use Rattle.reader.proofs.Answers.{Past, is-past}
+use Rattle.reader.proofs.Done.{stores, wrote-none, wrote-same}
 use Rattle.reader.proofs.Lookup.{words-length, shared-name, row-name}
 use Rattle.reader.proofs.Operands.{found-out, found-in}
 use Rattle.reader.proofs.Factors.{expected-ok, expected-bad}
@@ -50,7 +52,7 @@ inRow = record { rows = true; stars = true }
 pub says-node : {A : Type 0} (text names : List ℕ) (l : Ledger) (code : ℕ → A → Numbered (List ℕ)) (x : ℕ) (s : Cursor) (p : List ℕ) (g : Got A) (a b : List ℕ) (word : ℕ) (inner y : Parsed) →
     Says text names l code x s p g a inner → AfterNode word inner a b y → Says text names l (withWord code word) (x + 1) s p g b y
 unfolding Says AfterNode
-says-node text names l code x s p g a b word (Refused n i) y h e = subst (λ (z : Parsed). Says text names l (withWord code word) (x + 1) s p g b z) (sym (e .0)) h
+says-node text names l code x s p g a b word (Refused n i) y h e = subst (λ (z : Parsed). Says text names l (withWord code word) (x + 1) s p g b z) (sym (e .0)) (h .0, wrote-same (e .1) (h .1))
 says-node text names l code x s p g a b word (Ok c) y h e =
     subst (λ (z : Parsed). Says text names l (withWord code word) (x + 1) s p g b z) (sym (e .0)) (record {
       tree = h .tree;
@@ -82,16 +84,19 @@ module _ (text names : List ℕ) (l : Ledger) (c : Cursor) (r : Ready text l 0 c
   pub skip-says : {A : Type 0} (code : ℕ → A → Numbered (List ℕ)) (v : A) (G : Got A) (p a : List ℕ) (y : Parsed) → G ≡ ruling (t .start) (fault B (part beginsItem (sign 11))) (got v rest (note B (part beginsItem (sign 11)))) →
       code (c .stars) v ≡ numbered (320 ∷ []) (c .stars) → Skipped text c p a y → Says text names l code 0 c p G a y
   unfolding Says Skipped
-  skip-says code v G p a (Refused n i) g one h =
-      g ∙ ap (λ (o : Option ℕ). ruling (t .start) o (got v rest (note B (part beginsItem (sign 11))))) (item-full text names l c (sign 11) (h .0)) ∙ ap (λ (x : ℕ). stop x (t .start)) (sym (h .1 .0)) ∙ ap (λ (x : ℕ). stop n x) (sym (h .1 .1))
+  skip-says code v G p a (Refused n i) g one h = (
+    g ∙ ap (λ (o : Option ℕ). ruling (t .start) o (got v rest (note B (part beginsItem (sign 11))))) (item-full text names l c (sign 11) (h .0))
+        ∙ ap (λ (x : ℕ). stop x (t .start)) (sym (h .1 .0)) ∙ ap (λ (x : ℕ). stop n x) (sym (h .1 .1 .0)),
+    wrote-same (h .1 .1 .1) wrote-none,
+  )
   skip-says code v G p a (Ok d) g one h =
-      let u = h .1 .0 in
-      let k = h .1 .1 .0 in
-      subst (λ (z : Cursor). Done text names l code 0 c p G a z) (sym (h .1 .1 .1 .0)) (record {
+      let u = pieceAt text (t .end) in
+      let k = tokened text (t .end) in
+      subst (λ (z : Cursor). Done text names l code 0 c p G a z) (sym (h .1 .0)) (record {
         tree = v;
         says = g ∙ ap (λ (o : Option ℕ). ruling (t .start) o (got v rest (note B (part beginsItem (sign 11))))) (item-fits text names l c (sign 11) (h .0)) ∙ ap (λ (b : Book). got v rest b) (note-item text names l c u (sign 11))
             ∙ ap (λ (ts : List Lexeme). got v ts (bookOf text names l (moved u c (c .items + 1) (c .nodes) (c .stars)))) (k .tokens);
-        stored = h .1 .1 .1 .1 ∙ ap (λ (z : Numbered (List ℕ)). sets p (c .emitted) (z .is)) (sym one);
+        stored = h .1 .1 ∙ ap (λ (z : Numbered (List ℕ)). sets p (c .emitted) (z .is)) (sym one);
         long = ap (λ (z : Numbered (List ℕ)). c .emitted + length (z .is)) (sym one);
         numbered = ap (λ (z : Numbered (List ℕ)). z .next) (sym one);
         level = omega arith;
@@ -247,7 +252,8 @@ module _ (text names : List ℕ) (l : Ledger) (c : Cursor) (r : Ready text l 0 c
               subst (λ (n : ℕ). Says text names l (withWord (exprWords text names l) (192 + n)) 0 c p (assignAt text names l rows c) b y) bit-is
               (subst (λ (o : Got Expr). Says text names l (withWord (exprWords text names l) (192 + i)) 0 c p o b y) (sym assign-value)
               (says-from text names l (withWord (exprWords text names l) (192 + i)) 1 0 c d (c .items + 1) (c .nodes) p (orAt text names sc l 16 v) b y q (omega arith) (omega arith) (omega arith)
-              (says-from text names l (withWord (exprWords text names l) (192 + i)) 1 1 d v (d .items) (d .nodes) p (orAt text names sc l 16 v) b y (e .1) (omega arith) (omega arith) (omega arith)
+              (says-from text names l (withWord (exprWords text names l) (192 + i)) 1 1 d v (d .items) (d .nodes) p (orAt text names sc l 16 v) b y (is-past (e .1))
+              (omega arith) (omega arith) (omega arith)
               (says-node text names l (exprWords text names l) 0 v p (orAt text names sc l 16 v) a b (192 + i) inner y s f))))
 
   -- ---- `for`

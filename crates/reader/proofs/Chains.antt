@@ -14,17 +14,20 @@ use Rattle.notation.specs.Layout.{exprCode}
 use Rattle.notation.specs.working.Lexing.{tokensFrom}
 use Rattle.notation.specs.working.Ledger.{Book, note, fault}
 use Rattle.notation.specs.working.Table.{factor}
-use Rattle.notation.specs.working.Descent.{Got, got, stop, thenReads, ruling, reader, andReader, andLoop, orLoop}
+use Rattle.notation.specs.working.Descent.{Got, got, thenReads, ruling, reader, andReader, andLoop, orLoop}
 use Rattle.notation.proofs.Readers.{and-loop-turn, or-loop-turn}
 use Rattle.reader.specs.declared.pieces.Piece.{Piece}
 use Rattle.reader.specs.declared.cursor.Cursor.{Cursor}
 use Rattle.reader.specs.declared.cursor.Ledger.{Ledger}
+use Rattle.reader.specs.declared.cursor.Parsed.{Parsed}
+use Rattle.reader.specs.declared.cursor.Parsed.the-variants.{Refused}
 use Rattle.reader.specs.working.Pieces.{listed}
-use Rattle.reader.specs.working.Cursors.{bookOf, emitted, Past, Ready, Done}
-use Rattle.reader.specs.working.Expressions.{exprWords}
+use Rattle.reader.specs.working.Cursors.{bookOf, emitted, Ready, Done}
+use Rattle.reader.specs.working.Expressions.{exprWords, SaysExpr}
+use Rattle.reader.proofs.Answers.{Past}
 use Rattle.reader.proofs.Books.{joins-full, joins-fits, note-joins}
 use Rattle.reader.proofs.Symbols.{listed-sign, and-stops, or-stops}
-use Rattle.reader.proofs.Done.{stores, done-ready}
+use Rattle.reader.proofs.Done.{stores, wrote-from, said-bad, says-bad, says-same, done-wrote, done-then, done-ready}
 
 -- An operator: its sign, its code word, how it joins, and the readers of its operand and of the rest of its operands.
 pub record Chain (text names : List ℕ) (l : Ledger) : Type 0 where
@@ -134,8 +137,11 @@ module _ (text names : List ℕ) (l : Ledger) where
         turned : g ≡ ruling (c .next .start) (fault (bookOf text names l c) (part joins (sign (K .op)))) after
         turned = h .says ∙ ap (λ (ts : List Lexeme). K .loop (h .done .tree) ts (bookOf text names l c)) (listed-sign text (c .next) (K .op) u (K .small)) ∙ K .turn (h .done .tree) (c .next .start) (tokensFrom text (c .next .end)) (bookOf text names l c)
 
-        pub rest-full : 1024 ≤ c .nodes → g ≡ stop 7 (c .next .start)
-        rest-full x = turned ∙ ap (λ (o : Option ℕ). ruling (c .next .start) o after) (joins-full text names l c (sign (K .op)) x)
+        pub rest-full : 1024 ≤ c .nodes → SaysExpr text names l s p g b (Refused 7 (c .next .start))
+        rest-full x =
+            says-bad text names l (exprWords text names l) 0 s p g b 7 (c .next .start)
+            (turned ∙ ap (λ (o : Option ℕ). ruling (c .next .start) o after) (joins-full text names l c (sign (K .op)) x))
+            (done-wrote text names l (exprWords text names l) 0 s p (h .o) b c (h .done))
 
         module _ (x : c .nodes < 1024) (d : Cursor) (q : Past text c (c .items) (c .nodes + 1) (c .stars) d) where
           abbrev right : Got Expr
@@ -146,8 +152,12 @@ module _ (text names : List ℕ) (l : Ledger) where
               ∙ ap (λ (v : Book). thenReads (K .operand (tokensFrom text (c .next .end)) v) (λ y ts b. K .loop (K .join (h .done .tree) y) ts b)) (note-joins text names l c (d .next) (sign (K .op)) ∙ ap (bookOf text names l) (sym (q .is)))
               ∙ ap (λ (ts : List Lexeme). thenReads (K .operand ts (bookOf text names l d)) (λ y ts b. K .loop (K .join (h .done .tree) y) ts b)) (q .next .tokens)
 
-          pub rest-bad : (n i : ℕ) → right ≡ stop n i → g ≡ stop n i
-          rest-bad n i e = goes ∙ ap (λ (o : Got Expr). thenReads o (λ y ts b. K .loop (K .join (h .done .tree) y) ts b)) e
+          pub rest-bad : (m : List ℕ) (r : Parsed) (n i : ℕ) → SaysExpr text names l d b right m r → r ≡ Refused n i → SaysExpr text names l s p g m r
+          rest-bad m r n i z e =
+              let k = said-bad text names l (exprWords text names l) 0 d b right m r n i z e in
+              says-same text names l (exprWords text names l) 0 s p g m r n i e
+              (goes ∙ ap (λ (o : Got Expr). thenReads o (λ y ts b. K .loop (K .join (h .done .tree) y) ts b)) (k .0))
+              (done-then text names l (exprWords text names l) 0 s p (h .o) b c m (h .done) (wrote-from (ap (λ (z : Cursor). z .emitted) (q .is)) (k .1)))
 
           module _ (m : List ℕ) (v : Cursor) (e : Read d b right m v) where
             abbrev W : ℕ → Expr → List ℕ

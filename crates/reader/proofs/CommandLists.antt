@@ -25,10 +25,10 @@ use Rattle.reader.specs.working.Pieces.{listed}
 use Rattle.reader.specs.working.Names.{sharedWords, rowWords}
 use Rattle.reader.specs.working.Cursors.{bookOf}
 use Rattle.reader.specs.Read.{placed}
-use Rattle.reader.specs.working.Commands.{withCommands, Naming, titleAt, commandWords, starsIn, commandsAt, oneAt, Arrays, storedIn, Commanded, CommandsSay}
-use Rattle.reader.proofs.Done.{sets-append}
+use Rattle.reader.specs.working.Commands.{withCommands, Naming, titleAt, commandWords, starsIn, commandsAt, oneAt, Arrays, WroteArrays, WroteCommands, storedIn, Commanded, CommandsSay}
+use Rattle.reader.proofs.Done.{sets-append, wrote-none, wrote-behind}
 use Rattle.reader.proofs.Symbols.{listed-sign, passed}
-use Rattle.reader.proofs.NameLists.{placed-append}
+use Rattle.reader.proofs.NameLists.{placed-append, named-same, named-behind}
 use Rattle.reader.proofs.Commanding.{kept-shared, kept-row}
 
 -- ---- what is stored of two lists
@@ -78,6 +78,29 @@ module _ (ws vs : List Word) (l : Ledger) (i : ℕ) (xs ys : List Command) (s : 
           let z : l .commands + length xs ≡ l .commands + length (map (starsIn ws vs) xs) = omega (arith, length-map xs (starsIn ws vs)) in
           ap (λ (k : ℕ). sets (sets (s .stars) (l .commands) (map (starsIn ws vs) xs)) k (map (starsIn ws vs) ys)) z
           ∙ sym (sets-append (map (starsIn ws vs) xs) (map (starsIn ws vs) ys) (s .stars) (l .commands)) ∙ ap (λ (v : List ℕ). sets (s .stars) (l .commands) v) (sym (map-append (starsIn ws vs) xs ys))
+
+-- What a refusal leaves of the arrays: nothing more than before, or something behind commands that were stored.
+pub arrays-same : {n i e k : ℕ} {s : Arrays} → WroteArrays n i e k s s
+arrays-same = record { names = named-same refl; ops = wrote-none; ends = wrote-none; stars = wrote-none }
+
+module _ (ws vs : List Word) (l l′ : Ledger) (i j : ℕ) (xs : List Command) (s s′ t : Arrays) where
+  abbrev parts : List (List ℕ)
+  parts = map (commandWords ws vs (l .shared)) xs
+
+  pub wrote-commands : s′ ≡ storedIn ws vs l i xs s → l′ ≡ withCommands (length xs) l → j ≡ i + length (joined parts) → WroteCommands l′ j s′ t → WroteCommands l i s t
+  wrote-commands h e k w =
+      let many : l′ .commands ≡ l .commands + length xs = ap (λ (z : Ledger). z .commands) e in
+      let shared : l′ .shared ≡ l .shared = ap (λ (z : Ledger). z .shared) e in
+      let row : l′ .row ≡ l .row = ap (λ (z : Ledger). z .row) e in
+      record {
+        names = named-behind (s .names) (s′ .names) (t .names) (l .shared + l .row + l .commands) (l′ .shared + l′ .row + l′ .commands) (map titleOf xs) (ap (λ (z : Arrays). z .names) h)
+            (omega (arith, length-map xs titleOf)) (w .names);
+        ops = wrote-behind (s .ops) (s′ .ops) (t .ops) i j (joined parts) (ap (λ (z : Arrays). z .ops) h) k (w .ops);
+        ends = wrote-behind (s .ends) (s′ .ends) (t .ends) (4 + l .commands) (4 + l′ .commands) (endsFrom i parts) (ap (λ (z : Arrays). z .ends) h)
+            (omega (arith, ends-length i parts, length-map xs (commandWords ws vs (l .shared)))) (w .ends);
+        stars = wrote-behind (s .stars) (s′ .stars) (t .stars) (l .commands) (l′ .commands) (map (starsIn ws vs) xs) (ap (λ (z : Arrays). z .stars) h)
+            (omega (arith, length-map xs (starsIn ws vs))) (w .stars);
+      }
 
 -- ---- the descent
 
@@ -148,7 +171,12 @@ module _ (text : List ℕ) where
 
     pub going-bad : (r : Declared) (n i : ℕ) (t : Arrays) → CommandsSay text l′ c′ s′ (oneAt text (s′ .names) l′ c′) t r → r ≡ D.Refused n i → CommandsSay text l c s (commandsAt text (s .names) l c) t r
     unfolding CommandsSay
-    going-bad r n i t d e = subst (λ (z : Declared). CommandsSay text l c s (commandsAt text (s .names) l c) t z) (sym e) (goes ∙ ap rest (subst (λ (z : Declared). CommandsSay text l′ c′ s′ (oneAt text (s′ .names) l′ c′) t z) e d))
+    going-bad r n i t d e =
+        let k : CommandsSay text l′ c′ s′ (oneAt text (s′ .names) l′ c′) t (D.Refused n i) = subst (λ (z : Declared). CommandsSay text l′ c′ s′ (oneAt text (s′ .names) l′ c′) t z) e d in
+        subst (λ (z : Declared). CommandsSay text l c s (commandsAt text (s .names) l c) t z) (sym e) (
+          goes ∙ ap rest (k .0),
+          wrote-commands (sharedWords text (s .names) l) (rowWords text (s .names) l) l l′ (c .emitted) (c′ .emitted) (h .tree) s s′ t (h .stored) (h .ledger) (h .place) (k .1),
+        )
 
     module _ (r : Declared) (t : Arrays) (d : Cursor) (k : Ledger) (x : CommandsSay text l′ c′ s′ (oneAt text (s′ .names) l′ c′) t r) (e : r ≡ D.Ok d k) where
       one : Commanded text l′ c′ s′ (oneAt text (s′ .names) l′ c′) t d k
@@ -234,3 +262,9 @@ module _ (text : List ℕ) where
         ledger = ledger-is;
         naming = one .naming;
       }
+
+-- What was stored of commands that were read is what was written.
+pub commanded-wrote : (text : List ℕ) (l : Ledger) (c : Cursor) (s : Arrays) (g : Got (List Command)) (t : Arrays) (d : Cursor) (k : Ledger) →
+    Commanded text l c s g t d k → WroteCommands l (c .emitted) s t
+commanded-wrote text l c s g t d k h =
+    wrote-commands (sharedWords text (s .names) l) (rowWords text (s .names) l) l k (c .emitted) (d .emitted) (h .tree) s t t (h .stored) (h .ledger) (h .place) arrays-same

@@ -25,7 +25,8 @@ use Rattle.reader.specs.working.Items.{itemsWords}
 use Rattle.reader.specs.Read.{placed}
 use Rattle.reader.specs.working.Sequences.{Tested, testedWords}
 use Rattle.reader.specs.working.Commands.{withCommands, Naming, Titled, TitleSays, bodyReader, BodySays, commandWords, starsIn, oneAt, Arrays, arrays, CommandsSay}
-use Rattle.reader.proofs.Done.{done-ready}
+use Rattle.reader.proofs.Done.{wrote-none, wrote-from, said-bad, done-ready}
+use Rattle.reader.proofs.NameLists.{named-same}
 use Rattle.reader.proofs.Lookup.{words-kept}
 
 -- A command made of its name and its body.
@@ -60,9 +61,14 @@ module _ (text names ops ends stars : List ℕ) (l : Ledger) (c : Cursor) (g : N
   abbrev S : Arrays
   S = arrays names ops ends stars
 
-  pub title-refused : (n i : ℕ) (s : Arrays) → titled ≡ D.Refused n i → CommandsSay text l c S (oneAt text names l c) s titled
+  pub title-refused : (n i : ℕ) → titled ≡ D.Refused n i → CommandsSay text l c S (oneAt text names l c) (arrays names′ ops ends stars) titled
   unfolding TitleSays CommandsSay
-  title-refused n i s e = subst (λ (z : Declared). CommandsSay text l c S (oneAt text names l c) s z) (sym e) (ap (λ (o : Got Name). thenReads (thenReads o (λ n ts b. thenReads (bodyReader (length text) ts b) (λ v ts b. got (made n v) ts b))) (λ x ts b. got (x ∷ []) ts b)) (subst (λ (z : Declared). TitleSays text names l c names′ z) e h))
+  title-refused n i e =
+      let k : TitleSays text names l c names′ (D.Refused n i) = subst (λ (z : Declared). TitleSays text names l c names′ z) e h in
+      subst (λ (z : Declared). CommandsSay text l c S (oneAt text names l c) (arrays names′ ops ends stars) z) (sym e) (
+        ap (λ (o : Got Name). thenReads (thenReads o (λ n ts b. thenReads (bodyReader (length text) ts b) (λ v ts b. got (made n v) ts b))) (λ x ts b. got (x ∷ []) ts b)) (k .0),
+        record { names = named-same (k .1); ops = wrote-none; ends = wrote-none; stars = wrote-none },
+      )
 
   module _ (d : Cursor) (l′ : Ledger) (e : titled ≡ D.Ok d l′) where
     abbrev T : Titled text names l c names′ d l′
@@ -93,9 +99,17 @@ module _ (text names ops ends stars : List ℕ) (l : Ledger) (c : Cursor) (g : N
     titled-is : oneAt text names l c ≡ thenReads (thenReads body (λ v ts b. got (made (T .tree) v) ts b)) (λ x ts b. got (x ∷ []) ts b)
     titled-is = ap (λ (o : Got Name). thenReads (thenReads o (λ n ts b. thenReads (bodyReader (length text) ts b) (λ v ts b. got (made n v) ts b))) (λ x ts b. got (x ∷ []) ts b)) (T .says)
 
-    pub body-refused : (ops′ : List ℕ) (s : Arrays) (read : Parsed) (n i : ℕ) → BodySays text names′ l′ d ops ops′ read → read ≡ Refused n i → CommandsSay text l c S (oneAt text names l c) s (D.Refused n i)
-    unfolding Says CommandsSay
-    body-refused ops′ s read n i b f = titled-is ∙ ap (λ (o : Got (Tested Item)). thenReads (thenReads o (λ v ts b. got (made (T .tree) v) ts b)) (λ x ts b. got (x ∷ []) ts b)) (subst (λ (z : Parsed). BodySays text names′ l′ d ops ops′ z) f b)
+    from-place : d .emitted ≡ c .emitted
+    from-place = ap (λ (z : Cursor). z .emitted) same
+
+    pub body-refused : (ops′ : List ℕ) (read : Parsed) (n i : ℕ) → BodySays text names′ l′ d ops ops′ read → read ≡ Refused n i →
+        CommandsSay text l c S (oneAt text names l c) (arrays names′ ops′ ends stars) (D.Refused n i)
+    unfolding CommandsSay
+    body-refused ops′ read n i b f =
+        let k = said-bad text names′ l′ (testedWords text names′ l′ (itemsWords text names′ l′)) 3 d ops body ops′ read n i b f in (
+          titled-is ∙ ap (λ (o : Got (Tested Item)). thenReads (thenReads o (λ v ts b. got (made (T .tree) v) ts b)) (λ x ts b. got (x ∷ []) ts b)) (k .0),
+          record { names = record { names = T .tree ∷ []; is = T .stored }; ops = wrote-from from-place (k .1); ends = wrote-none; stars = wrote-none },
+        )
 
     module _ (ops′ : List ℕ) (read : Parsed) (v : Cursor) (b : BodySays text names′ l′ d ops ops′ read) (f : read ≡ Ok v) where
       abbrev W : ℕ → Tested Item → Numbered (List ℕ)
@@ -125,9 +139,6 @@ module _ (text names ops ends stars : List ℕ) (l : Ledger) (c : Cursor) (g : N
 
       from-zero : d .stars ≡ 0
       from-zero = ap (λ (z : Cursor). z .stars) same
-
-      from-place : d .emitted ≡ c .emitted
-      from-place = ap (λ (z : Cursor). z .emitted) same
 
       words-are : W (d .stars) (done .tree) .is ≡ code
       words-are =

@@ -21,12 +21,13 @@ use Rattle.reader.specs.declared.pieces.Piece.{Piece}
 use Rattle.reader.specs.declared.cursor.Cursor.{Cursor}
 use Rattle.reader.specs.declared.cursor.Ledger.{Ledger}
 use Rattle.reader.specs.declared.clauses.Declared.the-variants as D
-use Rattle.reader.specs.working.Pieces.{nameIn, listed}
+use Rattle.reader.specs.working.Pieces.{nameIn, listed, pieceAt}
 use Rattle.reader.specs.working.Names.{wordsIn, sharedWords, rowWords, kinded, namesKept}
-use Rattle.reader.specs.working.Cursors.{bookOf, Past}
+use Rattle.reader.specs.working.Cursors.{bookOf, moved}
 use Rattle.reader.specs.working.Items.{kindOf}
 use Rattle.reader.specs.Read.{placed}
 use Rattle.reader.specs.working.Clauses.{grown, Listing, nameAt, NameSays}
+use Rattle.reader.proofs.Answers.{Past, is-past}
 use Rattle.reader.proofs.Books.{declares-again, declares-many, declares-full, declares-fits, note-declares}
 use Rattle.reader.proofs.Lookup.{window-slice, any-name, found-among, withName, with-length, words-kept, words-declared}
 
@@ -113,9 +114,9 @@ module _ (text names : List ℕ) (l : Ledger) (rows : Bool) (c : Cursor) (g : Li
 
   -- ---- the answers
 
-  refuses : (k : ℕ) (m : List ℕ) → fault B role ≡ some k → NameSays text names l rows c m (D.Refused k (t .start))
+  refuses : (k : ℕ) → fault B role ≡ some k → NameSays text names l rows c names (D.Refused k (t .start))
   unfolding NameSays nameAt
-  refuses k m e = ap (λ (o : Option ℕ). ruling (t .start) o (got w rest (note B role))) e
+  refuses k e = (ap (λ (o : Option ℕ). ruling (t .start) o (got w rest (note B role))) e, refl)
 
   -- the look-up ended at i
   module _ (i : ℕ) (h : i ≡ 0 + placeOf (w .word) (wordsIn text names 0 (n - 0))) where
@@ -124,23 +125,26 @@ module _ (text names : List ℕ) (l : Ledger) (rows : Bool) (c : Cursor) (g : Li
         let e : n + l .commands ≡ n - 0 = omega (arith, g .commands) in
         any-name text names l (w .word) ∙ ap (λ (k : ℕ). among (w .word) (wordsIn text names 0 k)) e ∙ found-among text names (w .word) n 0 ∙ ap (λ (k : ℕ). ltb k n) (sym h)
 
-    pub name-again : (m : List ℕ) → i < n → NameSays text names l rows c m (D.Refused 4 (t .start))
-    name-again m a = refuses 4 m (declares-again text names l c rows w (looked ∙ lt-ltb i n a))
+    pub name-again : i < n → NameSays text names l rows c names (D.Refused 4 (t .start))
+    name-again a = refuses 4 (declares-again text names l c rows w (looked ∙ lt-ltb i n a))
 
     module _ (a : n ≤ i) where
       new : has (namesKept text names l) (λ s. true) (w .word) ≡ false
       new = looked ∙ le-ltb i n a
 
-      pub name-many : (m : List ℕ) → 12 ≤ n → NameSays text names l rows c m (D.Refused 7 (t .start))
-      name-many m k = refuses 7 m (declares-many text names l c rows w new k)
+      pub name-many : 12 ≤ n → NameSays text names l rows c names (D.Refused 7 (t .start))
+      name-many k = refuses 7 (declares-many text names l c rows w new k)
 
-      pub row-full : (m : List ℕ) → rows ≡ true → 10 ≤ l .row → NameSays text names l rows c m (D.Refused 7 (t .start))
-      row-full m e k = refuses 7 m (declares-full text names l c rows w new (rw e k))
+      pub row-full : rows ≡ true → 10 ≤ l .row → NameSays text names l rows c names (D.Refused 7 (t .start))
+      row-full e k = refuses 7 (declares-full text names l c rows w new (rw e k))
 
-      pub shared-full : (m : List ℕ) → rows ≡ false → 8 ≤ l .shared → NameSays text names l rows c m (D.Refused 7 (t .start))
-      shared-full m e k = refuses 7 m (declares-full text names l c rows w new (rw e k))
+      pub shared-full : rows ≡ false → 8 ≤ l .shared → NameSays text names l rows c names (D.Refused 7 (t .start))
+      shared-full e k = refuses 7 (declares-full text names l c rows w new (rw e k))
 
-      module _ (k : n < 12) (d : Cursor) (q : Past text c (c .items) (c .nodes) (c .stars) d) (m : List ℕ) (s : m ≡ more) where
+      module _ (k : n < 12) (d : Cursor) (z : d ≡ moved (pieceAt text (c .next .end)) c (c .items) (c .nodes) (c .stars)) (m : List ℕ) (s : m ≡ more) where
+        q : Past text c (c .items) (c .nodes) (c .stars) d
+        q = is-past z
+
         declared : cond rows (l .row) (l .shared) < cond rows 10 8 → nameAt text names l rows c ≡ got w (listed text (d .next)) (bookOf text more (grown rows 1 l) d)
         unfolding nameAt
         declared f = ap (λ (o : Option ℕ). ruling (t .start) o (got w rest (note B role))) (declares-fits text names l c rows w new k f)
@@ -176,7 +180,7 @@ module _ (text names : List ℕ) (l : Ledger) (rows : Bool) (c : Cursor) (g : Li
         unfolding NameSays
         name-declared l′ e f =
             subst (λ (x : List ℕ). NameSays text names l rows c x (D.Ok d l′)) (sym s)
-            (subst (λ (x : Ledger). NameSays text names l rows c more (D.Ok d x)) (sym e) (declared f, (placed-one, (refl, (q, listing-more f)))))
+            (subst (λ (x : Ledger). NameSays text names l rows c more (D.Ok d x)) (sym e) (declared f, (placed-one, (refl, (z, listing-more f)))))
 
         pub row-declared : rows ≡ true → l .row < 10 → NameSays text names l rows c m (D.Ok d (record { shared = l .shared; row = l .row + 1; commands = l .commands }))
         row-declared e f = name-declared _ (grown-row rows l e) (rw e f)

@@ -1,6 +1,6 @@
--- What was read and stored: taken apart by the answer, and joined with what is read after it.
+-- What was read and stored, or written before a refusal: taken apart by the answer, and joined with what is read after it.
 -- Assumes nothing.
-use mathlib.Core.Path.{_≡_, sym, ap, _∙_, subst}
+use mathlib.Core.Path.{_≡_, refl, sym, ap, _∙_, subst}
 use mathlib.Core.List.{List, [], _∷_, _++_}
 use Prim.Native.Nat.{ℕ, suc, _+_}
 use native.Mathlib.Nat.{add-zero}
@@ -15,7 +15,7 @@ use Rattle.reader.specs.declared.cursor.Cursor.{Cursor}
 use Rattle.reader.specs.declared.cursor.Ledger.{Ledger}
 use Rattle.reader.specs.declared.cursor.Parsed.{Parsed}
 use Rattle.reader.specs.declared.cursor.Parsed.the-variants.{Ok, Refused}
-use Rattle.reader.specs.working.Cursors.{Ready, Done, Says}
+use Rattle.reader.specs.working.Cursors.{Ready, Done, Wrote, Says}
 
 -- ---- stores
 
@@ -27,6 +27,22 @@ sets-append (a ∷ vs) ws l i = sets-append vs ws (set l i a) (suc i) ∙ ap (λ
 pub stores : (p b m : List ℕ) (e c : ℕ) (vs ws : List ℕ) → b ≡ sets p e vs → c ≡ e + length vs → m ≡ sets b c ws → m ≡ sets p e (vs ++ ws)
 stores p b m e c vs ws h k j = j ∙ ap (λ (x : List ℕ). sets x c ws) h ∙ ap (λ (i : ℕ). sets (sets p e vs) i ws) k ∙ sym (sets-append vs ws p e)
 
+-- ---- what a refusal leaves of an array
+
+pub wrote-none : {i : ℕ} {p : List ℕ} → Wrote i p p
+wrote-none = record { words = []; is = refl }
+
+-- The same array, and the same place.
+pub wrote-same : {i : ℕ} {p a b : List ℕ} → a ≡ b → Wrote i p b → Wrote i p a
+wrote-same e w = record { words = w .words; is = e ∙ w .is }
+
+pub wrote-from : {i j : ℕ} {p a : List ℕ} → i ≡ j → Wrote i p a → Wrote j p a
+wrote-from {p = p} e w = record { words = w .words; is = w .is ∙ ap (λ (k : ℕ). sets p k (w .words)) e }
+
+-- Written behind a list that was stored.
+pub wrote-behind : (p b m : List ℕ) (e c : ℕ) (vs : List ℕ) → b ≡ sets p e vs → c ≡ e + length vs → Wrote c b m → Wrote e p m
+wrote-behind p b m e c vs h k w = record { words = vs ++ w .words; is = stores p b m e c vs (w .words) h k (w .is) }
+
 -- ---- answers
 
 module _ {A : Type 0} (text names : List ℕ) (l : Ledger) (code : ℕ → A → Numbered (List ℕ)) (extra : ℕ) (s : Cursor) (p : List ℕ) (g : Got A) (b : List ℕ) where
@@ -34,7 +50,7 @@ module _ {A : Type 0} (text names : List ℕ) (l : Ledger) (code : ℕ → A →
   unfolding Says
   said-ok r c h e = subst (λ (x : Parsed). Says text names l code extra s p g b x) e h
 
-  pub said-bad : (r : Parsed) (n q : ℕ) → Says text names l code extra s p g b r → r ≡ Refused n q → g ≡ stop n q
+  pub said-bad : (r : Parsed) (n q : ℕ) → Says text names l code extra s p g b r → r ≡ Refused n q → (g ≡ stop n q) × Wrote (s .emitted) p b
   unfolding Says
   said-bad r n q h e = subst (λ (x : Parsed). Says text names l code extra s p g b x) e h
 
@@ -42,19 +58,34 @@ module _ {A : Type 0} (text names : List ℕ) (l : Ledger) (code : ℕ → A →
   unfolding Says
   says-ok c h = h
 
-  pub says-bad : (n q : ℕ) → g ≡ stop n q → Says text names l code extra s p g b (Refused n q)
+  pub says-bad : (n q : ℕ) → g ≡ stop n q → Wrote (s .emitted) p b → Says text names l code extra s p g b (Refused n q)
   unfolding Says
-  says-bad n q h = h
+  says-bad n q h w = (h, w)
 
-  pub says-same : (r : Parsed) (n q : ℕ) → r ≡ Refused n q → g ≡ stop n q → Says text names l code extra s p g b r
+  pub says-same : (r : Parsed) (n q : ℕ) → r ≡ Refused n q → g ≡ stop n q → Wrote (s .emitted) p b → Says text names l code extra s p g b r
   unfolding Says
-  says-same r n q e h = subst (λ (x : Parsed). Says text names l code extra s p g b x) (sym e) h
+  says-same r n q e h w = subst (λ (x : Parsed). Says text names l code extra s p g b x) (sym e) (h, w)
+
+  pub done-wrote : (c : Cursor) → Done text names l code extra s p g b c → Wrote (s .emitted) p b
+  done-wrote c d = record { words = code (s .stars) (d .tree) .is; is = d .stored }
+
+  -- Written behind what was read.
+  pub done-then : (c : Cursor) (m : List ℕ) → Done text names l code extra s p g b c → Wrote (c .emitted) b m → Wrote (s .emitted) p m
+  done-then c m d w = wrote-behind p b m (s .emitted) (c .emitted) (code (s .stars) (d .tree) .is) (d .stored) (d .long) w
 
   -- What follows may be read where this was.
   pub done-ready : (spare : ℕ) (c : Cursor) → Ready text l (extra + spare) s → Done text names l code extra s p g b c → Ready text l spare c
   done-ready spare c r d = record { fits = r .fits; fresh = d .fresh; names = r .names; commands = r .commands; items = d .items; nodes = d .nodes; stars = d .stars; room = omega (arith, r .room, d .level) }
 
 -- ---- one after the other
+
+-- A reader that stops where another one does is refused as that one is.
+pub says-alike : {A B : Type 0} (text names : List ℕ) (l : Ledger) (code : ℕ → A → Numbered (List ℕ)) (extra : ℕ) (code′ : ℕ → B → Numbered (List ℕ)) (extra′ : ℕ)
+    (s : Cursor) (p : List ℕ) (g : Got A) (G : Got B) (b : List ℕ)
+    (r : Parsed) (n q : ℕ) → Says text names l code extra s p g b r → r ≡ Refused n q → (g ≡ stop n q → G ≡ stop n q) → Says text names l code′ extra′ s p G b r
+says-alike text names l code extra code′ extra′ s p g G b r n q h e f =
+    let k = said-bad text names l code extra s p g b r n q h e in
+    says-same text names l code′ extra′ s p G b r n q e (f (k .0)) (k .1)
 
 pub then-bad : {A B : Type 0} (f : A → List Lexeme → Book → Got B) (o : Got A) (g : Got B) (n q : ℕ) → g ≡ thenReads o f → o ≡ stop n q → g ≡ stop n q
 then-bad f o g n q e h = e ∙ ap (λ (x : Got _). thenReads x f) h

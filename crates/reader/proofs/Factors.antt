@@ -21,12 +21,14 @@ use Rattle.reader.specs.declared.cursor.Ledger.{Ledger}
 use Rattle.reader.specs.declared.cursor.Scope.{Scope}
 use Rattle.reader.specs.declared.cursor.Parsed.{Parsed}
 use Rattle.reader.specs.declared.cursor.Parsed.the-variants.{Ok, Refused}
-use Rattle.reader.specs.working.Pieces.{listed, Fresh}
-use Rattle.reader.specs.working.Cursors.{modeOf, bookOf, moved, emitted, Past, Expected, Ready, Done, Says}
-use Rattle.reader.specs.working.Expressions.{exprWords, SaysExpr, factorAt, orAt, Leaf, AfterNode, AfterClose, roomed}
+use Rattle.reader.specs.working.Pieces.{listed, Fresh, pieceAt}
+use Rattle.reader.specs.working.Cursors.{modeOf, bookOf, moved, emitted, Expected, Ready, Done, Says}
+use Rattle.reader.specs.working.Expressions.{exprWords, SaysExpr, SaysOperand, factorAt, orAt, Leaf, Kept, AfterNode, AfterClose, roomed}
 use Rattle.reader.proofs.Books.{quiet-fits, opens-deep, opens-fits, negates-deep, negates-full, negates-fits, note-quiet, note-opens, note-negates}
 use Rattle.reader.proofs.Symbols.{lit-is, lit-missing, open-is, not-is}
-use Rattle.reader.proofs.Done.{stores}
+use Rattle.reader.proofs.Lexing.{tokened}
+use Rattle.reader.proofs.Answers.{Past, is-past}
+use Rattle.reader.proofs.Done.{stores, wrote-none, wrote-same, wrote-from, done-wrote}
 
 -- ---- a sign that has to stand
 
@@ -37,10 +39,11 @@ module _ (text names : List ℕ) (l : Ledger) (c : Cursor) (k : ℕ) where
   pub expected-ok : (d : Cursor) → k < 24 → Expected text c k (Ok d) → signed ≡ got tt (listed text (d .next)) (bookOf text names l d)
   unfolding Expected
   expected-ok d h e =
+      let q : Past text c (c .items) (c .nodes) (c .stars) d = is-past (e .1) in
       lit-is text (c .next) (length text) k (bookOf text names l c) (e .0) h
       ∙ ap (λ (o : Option ℕ). ruling (c .next .start) o (got tt (tokensFrom text (c .next .end)) (note (bookOf text names l c) (part quiet (sign k))))) (quiet-fits text names l c (sign k))
-      ∙ ap (λ (b : Book). got tt (tokensFrom text (c .next .end)) b) (note-quiet text names l c (d .next) (sign k) ∙ ap (bookOf text names l) (sym (e .1 .is)))
-      ∙ ap (λ (ts : List Lexeme). got tt ts (bookOf text names l d)) (e .1 .next .tokens)
+      ∙ ap (λ (b : Book). got tt (tokensFrom text (c .next .end)) b) (note-quiet text names l c (d .next) (sign k) ∙ ap (bookOf text names l) (sym (q .is)))
+      ∙ ap (λ (ts : List Lexeme). got tt ts (bookOf text names l d)) (q .next .tokens)
 
   pub expected-bad : (n i : ℕ) → Fresh text (c .next) → Expected text c k (Refused n i) → signed ≡ stop n i
   unfolding Expected
@@ -71,27 +74,36 @@ module _ (text names : List ℕ) (sc : Scope) (l : Ledger) (depth : ℕ) (c : Cu
   pub leaf-says : (role : Role) (tok : Token) (e : Expr) (code stars : ℕ) (p a : List ℕ) (y : Parsed) →
       G ≡ ruling (t .start) (fault B (part role tok)) (got e rest (note B (part role tok))) → (1024 ≤ c .nodes → fault B (part role tok) ≡ some 7) → (c .nodes < 1024 → fault B (part role tok) ≡ none) →
       ((u : Piece) → note B (part role tok) ≡ bookOf text names l (moved u c (c .items) (c .nodes + 1) stars)) → exprWords text names l (c .stars) e .is ≡ code ∷ [] → exprWords text names l (c .stars) e .next ≡ stars → stars ≤ 8 →
-      Leaf text c code stars p a y → SaysExpr text names l c p G a y
-  unfolding Leaf Says
-  leaf-says role tok e code stars p a (Refused n i) g full fits noted one next few h =
-      g ∙ ap (λ (o : Option ℕ). ruling (t .start) o (got e rest (note B (part role tok)))) (full (h .0)) ∙ ap (λ (x : ℕ). stop x (t .start)) (sym (h .1 .0)) ∙ ap (λ (x : ℕ). stop n x) (sym (h .1 .1))
+      Leaf text c code stars p a y → SaysOperand text names l c p G a y
+  unfolding Leaf Says Kept
+  leaf-says role tok e code stars p a (Refused n i) g full fits noted one next few h = (
+    (
+      g ∙ ap (λ (o : Option ℕ). ruling (t .start) o (got e rest (note B (part role tok)))) (full (h .0))
+          ∙ ap (λ (x : ℕ). stop x (t .start)) (sym (h .1 .0)) ∙ ap (λ (x : ℕ). stop n x) (sym (h .1 .1 .0)),
+      wrote-same (h .1 .1 .1) wrote-none,
+    ),
+    h .1 .1 .1,
+  )
   leaf-says role tok e code stars p a (Ok d) g full fits noted one next few h =
-      let u = h .1 .0 in
-      let k = h .1 .1 .0 in
-      subst (λ (z : Cursor). Done text names l (exprWords text names l) 0 c p G a z) (sym (h .1 .1 .1 .0)) (record {
-        tree = e;
-        says = g ∙ ap (λ (o : Option ℕ). ruling (t .start) o (got e rest (note B (part role tok)))) (fits (h .0)) ∙ ap (λ (b : Book). got e rest b) (noted u) ∙ ap (λ (ts : List Lexeme). got e ts (bookOf text names l (moved u c (c .items) (c .nodes + 1) stars))) (k .tokens);
-        stored = h .1 .1 .1 .1 ∙ ap (λ (v : List ℕ). sets p (c .emitted) v) (sym one);
-        long = ap (λ (v : List ℕ). c .emitted + length v) (sym one);
-        numbered = sym next;
-        level = omega arith;
-        moreNodes = omega arith;
-        moreItems = omega arith;
-        nodes = omega (arith, h .0);
-        items = r .items;
-        stars = few;
-        fresh = k .fresh;
-      })
+      let u = pieceAt text (t .end) in
+      let k = tokened text (t .end) in (
+        subst (λ (z : Cursor). Done text names l (exprWords text names l) 0 c p G a z) (sym (h .1 .0)) (record {
+          tree = e;
+          says = g ∙ ap (λ (o : Option ℕ). ruling (t .start) o (got e rest (note B (part role tok)))) (fits (h .0)) ∙ ap (λ (b : Book). got e rest b) (noted u)
+              ∙ ap (λ (ts : List Lexeme). got e ts (bookOf text names l (moved u c (c .items) (c .nodes + 1) stars))) (k .tokens);
+          stored = h .1 .1 ∙ ap (λ (v : List ℕ). sets p (c .emitted) v) (sym one);
+          long = ap (λ (v : List ℕ). c .emitted + length v) (sym one);
+          numbered = sym next;
+          level = omega arith;
+          moreNodes = omega arith;
+          moreItems = omega arith;
+          nodes = omega (arith, h .0);
+          items = r .items;
+          stars = few;
+          fresh = k .fresh;
+        }),
+        tt,
+      )
 
   -- ---- the open parenthesis
 
@@ -127,14 +139,15 @@ module _ (text names : List ℕ) (sc : Scope) (l : Ledger) (depth : ℕ) (c : Cu
       closes : (p a : List ℕ) (v w : Cursor) (s : Done text names l (exprWords text names l) 0 d p (orAt text names sc l (depth - 1) d) a v) → Expected text v 22 (Ok w) → Done text names l (exprWords text names l) 0 c p G a w
       unfolding Expected
       closes p a v w s e =
+          let z : Past text v (v .items) (v .nodes) (v .stars) w = is-past (e .1) in
           let same : d .emitted ≡ c .emitted = ap (λ (z : Cursor). z .emitted) (q .is) in
           let from : d .stars ≡ c .stars = ap (λ (z : Cursor). z .stars) (q .is) in
           let nodes : d .nodes ≡ c .nodes = ap (λ (z : Cursor). z .nodes) (q .is) in
           let items : d .items ≡ c .items = ap (λ (z : Cursor). z .items) (q .is) in
-          let same′ : w .emitted ≡ v .emitted = ap (λ (z : Cursor). z .emitted) (e .1 .is) in
-          let from′ : w .stars ≡ v .stars = ap (λ (z : Cursor). z .stars) (e .1 .is) in
-          let nodes′ : w .nodes ≡ v .nodes = ap (λ (z : Cursor). z .nodes) (e .1 .is) in
-          let items′ : w .items ≡ v .items = ap (λ (z : Cursor). z .items) (e .1 .is) in
+          let same′ : w .emitted ≡ v .emitted = ap (λ (x : Cursor). x .emitted) (z .is) in
+          let from′ : w .stars ≡ v .stars = ap (λ (x : Cursor). x .stars) (z .is) in
+          let nodes′ : w .nodes ≡ v .nodes = ap (λ (x : Cursor). x .nodes) (z .is) in
+          let items′ : w .items ≡ v .items = ap (λ (x : Cursor). x .items) (z .is) in
           record {
             tree = s .tree;
             says = open-goes ∙ ap (λ (o : Got Expr). thenReads o (λ e ts b. thenReads (reader len (lit 22) ts b) (λ u ts b. got e ts b))) (s .says)
@@ -148,15 +161,21 @@ module _ (text names : List ℕ) (sc : Scope) (l : Ledger) (depth : ℕ) (c : Cu
             nodes = omega (arith, s .nodes);
             items = omega (arith, s .items);
             stars = omega (arith, s .stars);
-            fresh = e .1 .next .fresh;
+            fresh = z .next .fresh;
           }
+
+      same : d .emitted ≡ c .emitted
+      same = ap (λ (z : Cursor). z .emitted) (q .is)
 
       pub open-closes : (p a : List ℕ) (inner y : Parsed) → SaysExpr text names l d p (orAt text names sc l (depth - 1) d) a inner → AfterClose text inner y → SaysExpr text names l c p G a y
       unfolding Says AfterClose
-      open-closes p a (Refused n i) y s e = subst (λ (x : Parsed). Says text names l (exprWords text names l) 0 c p G a x) (sym e) (open-goes ∙ ap (λ (o : Got Expr). thenReads o (λ e ts b. thenReads (reader len (lit 22) ts b) (λ u ts b. got e ts b))) s)
-      open-closes p a (Ok v) (Refused n i) s e =
-          open-goes ∙ ap (λ (o : Got Expr). thenReads o (λ e ts b. thenReads (reader len (lit 22) ts b) (λ u ts b. got e ts b))) (s .says)
-          ∙ ap (λ (o : Got (Unit {0})). thenReads o (λ u ts b. got (s .tree) ts b)) (expected-bad text names l v 22 n i (s .fresh) e)
+      open-closes p a (Refused n i) y s e = subst (λ (x : Parsed). Says text names l (exprWords text names l) 0 c p G a x) (sym e)
+          (open-goes ∙ ap (λ (o : Got Expr). thenReads o (λ e ts b. thenReads (reader len (lit 22) ts b) (λ u ts b. got e ts b))) (s .0), wrote-from same (s .1))
+      open-closes p a (Ok v) (Refused n i) s e = (
+        open-goes ∙ ap (λ (o : Got Expr). thenReads o (λ e ts b. thenReads (reader len (lit 22) ts b) (λ u ts b. got e ts b))) (s .says)
+            ∙ ap (λ (o : Got (Unit {0})). thenReads o (λ u ts b. got (s .tree) ts b)) (expected-bad text names l v 22 n i (s .fresh) e),
+        wrote-from same (done-wrote text names l (exprWords text names l) 0 d p (orAt text names sc l (depth - 1) d) a v s),
+      )
       open-closes p a (Ok v) (Ok w) s e = closes p a v w s e
 
   -- ---- `not`
@@ -200,7 +219,8 @@ module _ (text names : List ℕ) (sc : Scope) (l : Ledger) (depth : ℕ) (c : Cu
 
         pub not-closes : (p a b : List ℕ) (inner y : Parsed) → SaysExpr text names l d p (factorAt text names sc l (depth - 1) d) a inner → AfterNode 96 inner a b y → SaysExpr text names l c p G b y
         unfolding Says AfterNode exprWords exprOf exprCode
-        not-closes p a b (Refused n i) y s e = subst (λ (w : Parsed). Says text names l (exprWords text names l) 0 c p G b w) (sym (e .0)) (not-goes ∙ ap (λ (o : Got Expr). thenReads o (λ e ts b. got (not′ e) ts b)) s)
+        not-closes p a b (Refused n i) y s e = subst (λ (w : Parsed). Says text names l (exprWords text names l) 0 c p G b w) (sym (e .0))
+            (not-goes ∙ ap (λ (o : Got Expr). thenReads o (λ e ts b. got (not′ e) ts b)) (s .0), wrote-same (e .1) (wrote-from (ap (λ (z : Cursor). z .emitted) (q .is)) (s .1)))
         not-closes p a b (Ok v) y s e =
             let same : d .emitted ≡ c .emitted = ap (λ (z : Cursor). z .emitted) (q .is) in
             let from : d .stars ≡ c .stars = ap (λ (z : Cursor). z .stars) (q .is) in

@@ -19,18 +19,19 @@ use Rattle.reader.specs.declared.cursor.Parsed.{Parsed}
 use Rattle.reader.specs.declared.cursor.Parsed.the-variants.{Ok, Refused}
 use Rattle.reader.specs.declared.clauses.Declared.{Declared}
 use Rattle.reader.specs.declared.clauses.Declared.the-variants as D
-use Rattle.reader.specs.working.Pieces.{listed, Tokened}
+use Rattle.reader.specs.working.Pieces.{listed}
 use Rattle.reader.specs.working.Names.{wordsIn, sharedWords, namesKept}
-use Rattle.reader.specs.working.Cursors.{bookOf, moved, Past, Expected}
+use Rattle.reader.specs.working.Cursors.{bookOf, moved, Expected}
 use Rattle.reader.specs.working.Items.{kindOf}
 use Rattle.reader.specs.Read.{placed}
 use Rattle.reader.specs.working.Clauses.{grown, Listing, listAt, Noted, NamesSay}
 use Rattle.reader.specs.working.Sequences.{pairOf, pairing, signedBy}
 use Rattle.reader.specs.working.Whole.{headReader, headAt, headsAt, Heads, HeadsSay}
+use Rattle.reader.proofs.Lexing.{Tokened}
 use Rattle.reader.proofs.Done.{then-bad}
-use Rattle.reader.proofs.Answers.{expected-said}
+use Rattle.reader.proofs.Answers.{Past, expected-said, is-past}
 use Rattle.reader.proofs.Factors.{expected-ok, expected-bad}
-use Rattle.reader.proofs.NameLists.{placed-append, grown-names, listed-ok, listed-bad}
+use Rattle.reader.proofs.NameLists.{placed-append, named-same, named-behind, grown-names, listed-ok, listed-bad}
 
 -- The cursor z with the next piece of d.
 abbrev onto : Cursor → Cursor → Cursor
@@ -53,11 +54,13 @@ module _ (text names : List ℕ) (l : Ledger) (rows : Bool) (kind : ℕ) (c : Cu
   abbrev inside : List Lexeme → Book → Got (List Name)
   inside ts b = signedBy (length text) 18 (reader (length text) (T.names (kindOf rows)) ts b)
 
-  pub head-bad : (m : List ℕ) (n i : ℕ) → sign ≡ Refused n i → SaysAt m (D.Refused n i)
+  pub head-bad : (n i : ℕ) → sign ≡ Refused n i → SaysAt names (D.Refused n i)
   unfolding NamesSay
-  head-bad m n i f =
-      then-bad (λ u ts b. inside ts b) _ At n i refl
-      (expected-bad text names l c kind n i (g .fresh) (expected-said text c kind sign (Refused n i) h f))
+  head-bad n i f = (
+    then-bad (λ u ts b. inside ts b) _ At n i refl
+        (expected-bad text names l c kind n i (g .fresh) (expected-said text c kind sign (Refused n i) h f)),
+    named-same refl,
+  )
 
   module _ (v : Cursor) (f : sign ≡ Ok v) where
     there : Expected text c kind (Ok v)
@@ -65,7 +68,7 @@ module _ (text names : List ℕ) (l : Ledger) (rows : Bool) (kind : ℕ) (c : Cu
 
     pub sign-listing : Listing text names l rows v
     unfolding Expected
-    sign-listing = past-listing text names l rows c v g (there .1)
+    sign-listing = past-listing text names l rows c v g (is-past (there .1))
 
     abbrev listed-names : Got (List Name)
     listed-names = listAt text names l rows v
@@ -78,8 +81,8 @@ module _ (text names : List ℕ) (l : Ledger) (rows : Bool) (kind : ℕ) (c : Cu
       pub list-bad : (n i : ℕ) → list ≡ D.Refused n i → SaysAt m list
       unfolding NamesSay
       list-bad n i e =
-          subst (λ (x : Declared). SaysAt m x) (sym e)
-          (goes ∙ ap (signedBy (length text) 18) (listed-bad text names l rows v listed-names m list q n i e))
+          let k = listed-bad text names l rows v listed-names m list q n i e in
+          subst (λ (x : Declared). SaysAt m x) (sym e) (goes ∙ ap (signedBy (length text) 18) (k .0), k .1)
 
       module _ (a : Cursor) (l′ : Ledger) (e : list ≡ D.Ok a l′) (end : Parsed) (k : Expected text a 18 end) where
         noted : Noted text names l rows v listed-names m a l′
@@ -90,12 +93,17 @@ module _ (text names : List ℕ) (l : Ledger) (rows : Bool) (kind : ℕ) (c : Cu
 
         pub end-bad : (n i : ℕ) → end ≡ Refused n i → SaysAt m (D.Refused n i)
         unfolding NamesSay
-        end-bad n i x = ends (stop n i) (expected-bad text m l′ a 18 n i (noted .listing .fresh) (expected-said text a 18 end (Refused n i) k x))
+        end-bad n i x = (
+          ends (stop n i) (expected-bad text m l′ a 18 n i (noted .listing .fresh) (expected-said text a 18 end (Refused n i) k x)),
+          record { names = noted .tree; is = noted .stored },
+        )
 
         pub end-ok : (d : Cursor) → end ≡ Ok d → SaysAt m (D.Ok d l′)
         unfolding NamesSay Expected
         end-ok d x =
             let last : Expected text a 18 (Ok d) = expected-said text a 18 end (Ok d) k x in
+            let first : Past text c (c .items) (c .nodes) (c .stars) v = is-past (there .1) in
+            let next : Past text a (a .items) (a .nodes) (a .stars) d = is-past (last .1) in
             record {
               tree = noted .tree;
               says = ends (got tt (listed text (d .next)) (bookOf text m l′ d)) (expected-ok text m l′ a 18 d (omega arith) last);
@@ -103,8 +111,8 @@ module _ (text names : List ℕ) (l : Ledger) (rows : Bool) (kind : ℕ) (c : Cu
               ledger = noted .ledger;
               sharedAre = noted .sharedAre;
               rowAre = noted .rowAre;
-              same = last .1 .is ∙ ap (onto d) (noted .same ∙ ap (onto a) (there .1 .is));
-              listing = past-listing text m l′ rows a d (noted .listing) (last .1);
+              same = next .is ∙ ap (onto d) (noted .same ∙ ap (onto a) (first .is));
+              listing = past-listing text m l′ rows a d (noted .listing) next;
             }
 
 -- ---- the shared names and the row names
@@ -131,8 +139,8 @@ module _ (text names : List ℕ) (first : Piece) (t : Tokened text 0 first) wher
     pub shared-bad : (n i : ℕ) → one ≡ D.Refused n i → HeadsSay text names m one
     unfolding HeadsSay
     shared-bad n i e =
-        subst (λ (x : Declared). HeadsSay text names m x) (sym e)
-        (heads-are ∙ ap (λ (o : Got (List Name)). pairing o row) (listed-bad text names bare false front shared m one q n i e))
+        let k = listed-bad text names bare false front shared m one q n i e in
+        subst (λ (x : Declared). HeadsSay text names m x) (sym e) (heads-are ∙ ap (λ (o : Got (List Name)). pairing o row) (k .0), k .1)
 
     module _ (a : Cursor) (l : Ledger) (e : one ≡ D.Ok a l) where
       noted-shared : Noted text names bare false front shared m a l
@@ -150,11 +158,13 @@ module _ (text names : List ℕ) (first : Piece) (t : Tokened text 0 first) wher
       after-shared : headsAt text ≡ thenReads (headAt text m l true 1 a) (λ vs ts b. got (pairOf ws vs) ts b)
       after-shared = heads-are ∙ ap (λ (o : Got (List Name)). pairing o row) (noted-shared .says)
 
+      many : l .shared + l .row ≡ 0 + length ws
+      many = ap (λ (x : Ledger). x .shared + x .row) (noted-shared .ledger) ∙ grown-names false (length ws) bare
+
       both : (m′ : List ℕ) (d : Cursor) (l′ : Ledger) → Noted text m l true a (headAt text m l true 1 a) m′ d l′ → Heads text names m′ d l′
       unfolding wordsIn
       both m′ d l′ r =
           let vs = r .tree in
-          let many : l .shared + l .row ≡ 0 + length ws = ap (λ (x : Ledger). x .shared + x .row) (noted-shared .ledger) ∙ grown-names false (length ws) bare in
           let ledger : l′ ≡ record { shared = length ws; row = length vs; commands = 0 } = r .ledger ∙ ap (grown true (length vs)) (noted-shared .ledger) ∙ rw (zero-add (length ws), zero-add (length vs)) in
           let same : d ≡ record { next = d .next; emitted = 0; items = 0; nodes = 0; stars = 0 } = r .same ∙ ap (onto d) (noted-shared .same) in
           record {
@@ -184,4 +194,7 @@ module _ (text names : List ℕ) (first : Piece) (t : Tokened text 0 first) wher
       pub heads-say : (m′ : List ℕ) (y : Declared) → NamesSay text m l true a (headAt text m l true 1 a) m′ y → HeadsSay text names m′ y
       unfolding NamesSay HeadsSay
       heads-say m′ (D.Ok d l′) r = both m′ d l′ r
-      heads-say m′ (D.Refused n i) r = then-bad (λ vs ts b. got (pairOf ws vs) ts b) (headAt text m l true 1 a) (headsAt text) n i after-shared r
+      heads-say m′ (D.Refused n i) r = (
+        then-bad (λ vs ts b. got (pairOf ws vs) ts b) (headAt text m l true 1 a) (headsAt text) n i after-shared (r .0),
+        named-behind names m m′ 0 (l .shared + l .row) ws (noted-shared .stored) many (r .1),
+      )

@@ -16,7 +16,7 @@ use Rattle.notation.specs.Tokens.{sign, name, Word, reserved, wordIn, plainWord
 use Rattle.notation.specs.working.Lexing.{span, beginsWith, Front, oneByte, mark, front, tokensFrom}
 use Rattle.notation.proofs.Lexes.{from-end, from-token}
 use Rattle.reader.specs.declared.pieces.Piece.{Piece}
-use Rattle.reader.specs.working.Pieces.{numberOr, pieceOf, tokenOf, listed, Fresh, Tokened, blanks, plainPiece, numberedPiece, wordPiece, markPiece, pieceFrom, pieceAt}
+use Rattle.reader.specs.working.Pieces.{numberOr, pieceOf, tokenOf, listed, Fresh, blanks, plainPiece, numberedPiece, wordPiece, markPiece, pieceFrom, pieceAt}
 use Rattle.reader.proofs.Runs.{word-run, run-step, run-within, Behind, behind-blanks}
 use Rattle.reader.proofs.Spelling.{token-long, token-reserved, token-plain, plain-other, plain-digit}
 
@@ -196,6 +196,11 @@ module _ {text : List ℕ} {s : ℕ} (h : s < length text) where
       (either-fronts (eqb b 58) (colon-fronts next bs e l) barred-fronts))))))
 
 -- The next piece.
+
+-- The piece is the next one from place i on.
+pub record Tokened (text : List ℕ) (i : ℕ) (t : Piece) : Type 0 where
+  pub tokens : tokensFrom text i ≡ listed text t
+  pub fresh : Fresh text t
 
 piece-end : {text : List ℕ} {i s : ℕ} → Behind text i s → length text ≤ s → Tokened text i (pieceOf 26 (length text) (length text) 3)
 unfolding listed

@@ -27,12 +27,13 @@ use Rattle.reader.specs.declared.clauses.Declared.the-variants as D
 use Rattle.reader.specs.working.Names.{rowWords}
 use Rattle.reader.specs.working.Cursors.{bookOf, Ready}
 use Rattle.reader.specs.Read.{placed}
-use Rattle.reader.specs.working.Clauses.{clauseWords, clauseEnds, clauseAt, ClauseDone, ClauseSays}
+use Rattle.reader.specs.working.Clauses.{WroteNames, clauseWords, clauseEnds, clauseAt, ClauseDone, ClauseSays}
 use Rattle.reader.specs.working.Sequences.{Pair, pairOf, paired, pairing}
-use Rattle.reader.specs.working.Commands.{withCommands, Naming, Arrays, arrays, storedIn, commandWords, starsIn, commandsAt, Commanded, CommandsSay}
+use Rattle.reader.specs.working.Commands.{withCommands, Naming, Arrays, arrays, WroteArrays, WroteCommands, storedIn, commandWords, starsIn, commandsAt, Commanded, CommandsSay}
 use Rattle.reader.specs.working.Whole.{Heads, HeadsSay, clausesAt, ClausesDone, ClausesSay, ModelSays}
-use Rattle.reader.proofs.Done.{sets-append, stores, done-ready}
-use Rattle.reader.proofs.NameLists.{placed-append}
+use Rattle.reader.proofs.Done.{sets-append, stores, wrote-none, wrote-from, wrote-behind, done-then, done-ready}
+use Rattle.reader.proofs.NameLists.{placed-append, named-behind}
+use Rattle.reader.proofs.CommandLists.{arrays-same, commanded-wrote}
 use Rattle.reader.proofs.Sequences.{pair-done, pair-bad}
 use Rattle.reader.proofs.Wholes.{heads-bad, clauses-bad, command-missing, commands-bad, text-ends, text-goes-on}
 use Rattle.reader.proofs.Stores.{stars-layout, code-layout, ends-layout, names-are}
@@ -46,9 +47,12 @@ module _ (text names : List ℕ) (l : Ledger) (c : Cursor) (p e a e′ : List �
   abbrev words : ℕ → Clause → Numbered (List ℕ)
   words = clauseWords text names l
 
-  pub start-bad : (n i : ℕ) (a′ e″ : List ℕ) → start ≡ Refused n i → ClausesSay text names l c p e a′ e″ start
+  pub start-bad : (n i : ℕ) → start ≡ Refused n i → ClausesSay text names l c p e a e′ start
   unfolding ClauseSays ClausesSay
-  start-bad n i a′ e″ f = subst (λ (z : Parsed). ClausesSay text names l c p e a′ e″ z) (sym f) (pair-bad text names l (clauseAt text names l 2 c) (λ ts b. reader (length text) (T.clause 3) ts b) n i (subst (λ (z : Parsed). ClauseSays text names l 2 0 c p e a e′ z) f h))
+  start-bad n i f =
+      let k : ClauseSays text names l 2 0 c p e a e′ (Refused n i) = subst (λ (z : Parsed). ClauseSays text names l 2 0 c p e a e′ z) f h in
+      subst (λ (z : Parsed). ClausesSay text names l c p e a e′ z) (sym f)
+      (pair-bad text names l (clauseAt text names l 2 c) (λ ts b. reader (length text) (T.clause 3) ts b) n i (k .0), k .1)
 
   module _ (d : Cursor) (f : start ≡ Ok d) where
     first : ClauseDone text names l 2 0 c p e a e′ d
@@ -60,7 +64,15 @@ module _ (text names : List ℕ) (l : Ledger) (c : Cursor) (p e a e′ : List �
 
     pub clauses-say : (a′ e″ : List ℕ) (y : Parsed) → ClauseSays text names l 3 2 d a e′ a′ e″ y → ClausesSay text names l c p e a′ e″ y
     unfolding ClauseSays ClausesSay pair-done
-    clauses-say a′ e″ (Refused n i) q = ap (λ (o : Got Clause). pairing o (λ ts b. reader (length text) (T.clause 3) ts b)) (first .done .says) ∙ ap (λ (o : Got Clause). thenReads o (λ v ts b. got (pairOf (first .done .tree) v) ts b)) q
+    clauses-say a′ e″ (Refused n i) q = (
+      ap (λ (o : Got Clause). pairing o (λ ts b. reader (length text) (T.clause 3) ts b)) (first .done .says)
+          ∙ ap (λ (o : Got Clause). thenReads o (λ v ts b. got (pairOf (first .done .tree) v) ts b)) (q .0),
+      (
+        done-then text names l words 0 c p (clauseAt text names l 2 c) a d a′ (first .done) (q .1 .0),
+        wrote-behind e e′ e″ 0 2 (clauseEnds text names l (c .stars) (c .emitted) (first .done .tree)) (first .ends)
+            (omega (arith, two-ends text names l (c .stars) (c .emitted) (first .done .tree))) (q .1 .1),
+      ),
+    )
     clauses-say a′ e″ (Ok v) q = record {
       done = pair-done text names l words words 0 0 c d p a (clauseAt text names l 2 c) (λ ts b. reader (length text) (T.clause 3) ts b) (first .done) a′ v (q .done);
       ends =
@@ -74,9 +86,12 @@ module _ (text names : List ℕ) (l : Ledger) (c : Cursor) (p e a e′ : List �
 -- ---- the whole
 
 module _ (text : List ℕ) (s : Arrays) (head : Declared) (names′ : List ℕ) (h : HeadsSay text (s .names) names′ head) where
-  pub head-refused : (n i : ℕ) (t : Arrays) → head ≡ D.Refused n i → ModelSays text s t head
+  pub head-refused : (n i : ℕ) → head ≡ D.Refused n i → ModelSays text s (arrays names′ (s .ops) (s .ends) (s .stars)) head
   unfolding HeadsSay ModelSays
-  head-refused n i t e = subst (λ (z : Declared). ModelSays text s t z) (sym e) (heads-bad text n i (subst (λ (z : Declared). HeadsSay text (s .names) names′ z) e h))
+  head-refused n i e =
+      let k : HeadsSay text (s .names) names′ (D.Refused n i) = subst (λ (z : Declared). HeadsSay text (s .names) names′ z) e h in
+      subst (λ (z : Declared). ModelSays text s (arrays names′ (s .ops) (s .ends) (s .stars)) z) (sym e)
+      (heads-bad text n i (k .0), record { names = k .1; ops = wrote-none; ends = wrote-none; stars = wrote-none })
 
   module _ (c : Cursor) (l : Ledger) (e : head ≡ D.Ok c l) where
     headed : Heads text (s .names) names′ c l
@@ -87,18 +102,74 @@ module _ (text : List ℕ) (s : Arrays) (head : Declared) (names′ : List ℕ) 
     head-ready = headed .naming .ready
 
     module _ (ops′ ends′ : List ℕ) (both : Parsed) (q : ClausesSay text names′ l c (s .ops) (s .ends) ops′ ends′ both) where
-      pub both-refused : (n i : ℕ) (t : Arrays) → both ≡ Refused n i → ModelSays text s t (D.Refused n i)
+      -- The arrays after the clauses.
+      abbrev S : Arrays
+      S = arrays names′ ops′ ends′ (s .stars)
+
+      from-front : c .emitted ≡ 0
+      from-front = ap (λ (z : Cursor). z .emitted) (headed .same)
+
+      wrote-names : WroteNames 0 (s .names) names′
+      wrote-names = record { names = headed .tree .one ++ headed .tree .two; is = headed .stored }
+
+      pub both-refused : (n i : ℕ) → both ≡ Refused n i → ModelSays text s S (D.Refused n i)
       unfolding ClausesSay ModelSays
-      both-refused n i t f = clauses-bad text names′ l c (headed .tree) (headed .says) n i (subst (λ (z : Parsed). ClausesSay text names′ l c (s .ops) (s .ends) ops′ ends′ z) f q)
+      both-refused n i f =
+          let k : ClausesSay text names′ l c (s .ops) (s .ends) ops′ ends′ (Refused n i) = subst (λ (z : Parsed). ClausesSay text names′ l c (s .ops) (s .ends) ops′ ends′ z) f q in (
+            clauses-bad text names′ l c (headed .tree) (headed .says) n i (k .0),
+            record { names = wrote-names; ops = wrote-from from-front (k .1 .0); ends = k .1 .1; stars = wrote-none },
+          )
 
       module _ (d : Cursor) (f : both ≡ Ok d) where
         claused : ClausesDone text names′ l c (s .ops) (s .ends) ops′ ends′ d
         unfolding ClausesSay
         claused = subst (λ (z : Parsed). ClausesSay text names′ l c (s .ops) (s .ends) ops′ ends′ z) f q
 
-        pub first-missing : (t : Arrays) → (d .next .kind ≡ 5 → ⊥) → ModelSays text s t (D.Refused (d .next .fault) (d .next .start))
+        abbrev clausesWords : ℕ → Pair Clause Clause → Numbered (List ℕ)
+        clausesWords = paired (clauseWords text names′ l) (clauseWords text names′ l)
+
+        -- the ends of the clauses' expressions, if their stars are numbered from j on and their code begins at place i
+        abbrev clausesEnds : ℕ → ℕ → List ℕ
+        clausesEnds j i = clauseEnds text names′ l j i (claused .done .tree .one)
+            ++ clauseEnds text names′ l (clauseWords text names′ l j (claused .done .tree .one) .next)
+            (i + length (clauseWords text names′ l j (claused .done .tree .one) .is)) (claused .done .tree .two)
+
+        none-yet : l .commands ≡ 0
+        none-yet = ap (λ (z : Ledger). z .commands) (headed .ledger)
+
+        four-ends : (j i : ℕ) → 4 + l .commands ≡ 0 + length (clausesEnds j i)
+        four-ends j i =
+            let one = claused .done .tree .one in
+            let k = clauseWords text names′ l j one .next in
+            let m = i + length (clauseWords text names′ l j one .is) in
+            omega (
+              arith,
+              none-yet,
+              length-append (clauseEnds text names′ l j i one) (clauseEnds text names′ l k m (claused .done .tree .two)),
+              two-ends text names′ l j i one,
+              two-ends text names′ l k m (claused .done .tree .two),
+            )
+
+        -- What commands wrote was written behind declarations and clauses.
+        wrote-all : (t : Arrays) → WroteCommands l (d .emitted) S t → WroteArrays 0 0 0 0 s t
+        wrote-all t w =
+            let ws = headed .tree .one in
+            let vs = headed .tree .two in
+            let many : l .shared + l .row + l .commands ≡ 0 + length (ws ++ vs) =
+            omega (arith, ap (λ (z : Ledger). z .shared) (headed .ledger), ap (λ (z : Ledger). z .row) (headed .ledger), none-yet, length-append ws vs) in
+            record {
+              names = named-behind (s .names) names′ (t .names) 0 (l .shared + l .row + l .commands) (ws ++ vs) (headed .stored) many (w .names);
+              ops = wrote-from from-front (done-then text names′ l clausesWords 0 c (s .ops) (clausesAt text names′ l c) ops′ d (t .ops) (claused .done) (w .ops));
+              ends = wrote-behind (s .ends) ends′ (t .ends) 0 (4 + l .commands) (clausesEnds (c .stars) (c .emitted)) (claused .ends) (four-ends (c .stars) (c .emitted)) (w .ends);
+              stars = wrote-from none-yet (w .stars);
+            }
+
+        pub first-missing : (d .next .kind ≡ 5 → ⊥) → ModelSays text s S (D.Refused (d .next .fault) (d .next .start))
         unfolding ModelSays
-        first-missing t u = command-missing text names′ l c (headed .tree) (headed .says) d (claused .done .tree) (claused .done .says) (claused .done .fresh) u
+        first-missing u = (
+          command-missing text names′ l c (headed .tree) (headed .says) d (claused .done .tree) (claused .done .says) (claused .done .fresh) u,
+          wrote-all S arrays-same,
+        )
 
         pub both-naming : Naming text names′ l d
         both-naming = record { ready = done-ready text names′ l (paired (clauseWords text names′ l) (clauseWords text names′ l)) 0 c (s .ops) (clausesAt text names′ l c) ops′ 0 d head-ready (claused .done); long = headed .naming .long }
@@ -106,16 +177,23 @@ module _ (text : List ℕ) (s : Arrays) (head : Declared) (names′ : List ℕ) 
         module _ (u : d .next .kind ≡ 5) (all : Declared) (t : Arrays) (k : CommandsSay text l d (arrays names′ ops′ ends′ (s .stars)) (commandsAt text names′ l d) t all) where
           pub all-refused : (n i : ℕ) → all ≡ D.Refused n i → ModelSays text s t all
           unfolding CommandsSay ModelSays
-          all-refused n i g = subst (λ (z : Declared). ModelSays text s t z) (sym g) (commands-bad text names′ l c (headed .tree) (headed .says) d (claused .done .tree) (claused .done .says) u n i (subst (λ (z : Declared). CommandsSay text l d (arrays names′ ops′ ends′ (s .stars)) (commandsAt text names′ l d) t z) g k))
+          all-refused n i g =
+              let z : CommandsSay text l d S (commandsAt text names′ l d) t (D.Refused n i) = subst (λ (z : Declared). CommandsSay text l d S (commandsAt text names′ l d) t z) g k in
+              subst (λ (z : Declared). ModelSays text s t z) (sym g)
+              (commands-bad text names′ l c (headed .tree) (headed .says) d (claused .done .tree) (claused .done .says) u n i (z .0), wrote-all t (z .1))
 
           module _ (v : Cursor) (m : Ledger) (g : all ≡ D.Ok v m) where
             commanded : Commanded text l d (arrays names′ ops′ ends′ (s .stars)) (commandsAt text names′ l d) t v m
             unfolding CommandsSay
             commanded = subst (λ (z : Declared). CommandsSay text l d (arrays names′ ops′ ends′ (s .stars)) (commandsAt text names′ l d) t z) g k
 
-            pub more-follows : (z : Arrays) → (v .next .kind ≡ 26 → ⊥) → ModelSays text s z (D.Refused (v .next .fault) (v .next .start))
+            pub more-follows : (v .next .kind ≡ 26 → ⊥) → ModelSays text s t (D.Refused (v .next .fault) (v .next .start))
             unfolding ModelSays
-            more-follows z n = text-goes-on text names′ l c (headed .tree) (headed .says) d (claused .done .tree) (claused .done .says) u (v .next) (commanded .tree) (bookOf text (t .names) m v) (commanded .says) (commanded .naming .ready .fresh) n
+            more-follows n = (
+              text-goes-on text names′ l c (headed .tree) (headed .says) d (claused .done .tree) (claused .done .says) u (v .next) (commanded .tree) (bookOf text (t .names) m v) (commanded .says)
+                  (commanded .naming .ready .fresh) n,
+              wrote-all t (commanded-wrote text l d S (commandsAt text names′ l d) t v m commanded),
+            )
 
             abbrev ws : List Name
             ws = headed .tree .one
@@ -145,21 +223,11 @@ module _ (text : List ℕ) (s : Arrays) (head : Declared) (names′ : List ℕ) 
               row-is : l .row ≡ length vs
               row-is = ap (λ (z : Ledger). z .row) (headed .ledger)
 
-              none-yet : l .commands ≡ 0
-              none-yet = ap (λ (z : Ledger). z .commands) (headed .ledger)
-
-              from-front : c .emitted ≡ 0
-              from-front = ap (λ (z : Cursor). z .emitted) (headed .same)
-
               from-zero : c .stars ≡ 0
               from-zero = ap (λ (z : Cursor). z .stars) (headed .same)
 
               abbrev clauseCode : ℕ → List ℕ
               clauseCode j = paired (clauseWords text names′ l) (clauseWords text names′ l) j ks .is
-
-              -- the ends of the clauses' expressions, if their stars are numbered from j on and their code begins at place i
-              abbrev clausesEnds : ℕ → ℕ → List ℕ
-              clausesEnds j i = clauseEnds text names′ l j i (ks .one) ++ clauseEnds text names′ l (clauseWords text names′ l j (ks .one) .next) (i + length (clauseWords text names′ l j (ks .one) .is)) (ks .two)
 
               abbrev parts : List (List ℕ)
               parts = map (commandWords (wordsOf ws) (wordsOf vs) (l .shared)) xs
@@ -190,18 +258,10 @@ module _ (text : List ℕ) (s : Arrays) (head : Declared) (names′ : List ℕ) 
               ends-front : ends′ ≡ sets (s .ends) 0 (clausesEnds 0 0)
               ends-front = claused .ends ∙ ap (λ (j : ℕ). sets (s .ends) 0 (clausesEnds j (c .emitted))) from-zero ∙ ap (λ (i : ℕ). sets (s .ends) 0 (clausesEnds 0 i)) from-front
 
-              four-ends : 4 + l .commands ≡ 0 + length (clausesEnds 0 0)
-              four-ends = omega (
-                arith,
-                none-yet,
-                length-append (clauseEnds text names′ l 0 0 (ks .one)) (clauseEnds text names′ l (clauseWords text names′ l 0 (ks .one) .next) (0 + length (clauseWords text names′ l 0 (ks .one) .is)) (ks .two)),
-                two-ends text names′ l 0 0 (ks .one),
-                two-ends text names′ l (clauseWords text names′ l 0 (ks .one) .next) (0 + length (clauseWords text names′ l 0 (ks .one) .is)) (ks .two),
-              )
-
               ends-stored : t .ends ≡ sets (s .ends) 0 (layoutOf (modelOf x) .ends)
               ends-stored =
-                  stores (s .ends) ends′ (t .ends) 0 (4 + l .commands) (clausesEnds 0 0) (endsFrom (0 + length (clauseCode 0)) parts) ends-front four-ends (ap (λ (z : Arrays). z .ends) stored ∙ ap (λ (i : ℕ). sets ends′ (4 + l .commands) (endsFrom i parts)) place-is)
+                  stores (s .ends) ends′ (t .ends) 0 (4 + l .commands) (clausesEnds 0 0) (endsFrom (0 + length (clauseCode 0)) parts) ends-front (four-ends 0 0)
+                  (ap (λ (z : Arrays). z .ends) stored ∙ ap (λ (i : ℕ). sets ends′ (4 + l .commands) (endsFrom i parts)) place-is)
                   ∙ ap (λ (z : List ℕ). sets (s .ends) 0 z) (ends-layout text names′ l ws vs (headed .shared) (headed .row) shared-is xs (ks .one) (ks .two) regular)
 
               stars-stored : t .stars ≡ sets (s .stars) 0 (layoutOf (modelOf x) .stars)

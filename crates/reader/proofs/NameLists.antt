@@ -22,8 +22,9 @@ use Rattle.reader.specs.working.Names.{sharedWords, rowWords}
 use Rattle.reader.specs.working.Cursors.{bookOf, moved}
 use Rattle.reader.specs.working.Items.{kindOf}
 use Rattle.reader.specs.Read.{placed}
-use Rattle.reader.specs.working.Clauses.{grown, Listing, nameAt, listAt, Noted, NameSays, NamesSay}
+use Rattle.reader.specs.working.Clauses.{grown, Listing, nameAt, listAt, Noted, WroteNames, NameSays, NamesSay}
 use Rattle.reader.proofs.Symbols.{listed-name, passed-by}
+use Rattle.reader.proofs.Answers.{Past, is-past}
 use Rattle.reader.proofs.Declaring.{shared-more, row-more}
 
 -- ---- one name behind others: the array, the ledger and the words
@@ -34,6 +35,17 @@ placed-append [] vs names i = rw add-zero
 placed-append (w ∷ ws) vs names i =
     let next : List ℕ = set (set names i (w .place)) (28 + i) (length (w .word)) in
     placed-append ws vs next (suc i) ∙ ap (λ (k : ℕ). placed (placed next (suc i) ws) k vs) (omega arith)
+
+-- What a refusal leaves of the names: nothing more than before, or names behind others that were stored.
+pub named-same : {i : ℕ} {p a : List ℕ} → a ≡ p → WroteNames i p a
+unfolding placed
+named-same e = record { names = []; is = e }
+
+pub named-behind : (p b m : List ℕ) (e c : ℕ) (ws : List Name) → b ≡ placed p e ws → c ≡ e + length ws → WroteNames c b m → WroteNames e p m
+named-behind p b m e c ws h k w = record {
+  names = ws ++ w .names;
+  is = w .is ∙ ap (λ (x : List ℕ). placed x c (w .names)) h ∙ ap (λ (i : ℕ). placed (placed p e ws) i (w .names)) k ∙ sym (placed-append ws (w .names) p e);
+}
 
 grown-none : (rows : Bool) (l : Ledger) → l ≡ grown rows 0 l
 grown-none true l = rw add-zero
@@ -130,8 +142,9 @@ module _ (text : List ℕ) (rows : Bool) where
       pub rest-bad : (n i : ℕ) → one ≡ D.Refused n i → NamesSay text names₀ l₀ rows c₀ (listAt text names₀ l₀ rows c₀) m one
       unfolding NameSays NamesSay
       rest-bad n i e =
+          let k : NameSays text names l rows c m (D.Refused n i) = subst (λ (x : Declared). NameSays text names l rows c m x) e s in
           subst (λ (x : Declared). NamesSay text names₀ l₀ rows c₀ (listAt text names₀ l₀ rows c₀) m x) (sym e)
-          (goes ∙ ap (λ (g : Got Name). after ws (all g)) (subst (λ (x : Declared). NameSays text names l rows c m x) e s))
+          (goes ∙ ap (λ (g : Got Name). after ws (all g)) (k .0), record { names = ws; is = k .1 ∙ h .noted .stored })
 
       module _ (d : Cursor) (l′ : Ledger) (e : one ≡ D.Ok d l′) where
         abbrev w : Name
@@ -153,6 +166,7 @@ module _ (text : List ℕ) (rows : Bool) where
         unfolding NameSays
         rest-more =
             let stored = said .1 .0 in
+            let past : Past text c (c .items) (c .nodes) (c .stars) d = is-past (said .1 .1 .1 .0) in
             let ledger = said .1 .1 .0 in
             let g = h .noted .listing in
             let wordsAre : wordsOf ws ++ w .word ∷ [] ≡ wordsOf (ws ++ w ∷ []) = sym (map-append (λ (v : Name). v .word) ws (w ∷ [])) in
@@ -167,7 +181,7 @@ module _ (text : List ℕ) (rows : Bool) where
                     ∙ more-words rows (sharedWords text names₀ l₀) [] (wordsOf ws) [] (w .word ∷ []) ∙ ap (λ (v : List Word). sharedWords text names₀ l₀ ++ cond rows [] v) wordsAre;
                 rowAre = row-more text names l rows c g m l′ stored ledger ∙ ap (λ (v : List Word). v ++ cond rows (w .word ∷ []) []) (h .noted .rowAre)
                     ∙ more-words rows (rowWords text names₀ l₀) (wordsOf ws) [] (w .word ∷ []) [] ∙ ap (λ (v : List Word). rowWords text names₀ l₀ ++ cond rows v []) wordsAre;
-                same = said .1 .1 .1 .0 .is ∙ ap (λ (z : Cursor). moved (d .next) z (z .items) (z .nodes) (z .stars)) (h .noted .same);
+                same = past .is ∙ ap (λ (z : Cursor). moved (d .next) z (z .items) (z .nodes) (z .stars)) (h .noted .same);
                 listing = said .1 .1 .1 .1;
               };
               says = goes ∙ ap (λ (g : Got Name). after ws (all g)) (said .0) ∙ after-one ws w (listAt text m l′ rows d);
@@ -186,6 +200,6 @@ module _ (text names : List ℕ) (l : Ledger) (rows : Bool) (c : Cursor) (g : Go
   unfolding NamesSay
   listed-ok d l′ e = subst (λ (x : Declared). NamesSay text names l rows c g m x) e h
 
-  pub listed-bad : (n i : ℕ) → r ≡ D.Refused n i → g ≡ stop n i
+  pub listed-bad : (n i : ℕ) → r ≡ D.Refused n i → (g ≡ stop n i) × WroteNames (l .shared + l .row) names m
   unfolding NamesSay
   listed-bad n i e = subst (λ (x : Declared). NamesSay text names l rows c g m x) e h

@@ -24,13 +24,15 @@ use Rattle.reader.specs.declared.cursor.Cursor.{Cursor}
 use Rattle.reader.specs.declared.cursor.Ledger.{Ledger}
 use Rattle.reader.specs.declared.cursor.Scope.{Scope}
 use Rattle.reader.specs.declared.cursor.Parsed.{Parsed}
+use Rattle.reader.specs.declared.cursor.Parsed.the-variants.{Refused}
 use Rattle.reader.specs.working.Pieces.{nameIn}
 use Rattle.reader.specs.working.Names.{wordsIn, sharedWords, rowWords, namesKept}
 use Rattle.reader.specs.working.Cursors.{modeOf, bookOf, Ready}
-use Rattle.reader.specs.working.Expressions.{exprWords, SaysExpr, factorAt, Leaf}
+use Rattle.reader.specs.working.Expressions.{exprWords, SaysOperand, factorAt, Leaf, Kept}
 use Rattle.reader.proofs.Books.{constant-full, constant-fits, chance-barred, chance-many, chance-full, chance-fits, uses-unknown, uses-full, uses-fits, note-constant, note-chance, note-uses}
 use Rattle.reader.proofs.Symbols.{zero-is, one-is, star-is, name-is}
 use Rattle.reader.proofs.Lookup.{words-length, words-append, place-among, place-le, place-front, place-append, among-append, shared-name, table-name}
+use Rattle.reader.proofs.Done.{wrote-none, says-bad}
 use Rattle.reader.proofs.Factors.{leaf-says}
 
 -- ---- the name that a look-up finds
@@ -115,23 +117,28 @@ module _ (text names : List ℕ) (sc : Scope) (l : Ledger) (depth : ℕ) (c : Cu
   G = factorAt text names sc l depth c
 
   module _ (p a : List ℕ) (y : Parsed) where
-    pub zero-says : t .kind ≡ 15 → Leaf text c 0 (c .stars) p a y → SaysExpr text names l c p G a y
+    pub zero-says : t .kind ≡ 15 → Leaf text c 0 (c .stars) p a y → SaysOperand text names l c p G a y
     unfolding exprWords exprOf exprCode
     zero-says u h =
         leaf-says text names sc l depth c r constant (sign 15) false′ 0 (c .stars) p a y (zero-is text t (length text) m (16 - depth) (bookOf text names l c) u)
         (constant-full text names l c (sign 15)) (constant-fits text names l c (sign 15)) (λ v. note-constant text names l c v (sign 15)) refl refl (r .stars) h
 
-    pub one-says : t .kind ≡ 16 → Leaf text c 1 (c .stars) p a y → SaysExpr text names l c p G a y
+    pub one-says : t .kind ≡ 16 → Leaf text c 1 (c .stars) p a y → SaysOperand text names l c p G a y
     unfolding exprWords exprOf exprCode
     one-says u h =
         leaf-says text names sc l depth c r constant (sign 16) true′ 1 (c .stars) p a y (one-is text t (length text) m (16 - depth) (bookOf text names l c) u)
         (constant-full text names l c (sign 16)) (constant-fits text names l c (sign 16)) (λ v. note-constant text names l c v (sign 16)) refl refl (r .stars) h
 
-    pub star-says : t .kind ≡ 17 → sc .stars ≡ true → c .stars < 8 → Leaf text c (64 + c .stars) (c .stars + 1) p a y → SaysExpr text names l c p G a y
+    pub star-says : t .kind ≡ 17 → sc .stars ≡ true → c .stars < 8 → Leaf text c (64 + c .stars) (c .stars + 1) p a y → SaysOperand text names l c p G a y
     unfolding exprWords exprOf exprCode
     star-says u s k h =
         leaf-says text names sc l depth c r (chance m) (sign 17) star′ (64 + c .stars) (c .stars + 1) p a y (star-is text t (length text) m (16 - depth) (bookOf text names l c) u)
         (chance-full text names l c (sign 17) m s) (λ n. chance-fits text names l c (sign 17) m s k n) (λ v. note-chance text names l c v m (sign 17)) refl (sym (add-one (c .stars))) (omega arith) h
+
+  -- Refused, with nothing stored.
+  pub operand-bad : (p : List ℕ) (n i : ℕ) → G ≡ stop n i → SaysOperand text names l c p G p (Refused n i)
+  unfolding Kept
+  operand-bad p n i e = (says-bad text names l (exprWords text names l) 0 c p G p n i e wrote-none, refl)
 
   pub star-barred : t .kind ≡ 17 → sc .stars ≡ false → G ≡ stop 6 (t .start)
   star-barred u s = star-is text t (length text) m (16 - depth) (bookOf text names l c) u ∙ ap (λ (o : Option ℕ). ruling (t .start) o (got star′ (tokensFrom text (t .end)) (note (bookOf text names l c) (part (chance m) (sign 17))))) (chance-barred text names l c (sign 17) m s)
@@ -146,7 +153,7 @@ module _ (text names : List ℕ) (sc : Scope) (l : Ledger) (depth : ℕ) (c : Cu
         name-is text t (length text) m (16 - depth) (bookOf text names l c) u
         ∙ ap (λ (o : Option ℕ). ruling (t .start) o (got (name′ (nameIn text t)) (tokensFrom text (t .end)) (note (bookOf text names l c) (part (uses m) (name (nameIn text t)))))) (uses-unknown text names l c (nameIn text t) m (seen text names l (nameIn text t .word) sc n e ∙ found-out (nameIn text t .word) (wordsIn text names 0 n) n i (words-length text names 0 n) h z))
 
-    pub name-says : (p a : List ℕ) (y : Parsed) → (i ≡ n → ⊥) → Leaf text c (32 + i) (c .stars) p a y → SaysExpr text names l c p G a y
+    pub name-says : (p a : List ℕ) (y : Parsed) → (i ≡ n → ⊥) → Leaf text c (32 + i) (c .stars) p a y → SaysOperand text names l c p G a y
     unfolding exprWords exprOf
     name-says p a y z k =
         let f = found-in (nameIn text t .word) (wordsIn text names 0 n) n i (words-length text names 0 n) h z in

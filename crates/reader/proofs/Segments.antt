@@ -24,12 +24,12 @@ use Rattle.reader.specs.declared.cursor.Scope.{Scope}
 use Rattle.reader.specs.declared.cursor.Parsed.{Parsed}
 use Rattle.reader.specs.declared.cursor.Parsed.the-variants.{Ok, Refused}
 use Rattle.reader.specs.working.Pieces.{listed}
-use Rattle.reader.specs.working.Cursors.{modeOf, bookOf, Expected, Ready, Done, Says}
+use Rattle.reader.specs.working.Cursors.{modeOf, bookOf, Expected, Ready, Done, Wrote, Says}
 use Rattle.reader.specs.working.Expressions.{exprWords, SaysExpr, orAt}
 use Rattle.reader.specs.working.Clauses.{fixedIn, segmentAt, SegmentSays, clauseWords, clauseEnds, clauseAt, ClauseSays}
 use Rattle.reader.proofs.Symbols.{listed-sign, missing, lit-missing}
-use Rattle.reader.proofs.Done.{said-ok, said-bad, done-ready, then-bad}
-use Rattle.reader.proofs.Answers.{expected-said}
+use Rattle.reader.proofs.Done.{wrote-none, wrote-same, said-ok, said-bad, done-wrote, done-then, done-ready, then-bad}
+use Rattle.reader.proofs.Answers.{expected-said, is-past}
 use Rattle.reader.proofs.Factors.{expected-ok, expected-bad}
 use Rattle.reader.specs.working.Sequences.{Pair, pairOf, paired, pairing, signedBy}
 use Rattle.reader.proofs.Sequences.{says-pair, pair-bad, says-map, sign-done, sign-stops, says-from}
@@ -41,7 +41,7 @@ module _ (text names : List ℕ) (l : Ledger) where
   says-sign : {A : Type 0} (code : ℕ → A → Numbered (List ℕ)) (x : ℕ) (s : Cursor) (p : List ℕ) (g : Got A) (a : List ℕ) (c : Cursor) (k : ℕ) (y : Parsed) → k < 24 →
       Done text names l code x s p g a c → Expected text c k y → Says text names l code x s p (signedBy (length text) k g) a y
   unfolding Says
-  says-sign code x s p g a c k (Refused n i) h d e = sign-stops text names l code x s p g a k c n i d e
+  says-sign code x s p g a c k (Refused n i) h d e = (sign-stops text names l code x s p g a k c n i d e, done-wrote text names l code x s p g a c d)
   says-sign code x s p g a c k (Ok v) h d e = sign-done text names l code x s p g a k h c v d e
 
 -- ---- a segment
@@ -58,19 +58,20 @@ module _ (text names : List ℕ) (l : Ledger) (rows : Bool) (kind i : ℕ) (c : 
   unfolding SegmentSays
   segment-ok a e′ y d h f = subst (λ (z : Parsed). SaysAt a e′ z) f h
 
-  segment-bad : (a e′ : List ℕ) (y : Parsed) (n j : ℕ) → SaysAt a e′ y → y ≡ Refused n j → At ≡ stop n j
+  segment-bad : (a e′ : List ℕ) (y : Parsed) (n j : ℕ) → SaysAt a e′ y → y ≡ Refused n j → (At ≡ stop n j) × (Wrote (c .emitted) p a × (e′ ≡ e))
   unfolding SegmentSays
   segment-bad a e′ y n j h f = subst (λ (z : Parsed). SaysAt a e′ z) f h
 
-  segment-stops : (a e′ : List ℕ) (y : Parsed) (n j : ℕ) → y ≡ Refused n j → At ≡ stop n j → SaysAt a e′ y
+  segment-stops : (a : List ℕ) (y : Parsed) (n j : ℕ) → y ≡ Refused n j → At ≡ stop n j → Wrote (c .emitted) p a → SaysAt a e y
   unfolding SegmentSays
-  segment-stops a e′ y n j f h = subst (λ (z : Parsed). SaysAt a e′ z) (sym f) h
+  segment-stops a y n j f h w = subst (λ (z : Parsed). SaysAt a e z) (sym f) (h, (w, refl))
 
   module _ (r : Ready text l 0 c) (small : kind < 24) (sign : Parsed) (h : Expected text c kind sign) where
-    pub sign-bad : (a e′ : List ℕ) (n j : ℕ) → sign ≡ Refused n j → SaysAt a e′ sign
-    sign-bad a e′ n j f =
-        segment-stops a e′ sign n j f
+    pub sign-bad : (n j : ℕ) → sign ≡ Refused n j → SaysAt p e sign
+    sign-bad n j f =
+        segment-stops p sign n j f
         (then-bad (λ u ts b. orReader (length text) (fixedIn rows) 0 ts b) _ At n j refl (expected-bad text names l c kind n j (r .fresh) (expected-said text c kind sign (Refused n j) h f)))
+        wrote-none
 
     module _ (v : Cursor) (f : sign ≡ Ok v) where
       abbrev sc : Scope
@@ -97,10 +98,12 @@ module _ (text names : List ℕ) (l : Ledger) (rows : Bool) (kind i : ℕ) (c : 
         unfolding Expected
         signed-says =
             subst (λ (o : Got Expr). SaysExpr text names l c p o a read) (sym goes)
-            (says-from text names l (exprWords text names l) 0 0 c v (c .items) (c .nodes) p (orAt text names sc l 16 v) a read (there .1) (omega arith) (omega arith) (omega arith) q)
+            (says-from text names l (exprWords text names l) 0 0 c v (c .items) (c .nodes) p (orAt text names sc l 16 v) a read (is-past (there .1)) (omega arith) (omega arith) (omega arith) q)
 
-        pub read-bad : (e′ : List ℕ) (n j : ℕ) → read ≡ Refused n j → SaysAt a e′ read
-        read-bad e′ n j g = segment-stops a e′ read n j g (said-bad text names l (exprWords text names l) 0 c p At a read n j signed-says g)
+        pub read-bad : (n j : ℕ) → read ≡ Refused n j → SaysAt a e read
+        read-bad n j g =
+            let k = said-bad text names l (exprWords text names l) 0 c p At a read n j signed-says g in
+            segment-stops a read n j g (k .0) (k .1)
 
         module _ (d : Cursor) (g : read ≡ Ok d) where
           done : Done text names l (exprWords text names l) 0 c p At a d
@@ -148,13 +151,16 @@ module _ (text names : List ℕ) (l : Ledger) (kind i : ℕ) (c : Cursor) (r : R
           missing text (c .next) (T.clause kind) (bookOf text names l c) (r .fresh) refl (rw (ne-eqb kind (c .next .kind) (λ z. k (sym z))) refl) (λ z. refl)
           ∙ ap (λ (o : Got (Unit {0})). ended (pairing (thenReads o (λ u ts b. orReader (length text) fixedShared 0 ts b)) each)) (sym (lit-missing text (c .next) kind (bookOf text names l c) (r .fresh) k))
 
-  clause-stops : (p e a e′ : List ℕ) (y : Parsed) (n j : ℕ) → y ≡ Refused n j → both ≡ stop n j → ClauseSays text names l kind i c p e a e′ y
+  clause-stops : (p e a e′ : List ℕ) (y : Parsed) (n j : ℕ) → y ≡ Refused n j → both ≡ stop n j → Wrote (c .emitted) p a → Wrote i e e′ →
+      ClauseSays text names l kind i c p e a e′ y
   unfolding ClauseSays
-  clause-stops p e a e′ y n j f h = subst (λ (z : Parsed). ClauseSays text names l kind i c p e a e′ z) (sym f) (clause-is ∙ ap ended h)
+  clause-stops p e a e′ y n j f h w v = subst (λ (z : Parsed). ClauseSays text names l kind i c p e a e′ z) (sym f) (clause-is ∙ ap ended h, (w, v))
 
   module _ (p e a₁ e₁ : List ℕ) (whole : Parsed) (s₁ : SegmentSays text names l false kind i c p e a₁ e₁ whole) where
     pub whole-bad : (n j : ℕ) → whole ≡ Refused n j → ClauseSays text names l kind i c p e a₁ e₁ whole
-    whole-bad n j f = clause-stops p e a₁ e₁ whole n j f (pair-bad text names l (segmentAt text names l false kind c) each n j (segment-bad text names l false kind i c p e a₁ e₁ whole n j s₁ f))
+    whole-bad n j f =
+        let k = segment-bad text names l false kind i c p e a₁ e₁ whole n j s₁ f in
+        clause-stops p e a₁ e₁ whole n j f (pair-bad text names l (segmentAt text names l false kind c) each n j (k .0)) (k .1 .0) (wrote-same (k .1 .1) wrote-none)
 
     module _ (m : Cursor) (f₁ : whole ≡ Ok m) where
       -- What the first segment gave; the second follows below.
@@ -167,8 +173,11 @@ module _ (text names : List ℕ) (l : Ledger) (kind i : ℕ) (c : Cursor) (r : R
       module _ (a₂ e₂ : List ℕ) (last : Parsed) (s₂ : SegmentSays text names l true 4 (i + 1) m a₁ e₁ a₂ e₂ last) where
         pub each-bad : (n j : ℕ) → last ≡ Refused n j → ClauseSays text names l kind i c p e a₂ e₂ last
         each-bad n j f =
+            let k = segment-bad text names l true 4 (i + 1) m a₁ e₁ a₂ e₂ last n j s₂ f in
             clause-stops p e a₂ e₂ last n j f
-            (ap (λ (o : Got Expr). pairing o each) (first .0 .says) ∙ ap (λ (o : Got Expr). thenReads o (λ v ts b. got (pairOf (first .0 .tree) v) ts b)) (segment-bad text names l true 4 (i + 1) m a₁ e₁ a₂ e₂ last n j s₂ f))
+            (ap (λ (o : Got Expr). pairing o each) (first .0 .says) ∙ ap (λ (o : Got Expr). thenReads o (λ v ts b. got (pairOf (first .0 .tree) v) ts b)) (k .0))
+            (done-then text names l words 0 c p (segmentAt text names l false kind c) a₁ m a₂ (first .0) (k .1 .0))
+            (record { words = m .emitted ∷ []; is = k .1 .1 ∙ first .1 })
 
         module _ (d : Cursor) (f₂ : last ≡ Ok d) where
           second : Done text names l words 0 m a₁ (segmentAt text names l true 4 m) a₂ d × (e₂ ≡ set e₁ (i + 1) (d .emitted))
@@ -200,7 +209,9 @@ module _ (text names : List ℕ) (l : Ledger) (kind i : ℕ) (c : Cursor) (r : R
 
           pub clause-says : (y : Parsed) → Expected text d 18 y → ClauseSays text names l kind i c p e a₂ e₂ y
           unfolding Says ClauseSays
-          clause-says (Refused n j) h = says-all (Refused n j) h
+          clause-says (Refused n j) h =
+              let k : Says text names l (clauseWords text names l) 0 c p (clauseAt text names l kind c) a₂ (Refused n j) = says-all (Refused n j) h in
+              (k .0, (k .1, record { words = clauseEnds text names l (c .stars) (c .emitted) tree; is = ends-are }))
           clause-says (Ok v) h =
               let q : Done text names l (clauseWords text names l) 0 c p (clauseAt text names l kind c) a₂ v = says-all (Ok v) h in
               let same : q .tree ≡ tree = cc (q .says, tree-is v h) in

@@ -15,12 +15,12 @@ use Rattle.reader.specs.declared.cursor.Ledger.{Ledger}
 use Rattle.reader.specs.declared.cursor.Parsed.{Parsed}
 use Rattle.reader.specs.declared.cursor.Parsed.the-variants.{Ok, Refused}
 use Rattle.reader.specs.working.Pieces.{listed}
-use Rattle.reader.specs.working.Cursors.{bookOf, emitted, Past, Expected, Ready, Done, Says}
+use Rattle.reader.specs.working.Cursors.{bookOf, emitted, Expected, Ready, Done, Says}
 use Rattle.reader.specs.working.Expressions.{roomed}
 use Rattle.reader.specs.working.Items.{withWord, Marked}
 use Rattle.reader.specs.working.Sequences.{pairOf, paired, pairing, signedBy}
-use Rattle.reader.proofs.Done.{stores}
-use Rattle.reader.proofs.Answers.{expected-said}
+use Rattle.reader.proofs.Done.{stores, wrote-same, wrote-from, done-wrote, done-then}
+use Rattle.reader.proofs.Answers.{Past, expected-said, is-past}
 use Rattle.reader.proofs.Factors.{expected-ok, expected-bad}
 
 module _ (text names : List ℕ) (l : Ledger) where
@@ -51,7 +51,8 @@ module _ (text names : List ℕ) (l : Ledger) where
     pub says-pair : (a : List ℕ) (r : Parsed) → Says text names l more y c b (h (listed text (c .next)) (bookOf text names l c)) a r → Says text names l (paired code more) (x + y) s p (pairing g h) a r
     unfolding Says
     says-pair a (Ok e) q = pair-done a e q
-    says-pair a (Refused n i) q = ap (λ (o : Got A). pairing o h) (d .says) ∙ ap (λ (o : Got B). thenReads o (λ v ts b. got (pairOf (d .tree) v) ts b)) q
+    says-pair a (Refused n i) q =
+        (ap (λ (o : Got A). pairing o h) (d .says) ∙ ap (λ (o : Got B). thenReads o (λ v ts b. got (pairOf (d .tree) v) ts b)) (q .0), done-then text names l code x s p g b c a d (q .1))
 
   -- Where the first was refused, both are.
   pub pair-bad : {A B : Type 0} (g : Got A) (h : List Lexeme → Book → Got B) (n i : ℕ) → g ≡ stop n i → pairing g h ≡ stop n i
@@ -61,7 +62,7 @@ module _ (text names : List ℕ) (l : Ledger) where
   pub says-map : {A B : Type 0} (code : ℕ → A → Numbered (List ℕ)) (code′ : ℕ → B → Numbered (List ℕ)) (x : ℕ) (s : Cursor) (p : List ℕ) (g : Got A) (G : Got B) (f : A → B) (a : List ℕ) (r : Parsed) →
       G ≡ thenReads g (λ v ts b. got (f v) ts b) → ((v : A) → code′ (s .stars) (f v) ≡ code (s .stars) v) → Says text names l code x s p g a r → Says text names l code′ x s p G a r
   unfolding Says
-  says-map code code′ x s p g G f a (Refused n i) e same h = e ∙ ap (λ (o : Got _). thenReads o (λ v ts b. got (f v) ts b)) h
+  says-map code code′ x s p g G f a (Refused n i) e same h = (e ∙ ap (λ (o : Got _). thenReads o (λ v ts b. got (f v) ts b)) (h .0), h .1)
   says-map code code′ x s p g G f a (Ok c) e same h = record {
     tree = f (h .tree);
     says = e ∙ ap (λ (o : Got _). thenReads o (λ v ts b. got (f v) ts b)) (h .says);
@@ -82,10 +83,11 @@ module _ (text names : List ℕ) (l : Ledger) where
       Done text names l code x s p g b c → Expected text c k (Ok v) → Done text names l code x s p (signedBy (length text) k g) b v
   unfolding Expected
   sign-done code x s p g b k small c v d e =
-      let same : v .emitted ≡ c .emitted = ap (λ (z : Cursor). z .emitted) (e .1 .is) in
-      let stars : v .stars ≡ c .stars = ap (λ (z : Cursor). z .stars) (e .1 .is) in
-      let nodes : v .nodes ≡ c .nodes = ap (λ (z : Cursor). z .nodes) (e .1 .is) in
-      let items : v .items ≡ c .items = ap (λ (z : Cursor). z .items) (e .1 .is) in
+      let q : Past text c (c .items) (c .nodes) (c .stars) v = is-past (e .1) in
+      let same : v .emitted ≡ c .emitted = ap (λ (z : Cursor). z .emitted) (q .is) in
+      let stars : v .stars ≡ c .stars = ap (λ (z : Cursor). z .stars) (q .is) in
+      let nodes : v .nodes ≡ c .nodes = ap (λ (z : Cursor). z .nodes) (q .is) in
+      let items : v .items ≡ c .items = ap (λ (z : Cursor). z .items) (q .is) in
       record {
         tree = d .tree;
         says = ap (λ (o : Got _). signedBy (length text) k o) (d .says) ∙ ap (λ (o : Got (Unit {0})). thenReads o (λ u ts b. got (d .tree) ts b)) (expected-ok text names l c k v small e);
@@ -98,7 +100,7 @@ module _ (text names : List ℕ) (l : Ledger) where
         nodes = omega (arith, d .nodes);
         items = omega (arith, d .items);
         stars = omega (arith, d .stars);
-        fresh = e .1 .next .fresh;
+        fresh = q .next .fresh;
       }
 
   -- The sign is missing.
@@ -130,8 +132,9 @@ module _ (text names : List ℕ) (l : Ledger) where
   module _ {A : Type 0} (code : ℕ → A → Numbered (List ℕ)) (x : ℕ) (s : Cursor) (p : List ℕ) (g : Got A) (b : List ℕ) (kind word : ℕ) (small : kind < 24) where
     pub says-mark : (a : List ℕ) (q r : Parsed) → Says text names l code x s p g b q → Marked text kind word q b a r → Says text names l (withWord code word) (x + 1) s p (signedBy (length text) kind g) a r
     unfolding Says Marked
-    says-mark a (Refused n i) r h e = subst (λ (z : Parsed). Says text names l (withWord code word) (x + 1) s p (signedBy (length text) kind g) a z) (sym e) (ap (λ (o : Got A). signedBy (length text) kind o) h)
-    says-mark a (Ok c) (Refused n i) h e = sign-stops code x s p g b kind c n i h e
+    says-mark a (Refused n i) r h e = subst (λ (z : Parsed). Says text names l (withWord code word) (x + 1) s p (signedBy (length text) kind g) a z) (sym (e .0))
+        (ap (λ (o : Got A). signedBy (length text) kind o) (h .0), wrote-same (e .1) (h .1))
+    says-mark a (Ok c) (Refused n i) h e = (sign-stops code x s p g b kind c n i h (e .0), wrote-same (e .1) (done-wrote text names l code x s p g b c h))
     says-mark a (Ok c) (Ok d) h e =
         subst (λ (z : List ℕ). Done text names l (withWord code word) (x + 1) s p (signedBy (length text) kind g) z d) (sym (e .1 .1 .1))
         (subst (λ (z : Cursor). Done text names l (withWord code word) (x + 1) s p (signedBy (length text) kind g) (set b (e .0 .emitted) word) z) (sym (e .1 .1 .0)) (word-done code x s p (signedBy (length text) kind g) b word (e .0) (sign-done code x s p g b kind small c (e .0) h (e .1 .0))))
@@ -146,7 +149,7 @@ module _ (text names : List ℕ) (l : Ledger) where
   pub says-from : {A : Type 0} (code : ℕ → A → Numbered (List ℕ)) (x y : ℕ) (c d : Cursor) (items nodes : ℕ) (p : List ℕ) (g : Got A) (a : List ℕ) (r : Parsed) → Past text c items nodes (c .stars) d →
       c .nodes ≤ nodes → c .items ≤ items → x + (c .nodes + 3 * c .items) ≤ y + (nodes + 3 * items) → Says text names l code x d p g a r → Says text names l code y c p g a r
   unfolding Says
-  says-from code x y c d items nodes p g a (Refused n i) q u v w h = h
+  says-from code x y c d items nodes p g a (Refused n i) q u v w h = (h .0, wrote-from (ap (λ (z : Cursor). z .emitted) (q .is)) (h .1))
   says-from code x y c d items nodes p g a (Ok e) q u v w h =
       let same : d .emitted ≡ c .emitted = ap (λ (z : Cursor). z .emitted) (q .is) in
       let from : d .stars ≡ c .stars = ap (λ (z : Cursor). z .stars) (q .is) in
@@ -189,4 +192,4 @@ module _ (text names : List ℕ) (l : Ledger) where
   -- A reader may be called past a sign.
   pub sign-ready : (spare k : ℕ) (c d : Cursor) (sign : Parsed) → Ready text l spare c → Expected text c k sign → sign ≡ Ok d → Ready text l spare d
   unfolding Expected
-  sign-ready spare k c d sign r h f = past-ready spare spare c d (c .items) (c .nodes) (c .stars) r (expected-said text c k sign (Ok d) h f .1) (r .items) (r .nodes) (r .stars) (r .room)
+  sign-ready spare k c d sign r h f = past-ready spare spare c d (c .items) (c .nodes) (c .stars) r (is-past (expected-said text c k sign (Ok d) h f .1)) (r .items) (r .nodes) (r .stars) (r .room)

@@ -16,11 +16,14 @@ use Rattle.notation.specs.working.Descent.{Got, got, stop, thenReads, ruling}
 use Rattle.reader.specs.declared.pieces.Piece.{Piece}
 use Rattle.reader.specs.declared.cursor.Cursor.{Cursor}
 use Rattle.reader.specs.declared.cursor.Ledger.{Ledger}
+use Rattle.reader.specs.declared.cursor.Parsed.{Parsed}
+use Rattle.reader.specs.declared.cursor.Parsed.the-variants.{Refused}
 use Rattle.reader.specs.working.Pieces.{listed}
-use Rattle.reader.specs.working.Cursors.{bookOf, Past, Ready, Done}
+use Rattle.reader.specs.working.Cursors.{bookOf, Ready, Done, Says}
+use Rattle.reader.proofs.Answers.{Past}
 use Rattle.reader.proofs.Books.{quiet-fits, note-quiet}
 use Rattle.reader.proofs.Symbols.{listed-sign}
-use Rattle.reader.proofs.Done.{stores, done-ready}
+use Rattle.reader.proofs.Done.{stores, wrote-from, said-bad, says-same, says-alike, done-then, done-ready}
 use Rattle.reader.proofs.Sequences.{past-ready}
 
 -- A list of things: the reader of one and of the rest, and their codes.
@@ -76,8 +79,8 @@ module _ {A : Type 0} (text names : List ℕ) (l : Ledger) (K : Series A text na
   abbrev all : Got A → Got (List A)
   all g = thenReads g (λ x ts b. thenReads (K .more ts b) (λ xs ts b. got (x ∷ xs) ts b))
 
-  pub first-bad : (g : Got A) (n i : ℕ) → g ≡ stop n i → all g ≡ stop n i
-  first-bad g n i e = ap (λ (o : Got A). all o) e
+  pub first-bad : (s : Cursor) (p : List ℕ) (g : Got A) (b : List ℕ) (r : Parsed) (n i : ℕ) → Says text names l (K .word) 0 s p g b r → r ≡ Refused n i → Says text names l (K .words) 0 s p (all g) b r
+  first-bad s p g b r n i h e = says-alike text names l (K .word) 0 (K .words) 0 s p g (all g) b r n i h e (λ z. ap (λ (o : Got A). all o) z)
 
   module _ (s : Cursor) (p : List ℕ) (g : Got A) (b : List ℕ) (c : Cursor) (d : ReadOne s p g b c) where
     pub rest-first : Rest s p (all g) b c
@@ -135,8 +138,11 @@ module _ {A : Type 0} (text names : List ℕ) (l : Ledger) (K : Series A text na
           ∙ ap (λ (v : Book). then (K .one (tokensFrom text (c .next .end)) v)) (note-quiet text names l c (d .next) (sign 19) ∙ ap (bookOf text names l) (sym (q .is)))
           ∙ ap (λ (ts : List Lexeme). then (K .one ts (bookOf text names l d))) (q .next .tokens)
 
-      pub rest-bad : (n i : ℕ) → next ≡ stop n i → g ≡ stop n i
-      rest-bad n i e = goes ∙ ap then e
+      pub rest-bad : (m : List ℕ) (r : Parsed) (n i : ℕ) → Says text names l (K .word) 0 d b next m r → r ≡ Refused n i → Says text names l (K .words) 0 s p g m r
+      rest-bad m r n i z e =
+          let k = said-bad text names l (K .word) 0 d b next m r n i z e in
+          says-same text names l (K .words) 0 s p g m r n i e (goes ∙ ap then (k .0))
+          (done-then text names l (K .words) 0 s p (h .o) b c m (h .done) (wrote-from (ap (λ (z : Cursor). z .emitted) (q .is)) (k .1)))
 
       pub rest-more : (m : List ℕ) (v : Cursor) → ReadOne d b next m v → Rest s p g m v
       rest-more m v e =

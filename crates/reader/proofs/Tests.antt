@@ -18,7 +18,7 @@ use Rattle.reader.specs.working.Pieces.{listed}
 use Rattle.reader.specs.working.Cursors.{bookOf, Ready, Done, Says}
 use Rattle.reader.specs.working.Expressions.{exprWords, SaysExpr, roomed}
 use Rattle.reader.specs.working.Items.{withWord, Marked}
-use Rattle.reader.proofs.Done.{said-ok, said-bad, says-same, done-ready}
+use Rattle.reader.proofs.Done.{said-ok, says-alike, done-ready}
 use Rattle.reader.specs.working.Sequences.{Pair, paired, pairing, signedBy, tested, testedWords}
 use Rattle.reader.proofs.Sequences.{says-pair, pair-bad, says-mark, says-roomed, ready-less}
 
@@ -54,8 +54,8 @@ module _ {A : Type 0} (text names : List ℕ) (l : Ledger) (code : ℕ → List 
 
       pub first-bad : (n i : ℕ) → first ≡ Refused n i → Whole a₁ first
       first-bad n i e =
-          says-same text names l (testedWords text names l code) 3 d p (tested (length text) all last g) a₁ first n i e
-          (pair-bad text names l (signedBy (length text) 7 g) branches n i (said-bad text names l testWords 1 d p (signedBy (length text) 7 g) a₁ first n i marked₁ e))
+          says-alike text names l testWords 1 (testedWords text names l code) 3 d p (signedBy (length text) 7 g) (tested (length text) all last g) a₁ first n i marked₁ e
+          (pair-bad text names l (signedBy (length text) 7 g) branches n i)
 
       module _ (yes : Cursor) (e₁ : first ≡ Ok yes) where
         done₁ : Done text names l testWords 1 d p (signedBy (length text) 7 g) a₁ yes
@@ -82,8 +82,9 @@ module _ {A : Type 0} (text names : List ℕ) (l : Ledger) (code : ℕ → List 
             pub second-bad : (n i : ℕ) → second ≡ Refused n i → Whole b₁ second
             second-bad n i e =
                 after-test b₁ second
-                (says-same text names l (paired firstWords lastWords) 2 yes a₁ (branches (listed text (yes .next)) (bookOf text names l yes)) b₁ second n i e
-                (pair-bad text names l (signedBy (length text) 8 (At yes)) ending n i (said-bad text names l firstWords 1 yes a₁ (signedBy (length text) 8 (At yes)) b₁ second n i marked₂ e)))
+                (says-alike text names l firstWords 1 (paired firstWords lastWords) 2 yes a₁ (signedBy (length text) 8 (At yes))
+                (branches (listed text (yes .next)) (bookOf text names l yes)) b₁ second n i marked₂ e
+                (pair-bad text names l (signedBy (length text) 8 (At yes)) ending n i))
 
             module _ (no : Cursor) (e₂ : second ≡ Ok no) where
               done₂ : Done text names l firstWords 1 yes a₁ (signedBy (length text) 8 (At yes)) b₁ no

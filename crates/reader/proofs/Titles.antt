@@ -25,15 +25,16 @@ use Rattle.reader.specs.declared.cursor.Ledger.{Ledger}
 use Rattle.reader.specs.declared.clauses.Declared.the-variants as D
 use Rattle.reader.specs.working.Pieces.{nameIn, listed, Fresh}
 use Rattle.reader.specs.working.Names.{window, wordsIn, sharedWords, rowWords, commandWords, namesKept}
-use Rattle.reader.specs.working.Cursors.{bookOf, Past}
+use Rattle.reader.specs.working.Cursors.{bookOf}
 use Rattle.reader.specs.Read.{placed}
 use Rattle.reader.specs.working.Commands.{withCommands, titleAt, TitleSays}
+use Rattle.reader.proofs.Answers.{Past}
 use Rattle.reader.proofs.Symbols.{listed-name, missing}
 use Rattle.reader.proofs.Lookup.{window-slice, window-length, any-name, found-among, withName, words-kept, words-declared}
 
-pub title-bad : (text names : List ℕ) (l : Ledger) (c : Cursor) (names′ : List ℕ) (n i : ℕ) → titleAt text names l c ≡ stop n i → TitleSays text names l c names′ (D.Refused n i)
+pub title-bad : (text names : List ℕ) (l : Ledger) (c : Cursor) (n i : ℕ) → titleAt text names l c ≡ stop n i → TitleSays text names l c names (D.Refused n i)
 unfolding TitleSays
-title-bad text names l c names′ n i h = h
+title-bad text names l c n i h = (h, refl)
 
 -- ---- the name stored
 

@@ -2,7 +2,7 @@
 ghost use mathlib.Core.Path.{_≡_};
 ghost use Prim.Native.Nat.{_≤_, _<_};
 ghost use Rattle.reader.specs.working.Cursors.{Ready};
-ghost use Rattle.reader.specs.working.Expressions.{SaysExpr, factorAt, andAt, orAt, Leaf, AfterNode, AfterClose, roomed};
+ghost use Rattle.reader.specs.working.Expressions.{SaysExpr, SaysOperand, factorAt, andAt, orAt, Leaf, AfterNode, AfterClose, roomed};
 use crate::cursor::Cursor;
 use crate::cursor::Ledger;
 use crate::cursor::Parsed;
@@ -64,7 +64,7 @@ pub fn operand(
     l: Ledger,
 ) -> Parsed
     requires { ⌜ Ready (now text) l 0 c × ((c .next .kind ≡ 14 → ⊥) × (c .next .kind ≡ 21 → ⊥)) ⌝ }
-    ensures { λ r. ⌜ SaysExpr (now (text .entry)) (now (names .entry)) l c (now (ops .entry)) (factorAt (now (text .entry)) (now (names .entry)) sc l depth c) (now (ops .exit)) r ⌝ }
+    ensures { λ r. ⌜ SaysOperand (now (text .entry)) (now (names .entry)) l c (now (ops .entry)) (factorAt (now (text .entry)) (now (names .entry)) sc l depth c) (now (ops .exit)) r ⌝ }
 {
     let t = c.next;
     let kind = t.kind;

@@ -20,9 +20,9 @@ use Rattle.reader.specs.declared.cursor.Parsed.the-variants.{Ok, Refused
 use Rattle.reader.specs.declared.clauses.Declared.{Declared}
 use Rattle.reader.specs.declared.clauses.Declared.the-variants as D
 use Rattle.reader.specs.Read.{placed}
-use Rattle.reader.specs.working.Pieces.{nameIn, listed, Fresh}
+use Rattle.reader.specs.working.Pieces.{nameIn, listed, Fresh, pieceAt}
 use Rattle.reader.specs.working.Names.{sharedWords, rowWords}
-use Rattle.reader.specs.working.Cursors.{bookOf, Past, Done}
+use Rattle.reader.specs.working.Cursors.{bookOf, moved, Done, Wrote}
 use Rattle.reader.specs.working.Expressions.{exprWords}
 use Rattle.reader.specs.working.Items.{kindOf}
 
@@ -63,17 +63,22 @@ pub record Noted (text names : List ℕ) (l : Ledger) (rows : Bool) (c : Cursor)
   pub same : d ≡ record { next = d .next; emitted = c .emitted; items = c .items; nodes = c .nodes; stars = c .stars }
   pub listing : Listing text names′ l′ rows d
 
--- One name, as a list of one.
+-- What a refusal leaves of the array of names: only from number i on were names stored, what stood below is unchanged.
+pub record WroteNames (i : ℕ) (before after : List ℕ) : Type 0 where
+  pub names : List Name
+  pub is : after ≡ placed before i names
+
+-- One name, as a list of one. It is refused before it is stored.
 unfoldable pub NameSays : List ℕ → List ℕ → Ledger → Bool → Cursor → List ℕ → Declared → Type 0
 NameSays text names l rows c names′ (D.Ok d l′) =
     (nameAt text names l rows c ≡ got (nameIn text (c .next)) (listed text (d .next)) (bookOf text names′ l′ d))
     × ((names′ ≡ placed names (l .shared + l .row) (nameIn text (c .next) ∷ []))
-    × ((l′ ≡ grown rows 1 l) × (Past text c (c .items) (c .nodes) (c .stars) d × Listing text names′ l′ rows d)))
-NameSays text names l rows c names′ (D.Refused n i) = nameAt text names l rows c ≡ stop n i
+    × ((l′ ≡ grown rows 1 l) × ((d ≡ moved (pieceAt text (c .next .end)) c (c .items) (c .nodes) (c .stars)) × Listing text names′ l′ rows d)))
+NameSays text names l rows c names′ (D.Refused n i) = (nameAt text names l rows c ≡ stop n i) × (names′ ≡ names)
 
 unfoldable pub NamesSay : List ℕ → List ℕ → Ledger → Bool → Cursor → Got (List Name) → List ℕ → Declared → Type 0
 NamesSay text names l rows c g names′ (D.Ok d l′) = Noted text names l rows c g names′ d l′
-NamesSay text names l rows c g names′ (D.Refused n i) = g ≡ stop n i
+NamesSay text names l rows c g names′ (D.Refused n i) = (g ≡ stop n i) × WroteNames (l .shared + l .row) names names′
 
 -- ---- clauses
 
@@ -88,7 +93,7 @@ segmentAt text names l rows kind c =
 -- A sign and an expression were read, and its end is stored.
 unfoldable pub SegmentSays : List ℕ → List ℕ → Ledger → Bool → ℕ → ℕ → Cursor → List ℕ → List ℕ → List ℕ → List ℕ → Parsed → Type 0
 SegmentSays text names l rows kind i c p e a e′ (Ok d) = Done text names l (exprWords text names l) 0 c p (segmentAt text names l rows kind c) a d × (e′ ≡ set e i (d .emitted))
-SegmentSays text names l rows kind i c p e a e′ (Refused n j) = segmentAt text names l rows kind c ≡ stop n j
+SegmentSays text names l rows kind i c p e a e′ (Refused n j) = (segmentAt text names l rows kind c ≡ stop n j) × (Wrote (c .emitted) p a × (e′ ≡ e))
 
 -- The code of a clause.
 abbrev pub clauseWords : List ℕ → List ℕ → Ledger → ℕ → Clause → Numbered (List ℕ)
@@ -110,4 +115,4 @@ pub record ClauseDone (text names : List ℕ) (l : Ledger) (kind i : ℕ) (c : C
 
 unfoldable pub ClauseSays : List ℕ → List ℕ → Ledger → ℕ → ℕ → Cursor → List ℕ → List ℕ → List ℕ → List ℕ → Parsed → Type 0
 ClauseSays text names l kind i c p e a e′ (Ok d) = ClauseDone text names l kind i c p e a e′ d
-ClauseSays text names l kind i c p e a e′ (Refused n j) = clauseAt text names l kind c ≡ stop n j
+ClauseSays text names l kind i c p e a e′ (Refused n j) = (clauseAt text names l kind c ≡ stop n j) × (Wrote (c .emitted) p a × Wrote i e e′)

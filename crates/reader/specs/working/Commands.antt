@@ -20,9 +20,10 @@ use Rattle.reader.specs.declared.clauses.Declared.{Declared}
 use Rattle.reader.specs.declared.clauses.Declared.the-variants as D
 use Rattle.reader.specs.working.Pieces.{listed, Fresh}
 use Rattle.reader.specs.working.Names.{sharedWords, rowWords}
-use Rattle.reader.specs.working.Cursors.{bookOf, Ready, Says}
+use Rattle.reader.specs.working.Cursors.{bookOf, Ready, Wrote, Says}
 use Rattle.reader.specs.working.Items.{itemsWords}
 use Rattle.reader.specs.Read.{placed}
+use Rattle.reader.specs.working.Clauses.{WroteNames}
 use Rattle.reader.specs.working.Sequences.{Tested, tested, testedWords, allItems}
 
 -- The ledger with k commands more.
@@ -52,7 +53,7 @@ pub record Titled (text names : List ℕ) (l : Ledger) (c : Cursor) (names′ : 
 
 unfoldable pub TitleSays : List ℕ → List ℕ → Ledger → Cursor → List ℕ → Declared → Type 0
 TitleSays text names l c names′ (D.Ok d l′) = Titled text names l c names′ d l′
-TitleSays text names l c names′ (D.Refused n i) = titleAt text names l c ≡ stop n i
+TitleSays text names l c names′ (D.Refused n i) = (titleAt text names l c ≡ stop n i) × (names′ ≡ names)
 
 -- `if`, the test, and the two branches.
 abbrev pub bodyReader : ℕ → List Lexeme → Book → Got (Tested Item)
@@ -87,6 +88,17 @@ pub record Arrays : Type 0 where
 abbrev pub arrays : List ℕ → List ℕ → List ℕ → List ℕ → Arrays
 arrays n o e s = record { names = n; ops = o; ends = e; stars = s }
 
+-- What a refusal leaves of them: each was written only from a place of its own on.
+pub record WroteArrays (n i e k : ℕ) (s s′ : Arrays) : Type 0 where
+  pub names : WroteNames n (s .names) (s′ .names)
+  pub ops : Wrote i (s .ops) (s′ .ops)
+  pub ends : Wrote e (s .ends) (s′ .ends)
+  pub stars : Wrote k (s .stars) (s′ .stars)
+
+-- The places where the next command is stored, if its code begins at i.
+abbrev pub WroteCommands : Ledger → ℕ → Arrays → Arrays → Type 0
+WroteCommands l i s s′ = WroteArrays (l .shared + l .row + l .commands) i (4 + l .commands) (l .commands) s s′
+
 -- Commands xs stored behind what is there, from the code word i on. l tells how many names there are; ws and vs are the shared and row words.
 abbrev pub storedIn : List Word → List Word → Ledger → ℕ → List Command → Arrays → Arrays
 storedIn ws vs l i xs s =
@@ -113,4 +125,4 @@ oneAt text names l c = thenReads (commandAt text names l c) (λ x ts b. got (x �
 
 unfoldable pub CommandsSay : List ℕ → Ledger → Cursor → Arrays → Got (List Command) → Arrays → Declared → Type 0
 CommandsSay text l c s g s′ (D.Ok d l′) = Commanded text l c s g s′ d l′
-CommandsSay text l c s g s′ (D.Refused n i) = g ≡ stop n i
+CommandsSay text l c s g s′ (D.Refused n i) = (g ≡ stop n i) × WroteCommands l (c .emitted) s s′

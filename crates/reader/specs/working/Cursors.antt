@@ -15,7 +15,7 @@ use Rattle.reader.specs.declared.cursor.Ledger.{Ledger}
 use Rattle.reader.specs.declared.cursor.Scope.{Scope}
 use Rattle.reader.specs.declared.cursor.Parsed.{Parsed}
 use Rattle.reader.specs.declared.cursor.Parsed.the-variants.{Ok, Refused}
-use Rattle.reader.specs.working.Pieces.{listed, Fresh, Tokened}
+use Rattle.reader.specs.working.Pieces.{listed, Fresh, pieceAt}
 use Rattle.reader.specs.working.Names.{namesKept}
 
 abbrev pub modeOf : Scope → Mode
@@ -34,14 +34,9 @@ moved u c items nodes stars = record { next = u; emitted = c .emitted; items = i
 abbrev pub emitted : Cursor → Cursor
 emitted c = record { next = c .next; emitted = c .emitted + 1; items = c .items; nodes = c .nodes; stars = c .stars }
 
--- The cursor is past the piece of c, with these counts.
-pub record Past (text : List ℕ) (c : Cursor) (items nodes stars : ℕ) (d : Cursor) : Type 0 where
-  pub next : Tokened text (c .next .end) (d .next)
-  pub is : d ≡ moved (d .next) c items nodes stars
-
 -- The answer where a sign of this kind has to stand.
 unfoldable pub Expected : List ℕ → Cursor → ℕ → Parsed → Type 0
-Expected text c k (Ok d) = (c .next .kind ≡ k) × Past text c (c .items) (c .nodes) (c .stars) d
+Expected text c k (Ok d) = (c .next .kind ≡ k) × (d ≡ moved (pieceAt text (c .next .end)) c (c .items) (c .nodes) (c .stars))
 Expected text c k (Refused n i) = (c .next .kind ≡ k → ⊥) × ((n ≡ c .next .fault) × (i ≡ c .next .start))
 
 -- What holds wherever a reader is called: the counts are within their limits, and there is room for the code to come and for `spare` words besides.
@@ -71,7 +66,12 @@ pub record Done {A : Type 0} (text names : List ℕ) (l : Ledger) (code : ℕ �
   pub stars : c .stars ≤ 8
   pub fresh : Fresh text (c .next)
 
--- The answer is what the descent answers, g.
+-- What a refusal leaves of an array: only from place i on was anything written, what stood below is unchanged.
+pub record Wrote (i : ℕ) (before after : List ℕ) : Type 0 where
+  pub words : List ℕ
+  pub is : after ≡ sets before i words
+
+-- The answer is what the descent answers, g. What was stored before the reader began stands after a refusal too.
 unfoldable pub Says : {A : Type 0} → List ℕ → List ℕ → Ledger → (ℕ → A → Numbered (List ℕ)) → ℕ → Cursor → List ℕ → Got A → List ℕ → Parsed → Type 0
 Says text names l code extra c₀ before g after (Ok c) = Done text names l code extra c₀ before g after c
-Says text names l code extra c₀ before g after (Refused n i) = g ≡ stop n i
+Says text names l code extra c₀ before g after (Refused n i) = (g ≡ stop n i) × Wrote (c₀ .emitted) before after

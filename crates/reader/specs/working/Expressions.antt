@@ -9,13 +9,12 @@ use Rattle.notation.specs.Texts.{Numbered, numbered, exprOf}
 use Rattle.notation.specs.Layout.{exprCode}
 use Rattle.notation.specs.working.Table.{factor}
 use Rattle.notation.specs.working.Descent.{Got, reader, orReader, andReader}
-use Rattle.reader.specs.declared.pieces.Piece.{Piece}
 use Rattle.reader.specs.declared.cursor.Cursor.{Cursor}
 use Rattle.reader.specs.declared.cursor.Ledger.{Ledger}
 use Rattle.reader.specs.declared.cursor.Scope.{Scope}
 use Rattle.reader.specs.declared.cursor.Parsed.{Parsed}
 use Rattle.reader.specs.declared.cursor.Parsed.the-variants.{Ok, Refused}
-use Rattle.reader.specs.working.Pieces.{listed, Tokened}
+use Rattle.reader.specs.working.Pieces.{listed, pieceAt}
 use Rattle.reader.specs.working.Names.{sharedWords, rowWords}
 use Rattle.reader.specs.working.Cursors.{modeOf, bookOf, moved, emitted, Expected, Says}
 
@@ -40,8 +39,16 @@ orAt text names sc l depth c = orReader (length text) (modeOf sc) (16 - depth) (
 -- The answer of a node that is one token: refused if there are too many, else its code word is stored and the cursor is past it.
 unfoldable pub Leaf : List ℕ → Cursor → ℕ → ℕ → List ℕ → List ℕ → Parsed → Type 0
 Leaf text c code stars before after (Ok d) =
-    (c .nodes < 1024) × ((u : Piece) × (Tokened text (c .next .end) u × ((d ≡ emitted (moved u c (c .items) (c .nodes + 1) stars)) × (after ≡ set before (c .emitted) code))))
-Leaf text c code stars before after (Refused n i) = (1024 ≤ c .nodes) × ((n ≡ 7) × (i ≡ c .next .start))
+    (c .nodes < 1024) × ((d ≡ emitted (moved (pieceAt text (c .next .end)) c (c .items) (c .nodes + 1) stars)) × (after ≡ set before (c .emitted) code))
+Leaf text c code stars before after (Refused n i) = (1024 ≤ c .nodes) × ((n ≡ 7) × ((i ≡ c .next .start) × (after ≡ before)))
+
+-- An operand is refused before anything is stored.
+unfoldable pub Kept : List ℕ → List ℕ → Parsed → Type 0
+Kept before after (Ok c) = Unit {0}
+Kept before after (Refused n i) = after ≡ before
+
+abbrev pub SaysOperand : List ℕ → List ℕ → Ledger → Cursor → List ℕ → Got Expr → List ℕ → Parsed → Type 0
+SaysOperand text names l c before g after r = SaysExpr text names l c before g after r × Kept before after r
 
 abbrev pub roomed : Parsed → Type 0
 roomed (Ok c) = c .emitted < 2048

@@ -13,12 +13,11 @@ use Rattle.notation.specs.working.Lexing.{tokensFrom}
 use Rattle.notation.specs.working.Ledger.{note, fault}
 use Rattle.notation.specs.working.Table as T
 use Rattle.notation.specs.working.Descent.{Got, got, thenReads, ruling, reader, orReader}
-use Rattle.reader.specs.declared.pieces.Piece.{Piece}
 use Rattle.reader.specs.declared.cursor.Cursor.{Cursor}
 use Rattle.reader.specs.declared.cursor.Ledger.{Ledger}
 use Rattle.reader.specs.declared.cursor.Parsed.{Parsed}
 use Rattle.reader.specs.declared.cursor.Parsed.the-variants.{Ok, Refused}
-use Rattle.reader.specs.working.Pieces.{nameIn, listed, Tokened}
+use Rattle.reader.specs.working.Pieces.{nameIn, listed, pieceAt}
 use Rattle.reader.specs.working.Names.{sharedWords, rowWords}
 use Rattle.reader.specs.working.Cursors.{bookOf, moved, emitted, Expected, Says}
 use Rattle.reader.specs.working.Expressions.{exprWords}
@@ -44,14 +43,14 @@ withWord code word k a = numbered (code k a .is ++ word ∷ []) (code k a .next)
 -- The answer after a sign and a code word that follow what was read.
 unfoldable pub Marked : List ℕ → ℕ → ℕ → Parsed → List ℕ → List ℕ → Parsed → Type 0
 Marked text kind word (Ok c) before after (Ok d) = (v : Cursor) × (Expected text c kind (Ok v) × ((d ≡ emitted v) × (after ≡ set before (v .emitted) word)))
-Marked text kind word (Ok c) before after (Refused n i) = Expected text c kind (Refused n i)
-Marked text kind word (Refused n i) before after r = r ≡ Refused n i
+Marked text kind word (Ok c) before after (Refused n i) = Expected text c kind (Refused n i) × (after ≡ before)
+Marked text kind word (Refused n i) before after r = (r ≡ Refused n i) × (after ≡ before)
 
 -- The answer of `skip`.
 unfoldable pub Skipped : List ℕ → Cursor → List ℕ → List ℕ → Parsed → Type 0
 Skipped text c before after (Ok d) =
-    (c .items < 256) × ((u : Piece) × (Tokened text (c .next .end) u × ((d ≡ emitted (moved u c (c .items + 1) (c .nodes) (c .stars))) × (after ≡ set before (c .emitted) 320))))
-Skipped text c before after (Refused n i) = (256 ≤ c .items) × ((n ≡ 7) × (i ≡ c .next .start))
+    (c .items < 256) × ((d ≡ emitted (moved (pieceAt text (c .next .end)) c (c .items + 1) (c .nodes) (c .stars))) × (after ≡ set before (c .emitted) 320))
+Skipped text c before after (Refused n i) = (256 ≤ c .items) × ((n ≡ 7) × ((i ≡ c .next .start) × (after ≡ before)))
 
 -- An assignment after its name is seen: the kind of the name, and where its expression stands.
 abbrev pub kindOf : Bool → Kind

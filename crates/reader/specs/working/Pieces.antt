@@ -41,11 +41,6 @@ pub record Fresh (text : List ℕ) (t : Piece) : Type 0 where
   pub inside : t .end ≤ length text
   pub short : t .kind ≡ 24 → t .end ≤ t .start + 16
 
--- The piece is the next one from place i on.
-pub record Tokened (text : List ℕ) (i : ℕ) (t : Piece) : Type 0 where
-  pub tokens : tokensFrom text i ≡ listed text t
-  pub fresh : Fresh text t
-
 -- ---- the next piece, as a computation
 
 -- How many blanks stand at the front.

@@ -23,12 +23,12 @@ use Rattle.reader.specs.declared.clauses.Declared.{Declared}
 use Rattle.reader.specs.declared.clauses.Declared.the-variants as D
 use Rattle.reader.specs.working.Pieces.{listed}
 use Rattle.reader.specs.working.Names.{sharedWords, rowWords}
-use Rattle.reader.specs.working.Cursors.{bookOf, Done}
+use Rattle.reader.specs.working.Cursors.{bookOf, Done, Wrote}
 use Rattle.reader.specs.working.Items.{kindOf}
 use Rattle.reader.specs.Read.{placed}
-use Rattle.reader.specs.working.Clauses.{clauseWords, clauseEnds, clauseAt}
+use Rattle.reader.specs.working.Clauses.{WroteNames, clauseWords, clauseEnds, clauseAt}
 use Rattle.reader.specs.working.Sequences.{Pair, paired, pairing}
-use Rattle.reader.specs.working.Commands.{Naming, Arrays}
+use Rattle.reader.specs.working.Commands.{Naming, Arrays, WroteArrays}
 
 -- The descent's answer at a sign, names and a full stop.
 abbrev pub headReader : ℕ → Bool → ℕ → List Lexeme → Book → Got (List Name)
@@ -58,7 +58,7 @@ pub record Heads (text names names′ : List ℕ) (c : Cursor) (l : Ledger) : Ty
 
 unfoldable pub HeadsSay : List ℕ → List ℕ → List ℕ → Declared → Type 0
 HeadsSay text names names′ (D.Ok c l) = Heads text names names′ c l
-HeadsSay text names names′ (D.Refused n i) = headsAt text ≡ stop n i
+HeadsSay text names names′ (D.Refused n i) = (headsAt text ≡ stop n i) × WroteNames 0 names names′
 
 -- Both clauses.
 abbrev pub clausesAt : List ℕ → List ℕ → Ledger → Cursor → Got (Pair Clause Clause)
@@ -71,7 +71,7 @@ pub record ClausesDone (text names : List ℕ) (l : Ledger) (c : Cursor) (p e a 
 
 unfoldable pub ClausesSay : List ℕ → List ℕ → Ledger → Cursor → List ℕ → List ℕ → List ℕ → List ℕ → Parsed → Type 0
 ClausesSay text names l c p e a e′ (Ok d) = ClausesDone text names l c p e a e′ d
-ClausesSay text names l c p e a e′ (Refused n i) = clausesAt text names l c ≡ stop n i
+ClausesSay text names l c p e a e′ (Refused n i) = (clausesAt text names l c ≡ stop n i) × (Wrote (c .emitted) p a × Wrote 0 e e′)
 
 -- A whole text was read, and the flat form of its model and its names are stored.
 pub record Modelled (text : List ℕ) (s s′ : Arrays) (l : Ledger) : Type 0 where
@@ -85,4 +85,4 @@ pub record Modelled (text : List ℕ) (s s′ : Arrays) (l : Ledger) : Type 0 wh
 
 unfoldable pub ModelSays : List ℕ → Arrays → Arrays → Declared → Type 0
 ModelSays text s s′ (D.Ok c l) = Modelled text s s′ l
-ModelSays text s s′ (D.Refused n i) = reading (length text) (tokens text) ≡ refused n i
+ModelSays text s s′ (D.Refused n i) = (reading (length text) (tokens text) ≡ refused n i) × WroteArrays 0 0 0 0 s s′

@@ -1,7 +1,6 @@
 -- `declare_name` meets its contract: the look-up says whether the name is declared already, the counts whether it is one too many, and else it is stored as the next name.
 -- Assumes nothing.
 use Rattle.reader.proofs.Declaring.{name-again, name-many, row-full, shared-full, row-declared, shared-declared}
-use Rattle.reader.proofs.Answers.{is-past}
 use borrow.Author.Needs.{needs}
 use Rattle.reader.proofs.clauses.declare_name.Statement.{statement}
 use Rattle.reader.proofs.clauses.declare_name.Tie as tie
@@ -15,20 +14,20 @@ find-name-requires c κs = search needs
 returns : tie.Need-returns
 returns c =
     let start : tie.Start = search in
-    name-again _ _ _ _ _ (start .pre .0) _ (c .before .find-name .ensures) _ (c .if1 .taken)
+    name-again _ _ _ _ _ (start .pre .0) _ (c .before .find-name .ensures) (c .if1 .taken)
 
 returns-2 : tie.Need-returns-2
 returns-2 c =
     let after-find-name : tie.After-find-name = search in
     let start : tie.Start = search in
-    name-many _ _ _ _ _ (start .pre .0) _ (after-find-name .find-name .ensures) (c .before .if1 .left) _ (c .if2 .taken)
+    name-many _ _ _ _ _ (start .pre .0) _ (after-find-name .find-name .ensures) (c .before .if1 .left) (c .if2 .taken)
 
 returns-3 : tie.Need-returns-3
 returns-3 c =
     let else1 : tie.Else1 = search in
     let after-find-name : tie.After-find-name = search in
     let start : tie.Start = search in
-    row-full _ _ _ _ _ (start .pre .0) _ (after-find-name .find-name .ensures) (else1 .if1 .left) _
+    row-full _ _ _ _ _ (start .pre .0) _ (after-find-name .find-name .ensures) (else1 .if1 .left)
     (c .before .if3 .taken) (c .if4 .taken)
 
 declare-requires : tie.Need-declare-requires
@@ -49,14 +48,14 @@ returns-4 c =
     let after-find-name : tie.After-find-name = search in
     let start : tie.Start = search in
     row-declared _ _ _ _ _ (start .pre .0) _ (after-find-name .find-name .ensures) (else1 .if1 .left) (else2 .if2 .left)
-    _ (is-past (c .past .ensures)) _ (c .before .declare .ensures) (then3 .if3 .taken) (else4 .if4 .left)
+    _ (c .past .ensures) _ (c .before .declare .ensures) (then3 .if3 .taken) (else4 .if4 .left)
 
 returns-5 : tie.Need-returns-5
 returns-5 c =
     let else1 : tie.Else1 = search in
     let after-find-name : tie.After-find-name = search in
     let start : tie.Start = search in
-    shared-full _ _ _ _ _ (start .pre .0) _ (after-find-name .find-name .ensures) (else1 .if1 .left) _
+    shared-full _ _ _ _ _ (start .pre .0) _ (after-find-name .find-name .ensures) (else1 .if1 .left)
     (c .before .if3 .left) (c .if5 .taken)
 
 declare-requires-2 : tie.Need-declare-requires-2
@@ -77,7 +76,7 @@ returns-6 c =
     let after-find-name : tie.After-find-name = search in
     let start : tie.Start = search in
     shared-declared _ _ _ _ _ (start .pre .0) _ (after-find-name .find-name .ensures) (else1 .if1 .left)
-    (else2 .if2 .left) _ (is-past (c .past2 .ensures)) _ (c .before .declare2 .ensures) (else3 .if3 .left) (else5 .if5 .left)
+    (else2 .if2 .left) _ (c .past2 .ensures) _ (c .before .declare2 .ensures) (else3 .if3 .left) (else5 .if5 .left)
 
 pub declare-name-spec : {M : Type 1} → statement M
 declare-name-spec =

@@ -20,7 +20,7 @@ returns : tie.Need-returns
 returns c =
     let after-expect : tie.After-expect = search in
     let start : tie.Start = search in
-    sign-bad _ _ _ _ _ _ _ _ _ (start .pre .0) (start .pre .1 .0) _ (after-expect .expect .ensures) _ _ _ _
+    sign-bad _ _ _ _ _ _ _ _ _ (start .pre .0) (start .pre .1 .0) _ (after-expect .expect .ensures) _ _
     (c .enum-told .given .1)
 
 or-level-requires : tie.Need-or-level-requires
@@ -46,7 +46,7 @@ returns-2 c =
     let after-expect : tie.After-expect = search in
     let start : tie.Start = search in
     read-bad _ _ _ _ _ _ _ _ _ (start .pre .0) (start .pre .1 .0) _ (after-expect .expect .ensures) _
-    (after-sign .sign .given .1) _ _ (after-or-level .or-level .ensures) _ _ _ (c .enum-told2 .given .1)
+    (after-sign .sign .given .1) _ _ (after-or-level .or-level .ensures) _ _ (c .enum-told2 .given .1)
 
 cast-ends : tie.Need-cast-ends
 cast-ends c =

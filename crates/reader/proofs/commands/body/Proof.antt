@@ -4,7 +4,7 @@ use native.Mathlib.Omega.{arith}
 use lib.ListN.{length}
 use Rattle.reader.specs.working.Items.{itemsWords}
 use Rattle.reader.specs.working.Sequences.{allItems}
-use Rattle.reader.proofs.Done.{says-same}
+use Rattle.reader.proofs.Done.{wrote-none, says-same}
 use Rattle.reader.proofs.Answers.{expected-said}
 use Rattle.reader.proofs.Sequences.{ready-less}
 use Rattle.reader.proofs.Tests.{test-roomed, first-bad, yes-ready, done-roomed, second-bad, no-ready}
@@ -30,6 +30,7 @@ returns c =
     says-same _ _ _ _ _ _ _ _ _ _ _ _ (c .enum-told .given .1)
     (body-bad _ _ _ _ (start .pre) _ _
     (expected-said _ _ _ _ _ (after-expect .expect .ensures) (c .enum-told .given .1)))
+    wrote-none
 
 or-level-requires : tie.Need-or-level-requires
 or-level-requires c κs =

@@ -23,7 +23,7 @@ returns c =
     let after-title : tie.After-title = search in
     let start : tie.Start = search in
     title-refused (start .args .text .now) (start .args .names .now) (start .args .ops .now) (start .args .ends .now)
-    (start .args .stars .now) (start .args .l) (start .args .c) (start .pre .0) _ _ (after-title .title .ensures) _ _ _
+    (start .args .stars .now) (start .args .l) (start .args .c) (start .pre .0) _ _ (after-title .title .ensures) _ _
     (c .enum-told .given .1)
 
 body-requires : tie.Need-body-requires
@@ -150,7 +150,7 @@ returns-3 c =
     let start : tie.Start = search in
     body-refused (start .args .text .now) (start .args .names .now) (start .args .ops .now) (start .args .ends .now)
     (start .args .stars .now) (start .args .l) (start .args .c) (start .pre .0) _ _ (after-title .title .ensures) _ _
-    (after-titled .titled .given .1) _ _ _ _ _ (after-body .body .ensures) (c .before .read2 .given .1)
+    (after-titled .titled .given .1) _ _ _ _ (after-body .body .ensures) (c .before .read2 .given .1)
 
 pub command-spec : {M : Type 1} → statement M
 command-spec =

@@ -9,7 +9,7 @@ use Rattle.reader.proofs.commands.title.Statement.{statement}
 use Rattle.reader.proofs.commands.title.Tie as tie
 
 returns : tie.Need-returns
-returns c = title-bad _ _ _ _ _ _ _ (title-full _ _ _ _ (c .if1 .taken))
+returns c = title-bad _ _ _ _ _ _ (title-full _ _ _ _ (c .if1 .taken))
 
 past-requires : tie.Need-past-requires
 past-requires c κs = search needs
@@ -18,7 +18,7 @@ returns-2 : tie.Need-returns-2
 returns-2 c =
     let after-past : tie.After-past = search in
     let else1 : tie.Else1 = search in
-    title-bad _ _ _ _ _ _ _ (title-missing _ _ _ _ (else1 .if1 .left) _ (is-past (after-past .past .ensures)) (c .if2 .taken))
+    title-bad _ _ _ _ _ _ (title-missing _ _ _ _ (else1 .if1 .left) _ (is-past (after-past .past .ensures)) (c .if2 .taken))
 
 add-n : tie.Need-add-n
 add-n c =
@@ -46,7 +46,7 @@ returns-3 c =
     let else2 : tie.Else2 = search in
     let after-past : tie.After-past = search in
     let else1 : tie.Else1 = search in
-    title-bad _ _ _ _ _ _ _
+    title-bad _ _ _ _ _ _
     (title-twice _ _ _ _ (else1 .if1 .left) _ (is-past (after-past .past .ensures)) (else2 .if2 .left) _ _ refl
     (c .before .find-name .ensures) (c .if3 .taken))
 

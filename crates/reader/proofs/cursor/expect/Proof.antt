@@ -2,7 +2,6 @@
 -- Assumes nothing.
 use borrow.Author.Needs.{needs}
 use Rattle.reader.specs.working.Cursors.{Expected}
-use Rattle.reader.proofs.Answers.{is-past}
 use Rattle.reader.proofs.cursor.expect.Statement.{statement}
 use Rattle.reader.proofs.cursor.expect.Tie as tie
 
@@ -17,7 +16,7 @@ returns-2 : tie.Need-returns-2
 unfolding Expected
 returns-2 c =
     let else1 : tie.Else1 = search in
-    (else1 .if1 .left, is-past (c .past .ensures))
+    (else1 .if1 .left, c .past .ensures)
 
 pub expect-spec : {M : Type 1} → statement M
 expect-spec = tie.close (tie.spec returns past-requires returns-2)

@@ -10,7 +10,7 @@ use borrow.Fn.PlainCycle.{Measures, is, falls, and}
 use Rattle.notation.proofs.Readers.{and-level-is, or-level-is}
 use Rattle.reader.specs.declared.cursor.Cursor.{Cursor}
 use Rattle.reader.specs.working.Cursors.{modeOf}
-use Rattle.reader.proofs.Done.{said-ok, said-bad, says-ok, says-bad, says-same, then-bad}
+use Rattle.reader.proofs.Done.{wrote-none, said-ok, says-ok, says-bad, says-alike, then-bad}
 use Rattle.reader.proofs.Chains.{andChain, orChain, Turn, rest-first, rest-stop, rest-full, rest-bad, turn-none}
 use Rattle.reader.proofs.Chains.{turn-ready, turn-room, turn-more}
 use Rattle.reader.proofs.Factors.{open-deep, open-ready, open-closes, not-deep, not-full, not-ready, not-room}
@@ -149,9 +149,8 @@ and-level-returns :
     and-level-μ-ands
 and-level-returns t c =
     let after-factor : and-level·After-factor t = search in
-    says-same _ _ _ _ _ _ _ _ _ _ _ _ (c .enum-told .given .1)
-    (then-bad _ _ _ _ _ (and-level-is _ _ _ _ _)
-    (said-bad _ _ _ _ _ _ _ _ _ _ _ _ (after-factor .factor .ensures) (c .enum-told .given .1)))
+    says-alike _ _ _ _ _ _ _ _ _ _ _ _ _ _ _ (after-factor .factor .ensures) (c .enum-told .given .1)
+    (then-bad _ _ _ _ _ (and-level-is _ _ _ _ _))
 
 and-level-ands-holds :
     (t : ℕ) → and-level-lts.Need-ands-holds (and-calls t) (and-level-at t) and-level.Post and-level-Inv-ands
@@ -183,12 +182,11 @@ and-level-returns-3 t c =
     let at-ands : and-level·At-ands t = search in
     let after-first : and-level·After-first t = search in
     let after-factor : and-level·After-factor t = search in
-    says-bad _ _ _ _ _ _ _ _ _ _ _
-    (rest-full _ _ _ (andChain _ _ _ _ _) _ _ _ _ _
+    rest-full _ _ _ (andChain _ _ _ _ _) _ _ _ _ _
     (at-ands .ands .inv .back _ _ _
     (rest-first _ _ _ (andChain _ _ _ _ _) _ _ _ _ _ _ (and-level-is _ _ _ _ _)
     (said-ok _ _ _ _ _ _ _ _ _ _ _ (after-factor .factor .ensures) (after-first .first .given .1))))
-    (c .before .if1 .left) (c .if2 .taken))
+    (c .before .if1 .left) (c .if2 .taken)
 
 and-level-add-past :
     (t : ℕ) → and-level-lts.Need-add-past (and-calls t) (and-level-at t) and-level.Post and-level-Inv-ands
@@ -236,13 +234,12 @@ and-level-returns-4 t c =
     let at-ands : and-level·At-ands t = search in
     let after-first : and-level·After-first t = search in
     let after-factor : and-level·After-factor t = search in
-    says-same _ _ _ _ _ _ _ _ _ _ _ _ (c .enum-told2 .given .1)
-    (rest-bad _ _ _ (andChain _ _ _ _ _) _ _ _ _ _
+    rest-bad _ _ _ (andChain _ _ _ _ _) _ _ _ _ _
     (at-ands .ands .inv .back _ _ _
     (rest-first _ _ _ (andChain _ _ _ _ _) _ _ _ _ _ _ (and-level-is _ _ _ _ _)
     (said-ok _ _ _ _ _ _ _ _ _ _ _ (after-factor .factor .ensures) (after-first .first .given .1))))
-    (else1 .if1 .left) (else2 .if2 .left) _ (is-past (after-past .past .ensures)) _ _
-    (said-bad _ _ _ _ _ _ _ _ _ _ _ _ (after-factor2 .factor2 .ensures) (c .enum-told2 .given .1)))
+    (else1 .if1 .left) (else2 .if2 .left) _ (is-past (after-past .past .ensures)) _ _ _ _
+    (after-factor2 .factor2 .ensures) (c .enum-told2 .given .1)
 
 and-level-emit-requires :
     (t : ℕ) → and-level-lts.Need-emit-requires (and-calls t) (and-level-at t) and-level.Post and-level-Inv-ands
@@ -319,7 +316,7 @@ factor·Else1 t = factor-lts.Else1 (factor-calls t) (factor-at t) factor.Post
 factor-returns : (t : ℕ) → factor-lts.Need-returns (factor-calls t) (factor-at t) factor.Post
 factor-returns t c =
     let start : factor·Start t = search in
-    says-bad _ _ _ _ _ _ _ _ _ _ _ (open-deep _ _ _ _ _ _ (start .pre .1 .1) (c .before .if1 .taken) (c .if2 .taken))
+    says-bad _ _ _ _ _ _ _ _ _ _ _ (open-deep _ _ _ _ _ _ (start .pre .1 .1) (c .before .if1 .taken) (c .if2 .taken)) wrote-none
 
 factor-past-requires : (t : ℕ) → factor-lts.Need-past-requires (factor-calls t) (factor-at t) factor.Post
 factor-past-requires t c κs = search needs
@@ -357,7 +354,7 @@ factor-returns-2 t c =
 factor-returns-3 : (t : ℕ) → factor-lts.Need-returns-3 (factor-calls t) (factor-at t) factor.Post
 factor-returns-3 t c =
     let start : factor·Start t = search in
-    says-bad _ _ _ _ _ _ _ _ _ _ _ (not-deep _ _ _ _ _ _ (start .pre .1 .1) (c .before .if3 .taken) (c .if4 .taken))
+    says-bad _ _ _ _ _ _ _ _ _ _ _ (not-deep _ _ _ _ _ _ (start .pre .1 .1) (c .before .if3 .taken) (c .if4 .taken)) wrote-none
 
 factor-returns-4 : (t : ℕ) → factor-lts.Need-returns-4 (factor-calls t) (factor-at t) factor.Post
 factor-returns-4 t c =
@@ -366,6 +363,7 @@ factor-returns-4 t c =
     says-bad _ _ _ _ _ _ _ _ _ _ _
     (not-full _ _ _ _ _ _ (start .pre .1 .1) (then3 .if3 .taken) (start .pre .1 .0) (c .before .if4 .left)
     (c .if5 .taken))
+    wrote-none
 
 factor-add-past : (t : ℕ) → factor-lts.Need-add-past (factor-calls t) (factor-at t) factor.Post
 factor-add-past t c = omega (arith, c .if5 .left)
@@ -421,7 +419,7 @@ factor-operand-requires t c κs =
     (start .pre .1 .1, (c .before .if3 .left, else1 .if1 .left))
 
 factor-returns-6 : (t : ℕ) → factor-lts.Need-returns-6 (factor-calls t) (factor-at t) factor.Post
-factor-returns-6 t c = c .operand .ensures
+factor-returns-6 t c = c .operand .ensures .0
 
 abbrev or-level-Inv-ors : or-level-lts.InvT-ors
 or-level-Inv-ors text names ops₀ depth sc l cur₀ ops cur =
@@ -483,9 +481,8 @@ or-level-returns :
     (t : ℕ) → or-level-lts.Need-returns (or-calls t) (or-level-at t) or-level.Post or-level-Inv-ors or-level-μ-ors
 or-level-returns t c =
     let after-and-level : or-level·After-and-level t = search in
-    says-same _ _ _ _ _ _ _ _ _ _ _ _ (c .enum-told .given .1)
-    (then-bad _ _ _ _ _ (or-level-is _ _ _ _ _)
-    (said-bad _ _ _ _ _ _ _ _ _ _ _ _ (after-and-level .and-level .ensures) (c .enum-told .given .1)))
+    says-alike _ _ _ _ _ _ _ _ _ _ _ _ _ _ _ (after-and-level .and-level .ensures) (c .enum-told .given .1)
+    (then-bad _ _ _ _ _ (or-level-is _ _ _ _ _))
 
 or-level-ors-holds :
     (t : ℕ) → or-level-lts.Need-ors-holds (or-calls t) (or-level-at t) or-level.Post or-level-Inv-ors or-level-μ-ors
@@ -514,12 +511,11 @@ or-level-returns-3 t c =
     let at-ors : or-level·At-ors t = search in
     let after-first : or-level·After-first t = search in
     let after-and-level : or-level·After-and-level t = search in
-    says-bad _ _ _ _ _ _ _ _ _ _ _
-    (rest-full _ _ _ (orChain _ _ _ _ _) _ _ _ _ _
+    rest-full _ _ _ (orChain _ _ _ _ _) _ _ _ _ _
     (at-ors .ors .inv .back _ _ _
     (rest-first _ _ _ (orChain _ _ _ _ _) _ _ _ _ _ _ (or-level-is _ _ _ _ _)
     (said-ok _ _ _ _ _ _ _ _ _ _ _ (after-and-level .and-level .ensures) (after-first .first .given .1))))
-    (c .before .if1 .left) (c .if2 .taken))
+    (c .before .if1 .left) (c .if2 .taken)
 
 or-level-add-past :
     (t : ℕ) → or-level-lts.Need-add-past (or-calls t) (or-level-at t) or-level.Post or-level-Inv-ors or-level-μ-ors
@@ -563,13 +559,12 @@ or-level-returns-4 t c =
     let at-ors : or-level·At-ors t = search in
     let after-first : or-level·After-first t = search in
     let after-and-level : or-level·After-and-level t = search in
-    says-same _ _ _ _ _ _ _ _ _ _ _ _ (c .enum-told2 .given .1)
-    (rest-bad _ _ _ (orChain _ _ _ _ _) _ _ _ _ _
+    rest-bad _ _ _ (orChain _ _ _ _ _) _ _ _ _ _
     (at-ors .ors .inv .back _ _ _
     (rest-first _ _ _ (orChain _ _ _ _ _) _ _ _ _ _ _ (or-level-is _ _ _ _ _)
     (said-ok _ _ _ _ _ _ _ _ _ _ _ (after-and-level .and-level .ensures) (after-first .first .given .1))))
-    (else1 .if1 .left) (else2 .if2 .left) _ (is-past (after-past .past .ensures)) _ _
-    (said-bad _ _ _ _ _ _ _ _ _ _ _ _ (after-and-level2 .and-level2 .ensures) (c .enum-told2 .given .1)))
+    (else1 .if1 .left) (else2 .if2 .left) _ (is-past (after-past .past .ensures)) _ _ _ _
+    (after-and-level2 .and-level2 .ensures) (c .enum-told2 .given .1)
 
 or-level-emit-requires :
     (t : ℕ) → or-level-lts.Need-emit-requires (or-calls t) (or-level-at t) or-level.Post or-level-Inv-ors or-level-μ-ors

@@ -6,7 +6,7 @@ use Rattle.reader.proofs.expressions.leaf.Statement.{statement}
 use Rattle.reader.proofs.expressions.leaf.Tie as tie
 
 returns : tie.Need-returns
-returns c = leaf-full _ _ _ _ _ _ (c .if1 .taken)
+returns c = leaf-full _ _ _ _ _ (c .if1 .taken)
 
 add-past : tie.Need-add-past
 add-past c = search needs
@@ -23,7 +23,7 @@ returns-2 : tie.Need-returns-2
 returns-2 c =
     let after-past : tie.After-past = search in
     let else1 : tie.Else1 = search in
-    leaf-fits _ _ _ _ _ _ _ _ (else1 .if1 .left) (is-past (after-past .past .ensures)) (c .emit .ensures)
+    leaf-fits _ _ _ _ _ _ _ _ (else1 .if1 .left) (after-past .past .ensures) (c .emit .ensures)
 
 pub leaf-spec : {M : Type 1} → statement M
 leaf-spec = tie.close (tie.spec returns add-past past-requires emit-requires returns-2)

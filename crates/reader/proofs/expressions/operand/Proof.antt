@@ -2,9 +2,8 @@
 -- Assumes nothing.
 use native.Mathlib.Omega.{arith}
 use borrow.Author.Tests.{not-true, not-false}
-use Rattle.reader.proofs.Done.{says-bad}
 use Rattle.reader.proofs.Symbols.{factor-missing}
-use Rattle.reader.proofs.Operands.{from-first, visible-few, few-found, zero-says, one-says, star-says}
+use Rattle.reader.proofs.Operands.{operand-bad, from-first, visible-few, few-found, zero-says, one-says, star-says}
 use Rattle.reader.proofs.Operands.{star-barred, star-many, name-unknown, name-says}
 use borrow.Author.Needs.{needs}
 use Rattle.reader.proofs.expressions.operand.Statement.{statement}
@@ -35,14 +34,14 @@ returns-3 : tie.Need-returns-3
 returns-3 c =
     let then3 : tie.Then3 = search in
     let start : tie.Start = search in
-    says-bad _ _ _ _ _ _ _ _ _ _ _
+    operand-bad _ _ _ _ _ _ (start .pre .0) _ _ _
     (star-barred _ _ _ _ _ _ (start .pre .0) (then3 .if3 .taken) (not-true _ (c .if4 .taken)))
 
 returns-4 : tie.Need-returns-4
 returns-4 c =
     let then3 : tie.Then3 = search in
     let start : tie.Start = search in
-    says-bad _ _ _ _ _ _ _ _ _ _ _
+    operand-bad _ _ _ _ _ _ (start .pre .0) _ _ _
     (star-many _ _ _ _ _ _ (start .pre .0) (then3 .if3 .taken) (not-false _ (c .before .if4 .left)) (c .if5 .taken))
 
 cast-leaf : tie.Need-cast-leaf
@@ -86,7 +85,7 @@ returns-6 c =
     let after-visible : tie.After-visible = search in
     let then6 : tie.Then6 = search in
     let start : tie.Start = search in
-    says-bad _ _ _ _ _ _ _ _ _ _ _
+    operand-bad _ _ _ _ _ _ (start .pre .0) _ _ _
     (name-unknown _ _ _ _ _ _ (start .pre .0) (then6 .if6 .taken) _ _ (after-visible .visible .ensures)
     (from-first _ _ _ _ _ (c .before .find-name .ensures)) (c .if7 .taken))
 
@@ -134,7 +133,7 @@ returns-8 c =
     let else2 : tie.Else2 = search in
     let else1 : tie.Else1 = search in
     let start : tie.Start = search in
-    says-bad _ _ _ _ _ _ _ _ _ _ _
+    operand-bad _ _ _ _ _ _ (start .pre .0) _ _ _
     (factor-missing _ _ _ _ _ (start .pre .0 .fresh) (else1 .if1 .left) (else2 .if2 .left) (c .before .if3 .left)
     (c .if6 .left) (start .pre .1 .0) (start .pre .1 .1))
 

@@ -1,7 +1,7 @@
 -- `assignment` meets its contract: the name is looked up and counted, `:=` asked for, and the expression's code followed by the store.
 -- Assumes nothing.
 use native.Mathlib.Omega.{arith}
-use Rattle.reader.proofs.Done.{says-bad, says-same}
+use Rattle.reader.proofs.Done.{wrote-none, says-bad, says-same}
 use Rattle.reader.proofs.Answers.{expected-said, is-past}
 use Rattle.reader.proofs.Operands.{target-range}
 use Rattle.reader.proofs.Sequences.{ready-less, says-roomed}
@@ -35,6 +35,7 @@ returns c =
     (assign-unknown _ (start .args .names .now) _ _ (start .pre .0) (start .args .rows) _ _ _
     (after-first-target .first-target .ensures) (after-visible .visible .ensures) (c .before .find-name .ensures)
     (c .if1 .taken))
+    wrote-none
 
 returns-2 : tie.Need-returns-2
 returns-2 c =
@@ -46,6 +47,7 @@ returns-2 c =
     (assign-full _ (start .args .names .now) _ _ (start .pre .0) (start .args .rows) _ _ _
     (after-first-target .first-target .ensures) (after-visible .visible .ensures) (after-find-name .find-name .ensures)
     (c .before .if1 .left) (c .if2 .taken))
+    wrote-none
 
 add-past : tie.Need-add-past
 add-past c = search needs
@@ -77,6 +79,7 @@ returns-3 c =
     (after-first-target .first-target .ensures) (after-visible .visible .ensures) (after-find-name .find-name .ensures)
     (else1 .if1 .left) (else2 .if2 .left) _ (is-past (after-past .past .ensures)) _ _
     (expected-said _ _ _ _ _ (after-expect .expect .ensures) (c .enum-told .given .1)))
+    wrote-none
 
 or-level-requires : tie.Need-or-level-requires
 or-level-requires c κs =

@@ -3,7 +3,7 @@
 use native.Mathlib.Omega.{arith}
 use lib.ListN.{length}
 use Rattle.reader.specs.working.Items.{rowItemsWords}
-use Rattle.reader.proofs.Done.{says-bad}
+use Rattle.reader.proofs.Done.{wrote-none, says-bad}
 use Rattle.reader.proofs.Sequences.{ready-less}
 use Rattle.reader.specs.working.Sequences.{allRows}
 use Rattle.reader.proofs.Tests.{test-roomed, first-bad, yes-ready, done-roomed, second-bad, no-ready}
@@ -18,6 +18,7 @@ returns : tie.Need-returns
 returns c =
     let start : tie.Start = search in
     says-bad _ _ _ _ _ _ _ _ _ _ _ (for-full _ _ _ _ (start .pre .0) (start .pre .1) (c .if1 .taken))
+    wrote-none
 
 add-past : tie.Need-add-past
 add-past c = search needs

@@ -1,6 +1,6 @@
 -- `item` meets its contract, by the kind of its first token.
 -- Assumes nothing.
-use Rattle.reader.proofs.Done.{says-bad}
+use Rattle.reader.proofs.Done.{wrote-none, says-bad}
 use Rattle.reader.proofs.Branches.{item-skip, item-assign, item-missing}
 use borrow.Author.Needs.{needs}
 use Rattle.reader.proofs.items.item.Statement.{statement}
@@ -40,6 +40,7 @@ returns-4 c =
     let start : tie.Start = search in
     says-bad _ _ _ _ _ _ _ _ _ _ _
     (item-missing _ _ _ _ (start .pre) (else1 .if1 .left) (c .before .if2 .left) (c .if3 .left))
+    wrote-none
 
 pub item-spec : {M : Type 1} → statement M
 item-spec =

@@ -4,7 +4,7 @@ use Prim.Native.Nat.{_+_, _-_, _*_}
 use native.Mathlib.Omega.{arith}
 use Rattle.reader.proofs.Answers.{is-past}
 use borrow.Author.Needs.{needs}
-use Rattle.reader.proofs.Done.{said-ok, said-bad, says-ok, says-same}
+use Rattle.reader.proofs.Done.{said-ok, says-ok}
 use Rattle.reader.proofs.Series.{Turn, first-bad, rest-first, rest-stop, rest-bad, turn-none, turn-ready}
 use Rattle.reader.proofs.Series.{turn-less, turn-more}
 use Rattle.reader.proofs.Lists.{itemSeries}
@@ -54,9 +54,8 @@ returns : tie.Need-returns Inv-list μ-list
 returns c =
     let after-item : After-item = search in
     let start : Start = search in
-    says-same _ _ _ _ _ _ _ _ _ _ _ _ (c .enum-told .given .1)
-    (first-bad _ _ _ (itemSeries (start .args .text .now) (start .args .names .now) (start .args .l)) _ _ _
-    (said-bad _ _ _ _ _ _ _ _ _ _ _ _ (after-item .item .ensures) (c .enum-told .given .1)))
+    first-bad _ _ _ (itemSeries (start .args .text .now) (start .args .names .now) (start .args .l)) _ _ _ _ _ _ _
+    (after-item .item .ensures) (c .enum-told .given .1)
 
 list-holds : tie.Need-list-holds Inv-list μ-list
 list-holds c =
@@ -99,13 +98,12 @@ returns-3 c =
     let at-list : At-list = search in
     let after-first : After-first = search in
     let after-item : After-item = search in
-    says-same _ _ _ _ _ _ _ _ _ _ _ _ (c .enum-told2 .given .1)
-    (rest-bad _ _ _ (itemSeries _ _ _) _ _ _ _ _
+    rest-bad _ _ _ (itemSeries _ _ _) _ _ _ _ _
     (at-list .list .inv .back _ _ _
     (rest-first _ _ _ (itemSeries _ _ _) _ _ _ _ _
     (said-ok _ _ _ _ _ _ _ _ _ _ _ (after-item .item .ensures) (after-first .first .given .1))))
-    (else1 .if1 .left) _ (is-past (after-past .past .ensures)) _ _
-    (said-bad _ _ _ _ _ _ _ _ _ _ _ _ (after-item2 .item2 .ensures) (c .enum-told2 .given .1)))
+    (else1 .if1 .left) _ (is-past (after-past .past .ensures)) _ _ _ _
+    (after-item2 .item2 .ensures) (c .enum-told2 .given .1)
 
 list-less : tie.Need-list-less Inv-list μ-list
 list-less c =

@@ -14,7 +14,7 @@ enum-told : tie.Need-enum-told
 enum-told c = search needs
 
 returns : tie.Need-returns
-returns c = mark-bad _ _ _ _ _ _ _ _ (c .enum-told .given .1)
+returns c = mark-bad _ _ _ _ _ _ _ (c .enum-told .given .1)
 
 expect-requires : tie.Need-expect-requires
 expect-requires c κs = search needs
@@ -29,7 +29,7 @@ returns-2 : tie.Need-returns-2
 returns-2 c =
     let after-expect : tie.After-expect = search in
     let after-read : tie.After-read = search in
-    mark-missing _ _ _ _ _ _ (after-read .read .given .1) _ (after-expect .expect .ensures) _ _ _
+    mark-missing _ _ _ _ _ _ (after-read .read .given .1) _ (after-expect .expect .ensures) _ _
     (c .enum-told2 .given .1)
 
 emit-requires : tie.Need-emit-requires

@@ -1,6 +1,6 @@
 -- `row_item` meets its contract, by the kind of its first token.
 -- Assumes nothing.
-use Rattle.reader.proofs.Done.{says-bad}
+use Rattle.reader.proofs.Done.{wrote-none, says-bad}
 use Rattle.reader.proofs.Branches.{row-skip, row-assign, row-missing}
 use borrow.Author.Needs.{needs}
 use Rattle.reader.proofs.items.row_item.Statement.{statement}
@@ -30,6 +30,7 @@ returns-3 : tie.Need-returns-3
 returns-3 c =
     let start : tie.Start = search in
     says-bad _ _ _ _ _ _ _ _ _ _ _ (row-missing _ _ _ _ (start .pre) (c .before .if1 .left) (c .if2 .left))
+    wrote-none
 
 pub row-item-spec : {M : Type 1} → statement M
 row-item-spec =

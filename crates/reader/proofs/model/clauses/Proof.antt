@@ -22,7 +22,7 @@ returns c =
     let after-clause : tie.After-clause = search in
     let start : tie.Start = search in
     start-bad (start .args .text .now) (start .args .names .now) (start .args .l) (start .args .c)
-    (start .args .ops .now) (start .args .ends .now) _ _ _ (after-clause .clause .ensures) _ _ _ _
+    (start .args .ops .now) (start .args .ends .now) _ _ _ (after-clause .clause .ensures) _ _
     (c .enum-told .given .1)
 
 clause-requires-2 : tie.Need-clause-requires-2

@@ -74,7 +74,7 @@ returns-4 : tie.Need-returns-4
 returns-4 c =
     let after-expect : tie.After-expect = search in
     let start : tie.Start = search in
-    head-bad _ _ _ _ _ _ (start .pre .0) (start .pre .1) _ (after-expect .expect .ensures) _ _ _
+    head-bad _ _ _ _ _ _ (start .pre .0) (start .pre .1) _ (after-expect .expect .ensures) _ _
     (c .before .sign2 .given .1)
 
 pub declaration-spec : {M : Type 1} → statement M

@@ -24,7 +24,7 @@ returns c =
     let start : tie.Start = search in
     head-refused (start .args .text .now)
     (arrays (start .args .names .now) (start .args .ops .now) (start .args .ends .now) (start .args .stars .now)) _ _
-    (after-declarations .declarations .ensures) _ _ _ (c .enum-told .given .1)
+    (after-declarations .declarations .ensures) _ _ (c .enum-told .given .1)
 
 clauses-requires : tie.Need-clauses-requires
 clauses-requires c κs =
@@ -48,7 +48,7 @@ returns-2 c =
     first-missing (start .args .text .now)
     (arrays (start .args .names .now) (start .args .ops .now) (start .args .ends .now) (start .args .stars .now)) _ _
     (after-declarations .declarations .ensures) _ _ (after-head .head .given .1) _ _ _ (after-clauses .clauses .ensures)
-    _ (after-both .both .given .1) _ (c .if1 .taken)
+    _ (after-both .both .given .1) (c .if1 .taken)
 
 commands-requires : tie.Need-commands-requires
 commands-requires c κs =
@@ -100,7 +100,7 @@ returns-4 c =
     (arrays (start .args .names .now) (start .args .ops .now) (start .args .ends .now) (start .args .stars .now)) _ _
     (after-declarations .declarations .ensures) _ _ (after-head .head .given .1) _ _ _ (after-clauses .clauses .ensures)
     _ (after-both .both .given .1) (else1 .if1 .left) _ _ (after-commands .commands .ensures) _ _
-    (after-all .all .given .1) _ (c .if2 .taken)
+    (after-all .all .given .1) (c .if2 .taken)
 
 enum-known-both-2 : tie.Need-enum-known-both-2
 enum-known-both-2 c = search needs
@@ -130,7 +130,7 @@ returns-6 c =
     both-refused (start .args .text .now)
     (arrays (start .args .names .now) (start .args .ops .now) (start .args .ends .now) (start .args .stars .now)) _ _
     (after-declarations .declarations .ensures) _ _ (after-head .head .given .1) _ _ _ (after-clauses .clauses .ensures)
-    _ _ _ (c .before .both2 .given .1)
+    _ _ (c .before .both2 .given .1)
 
 pub model-spec : {M : Type 1} → statement M
 model-spec =
