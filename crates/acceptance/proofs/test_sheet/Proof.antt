@@ -4,7 +4,8 @@ use mathlib.Core.List.{[]}
 use Rattle.acceptance.specs.working.Test.{systemIn}
 use mathlib.Core.Path.{refl, sym, _∙_, ap}
 use Rattle.acceptance.specs.Sheets.{mapLength}
-use Rattle.acceptance.proofs.TestWhole.{whole-refused, map-room, map-bits, whole-map, trace-stands, trace-short, whole-trace}
+use Rattle.acceptance.proofs.TestWhole.{whole-refused, map-room, map-bits, whole-map, trace-stands, trace-short}
+use Rattle.acceptance.proofs.TestWhole.{whole-trace}
 use borrow.Author.Needs.{needs}
 use Rattle.acceptance.proofs.test_sheet.Statement.{statement}
 use Rattle.acceptance.proofs.test_sheet.Tie as tie
@@ -28,22 +29,55 @@ map-length-requires : tie.Need-map-length-requires
 map-length-requires c κs = search needs
 
 test-map-requires : tie.Need-test-map-requires
-test-map-requires c κs = (map-room (systemIn _ _ _ [] [] _) _ _ refl (sym (c .before .before .enum-told .given .1) ∙ c .before .before .before .before .shape-of .ensures) _ (c .map-length .ensures ∙ ap mapLength (c .before .power .ensures)), map-bits (systemIn _ _ _ [] [] _) _ _ refl (sym (c .before .before .enum-told .given .1) ∙ c .before .before .before .before .shape-of .ensures) _ (c .map-length .ensures ∙ ap mapLength (c .before .power .ensures)), c .before .before .before .before .before .before .pre .0, c .before .before .before .before .before .before .pre .1, c .before .before .before .before .before .before .pre .2)
+test-map-requires c κs =
+    let after-enum-told : tie.After-enum-told = search in
+    let after-shape-of : tie.After-shape-of = search in
+    let start : tie.Start = search in (
+      map-room (systemIn _ _ _ [] [] _) _ _ refl
+          (sym (after-enum-told .enum-told .given .1) ∙ after-shape-of .shape-of .ensures) _
+          (c .map-length .ensures ∙ ap mapLength (c .before .power .ensures)),
+      map-bits (systemIn _ _ _ [] [] _) _ _ refl
+          (sym (after-enum-told .enum-told .given .1) ∙ after-shape-of .shape-of .ensures) _
+          (c .map-length .ensures ∙ ap mapLength (c .before .power .ensures)),
+      start .pre .0,
+      start .pre .1,
+      start .pre .2,
+    )
 
 enum-told-2 : tie.Need-enum-told-2
 enum-told-2 c = search needs
 
 test-trace-requires : tie.Need-test-trace-requires
-test-trace-requires c κs = (c .before .before .before .before .pre .0, trace-short (systemIn _ _ _ [] [] _) _ _ refl (sym (c .enum-told2 .given .1) ∙ c .before .before .shape-of .ensures), c .before .before .before .before .pre .1, c .before .before .before .before .pre .2, trace-stands (systemIn _ _ _ [] [] _) _ _ refl (sym (c .enum-told2 .given .1) ∙ c .before .before .shape-of .ensures))
+test-trace-requires c κs =
+    let after-shape-of : tie.After-shape-of = search in
+    let start : tie.Start = search in (
+      start .pre .0,
+      trace-short (systemIn _ _ _ [] [] _) _ _ refl
+          (sym (c .enum-told2 .given .1) ∙ after-shape-of .shape-of .ensures),
+      start .pre .1,
+      start .pre .2,
+      trace-stands
+          (systemIn _ _ _ [] [] _) _ _ refl (sym (c .enum-told2 .given .1) ∙ after-shape-of .shape-of .ensures),
+    )
 
 returns : tie.Need-returns
-returns c = whole-refused _ _ _ _ (sym (c .before .shape .given .1) ∙ c .before .before .before .shape-of .ensures)
+returns c =
+    let after-shape-of : tie.After-shape-of = search in
+    whole-refused _ _ _ _ (sym (c .before .shape .given .1) ∙ after-shape-of .shape-of .ensures)
 
 returns-2 : tie.Need-returns-2
-returns-2 c = whole-map _ _ _ refl (sym (c .before .before .before .enum-told .given .1) ∙ c .before .before .before .before .before .shape-of .ensures) _ (c .before .map-length .ensures ∙ ap mapLength (c .before .before .power .ensures)) _ (c .test-map .ensures)
+returns-2 c =
+    let after-power : tie.After-power = search in
+    let after-enum-told : tie.After-enum-told = search in
+    let after-shape-of : tie.After-shape-of = search in
+    whole-map _ _ _ refl (sym (after-enum-told .enum-told .given .1) ∙ after-shape-of .shape-of .ensures) _
+    (c .before .map-length .ensures ∙ ap mapLength (after-power .power .ensures)) _ (c .test-map .ensures)
 
 returns-3 : tie.Need-returns-3
-returns-3 c = whole-trace _ _ _ refl (sym (c .before .enum-told2 .given .1) ∙ c .before .before .before .shape-of .ensures) _ (c .test-trace .ensures)
+returns-3 c =
+    let after-shape-of : tie.After-shape-of = search in
+    whole-trace _ _ _ refl (sym (c .before .enum-told2 .given .1) ∙ after-shape-of .shape-of .ensures) _
+    (c .test-trace .ensures)
 
 pub test-sheet-spec : {M : Type 1} → statement M
 test-sheet-spec =

@@ -10,10 +10,19 @@ use Rattle.lines.proofs.put.Statement.{statement}
 use Rattle.lines.proofs.put.Tie as tie
 
 abbrev Inv-bytes : tie.InvT-bytes
-Inv-bytes out₀ at bytes i₀ out i = (i ≤ length bytes) × (at + length bytes ≤ length out) × (length out ≡ length out₀) × (sets out (at + i) (drop i bytes) ≡ sets out₀ at bytes)
+Inv-bytes out₀ at bytes i₀ out i =
+    (i ≤ length bytes) × (at + length bytes ≤ length out) × (length out ≡ length out₀) ×
+    (sets out (at + i) (drop i bytes) ≡ sets out₀ at bytes)
 
 abbrev μ-bytes : tie.MeasureT-bytes
 μ-bytes out₀ at bytes i₀ out i = length bytes - i
+
+-- The places that the answers name.
+abbrev At-bytes : Type 0
+At-bytes = tie.At-bytes Inv-bytes μ-bytes
+
+abbrev Start : Type 0
+Start = tie.Start Inv-bytes μ-bytes
 
 bytes-holds : tie.Need-bytes-holds Inv-bytes μ-bytes
 bytes-holds c = let a = c .args in (omega arith, c .pre .room, refl, sets-begun (a .out .now) (a .bytes .now) (a .at))
@@ -35,8 +44,10 @@ bytes-less c = omega arith
 
 bytes-again : tie.Need-bytes-again Inv-bytes μ-bytes
 bytes-again c =
-    let a = c .before .before .before .args in
-    let l = c .before .before .bytes in
+    let at-bytes : At-bytes = search in
+    let start : Start = search in
+    let a = start .args in
+    let l = at-bytes .bytes in
     let h : l .i < length (a .bytes .now) = omega arith in
     let k = length-set (l .out) (a .at + l .i) (getD (a .bytes .now) (l .i) 0) in
     (omega arith, omega (arith, k), k ∙ l .inv .2, sets-next (l .out) (a .bytes .now) (a .at) (l .i) 0 h ∙ l .inv .3)
@@ -49,7 +60,8 @@ same-length c = c .before .bytes .inv .2
 
 returns : tie.Need-returns Inv-bytes μ-bytes
 returns c =
-    let a = c .before .before .args in
+    let start : Start = search in
+    let a = start .args in
     let l = c .before .bytes in
     let h : length (a .bytes .now) ≤ l .i = omega arith in
     record { stored = sym (sets-done (l .out) (a .bytes .now) (a .at) (l .i) h) ∙ l .inv .3; ends = omega arith }

@@ -20,19 +20,24 @@ slice-aggregate-put-word c = search needs
 
 put-word-requires : tie.Need-put-word-requires
 put-word-requires c κs =
-    let a = c .before .before .before .before .before .args in
-    let d = c .before .before .decimal in
+    let after-decimal : tie.After-decimal = search in
+    let start : tie.Start = search in
+    let a = start .args in
+    let d = after-decimal .decimal in
     let e = taken-decimal (a .n) (d .result) (d .last .1 .0) (omega arith) (d .ensures .1 .0) (d .ensures .1 .1) in
-    subst (λ v. Fits (a .out .now) (a .at) (word v)) (sym e) (c .before .before .before .before .before .pre)
+    subst (λ v. Fits (a .out .now) (a .at) (word v)) (sym e) (start .pre)
 
 same-length : tie.Need-same-length
 same-length c = search needs
 
 returns : tie.Need-returns
 returns c =
-    let a = c .before .before .before .before .before .before .before .before .args in
-    let d = c .before .before .before .before .before .decimal in
-    let p = c .before .before .put-word in
+    let after-put-word : tie.After-put-word = search in
+    let after-decimal : tie.After-decimal = search in
+    let start : tie.Start = search in
+    let a = start .args in
+    let d = after-decimal .decimal in
+    let p = after-put-word .put-word in
     let e = taken-decimal (a .n) (d .result) (d .last .1 .0) (omega arith) (d .ensures .1 .0) (d .ensures .1 .1) in
     subst (λ v. Puts (a .out .now) (a .at) (word v) (p .last .0) (p .result)) e (p .ensures)
 

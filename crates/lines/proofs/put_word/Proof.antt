@@ -18,7 +18,10 @@ same-length : tie.Need-same-length
 same-length c = search needs
 
 returns : tie.Need-returns
-returns c = behind (c .before .before .before .before .before .before .put .ensures) (c .before .before .put2 .ensures)
+returns c =
+    let after-put2 : tie.After-put2 = search in
+    let after-put : tie.After-put = search in
+    behind (after-put .put .ensures) (after-put2 .put2 .ensures)
 
 pub put-word-spec : {M : Type 1} → statement M
 put-word-spec =

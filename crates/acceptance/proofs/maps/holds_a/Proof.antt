@@ -21,6 +21,22 @@ Inv-states b p n bits commands ops ends states s₀ s = (s ≤ states) × (testA
 abbrev μ-states : tie.MeasureT-states
 μ-states b p n bits commands ops ends states s₀ s = states - s
 
+-- The places that the answers name.
+abbrev After-power : Type 0
+After-power = tie.After-power Inv-states μ-states
+
+abbrev Start : Type 0
+Start = tie.Start Inv-states μ-states
+
+abbrev Then1 : Type 0
+Then1 = tie.Then1 Inv-states μ-states
+
+abbrev After-starts : Type 0
+After-starts = tie.After-starts Inv-states μ-states
+
+abbrev At-states : Type 0
+At-states = tie.At-states Inv-states μ-states
+
 power-requires : tie.Need-power-requires Inv-states μ-states
 power-requires c κs = search needs
 
@@ -28,13 +44,30 @@ states-holds : tie.Need-states-holds Inv-states μ-states
 states-holds c = (omega arith, a-none _ _ 0)
 
 starts-requires : tie.Need-starts-requires Inv-states μ-states
-starts-requires c κs = (omega (arith, pow-small (c .before .before .before .before .args .bits) _ (c .before .before .before .before .pre .2) (c .before .before .power .ensures)), c .before .before .before .before .pre .3, c .before .before .before .before .pre .4)
+starts-requires c κs =
+    let after-power : After-power = search in
+    let start : Start = search in (
+      omega (arith, pow-small (start .args .bits) _ (start .pre .2) (after-power .power .ensures)),
+      start .pre .3,
+      start .pre .4,
+    )
 
 in-map-requires : tie.Need-in-map-requires Inv-states μ-states
-in-map-requires c κs = (c .before .before .before .before .before .before .pre .0, omega (arith, c .before .before .before .before .power .ensures, c .before .before .before .before .before .before .pre .1))
+in-map-requires c κs =
+    let after-power : After-power = search in
+    let start : Start = search in
+    (start .pre .0, omega (arith, after-power .power .ensures, start .pre .1))
 
 returns : tie.Need-returns Inv-states μ-states
-returns c = a-fail _ _ (c .before .before .before .before .before .states .s) (2 ^ c .before .before .before .before .before .before .before .before .args .bits) (omega (arith, c .before .before .before .before .before .before .power .ensures)) (sym (c .before .before .before .starts .ensures) ∙ c .before .before .if1 .taken) (sym (c .before .in-map .ensures) ∙ not-true _ (c .if2 .taken))
+returns c =
+    let then1 : Then1 = search in
+    let after-starts : After-starts = search in
+    let at-states : At-states = search in
+    let after-power : After-power = search in
+    let start : Start = search in
+    a-fail _ _ (at-states .states .s) (2 ^ start .args .bits) (omega (arith, after-power .power .ensures))
+    (sym (after-starts .starts .ensures) ∙ then1 .if1 .taken)
+    (sym (c .before .in-map .ensures) ∙ not-true _ (c .if2 .taken))
 
 add-s : tie.Need-add-s Inv-states μ-states
 add-s c = omega arith
@@ -43,10 +76,20 @@ states-less : tie.Need-states-less Inv-states μ-states
 states-less c = omega arith
 
 states-again : tie.Need-states-again Inv-states μ-states
-states-again c = (omega arith, ⊎-elim (λ w. a-member _ _ _ (c .before .before .before .states .inv .1) (sym (w .1 .ensures) ∙ not-false _ (w .2 .left))) (λ w. a-other _ _ _ (c .before .before .before .states .inv .1) (sym (c .before .starts .ensures) ∙ w .left)) (c .if1 .came))
+states-again c =
+    let at-states : At-states = search in (
+      omega arith,
+      ⊎-elim
+          (λ w. a-member _ _ _ (at-states .states .inv .1) (sym (w .1 .ensures) ∙ not-false _ (w .2 .left)))
+          (λ w. a-other _ _ _ (at-states .states .inv .1) (sym (c .before .starts .ensures) ∙ w .left)) (c .if1 .came),
+    )
 
 returns-2 : tie.Need-returns-2 Inv-states μ-states
-returns-2 c = a-done _ _ (c .before .states .s) (c .before .states .inv .1) (2 ^ c .before .before .before .before .args .bits) (omega (arith, c .before .before .power .ensures)) (omega (arith, c .before .before .power .ensures))
+returns-2 c =
+    let after-power : After-power = search in
+    let start : Start = search in
+    a-done _ _ (c .before .states .s) (c .before .states .inv .1) (2 ^ start .args .bits)
+    (omega (arith, after-power .power .ensures)) (omega (arith, after-power .power .ensures))
 
 pub holds-a-spec : {M : Type 1} → statement M
 holds-a-spec =

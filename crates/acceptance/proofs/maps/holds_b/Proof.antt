@@ -20,6 +20,22 @@ Inv-states b p n bits commands ops ends states s₀ s = (s ≤ states) × (testB
 abbrev μ-states : tie.MeasureT-states
 μ-states b p n bits commands ops ends states s₀ s = states - s
 
+-- The places that the answers name.
+abbrev After-power : Type 0
+After-power = tie.After-power Inv-states μ-states
+
+abbrev Start : Type 0
+Start = tie.Start Inv-states μ-states
+
+abbrev Then1 : Type 0
+Then1 = tie.Then1 Inv-states μ-states
+
+abbrev After-in-map : Type 0
+After-in-map = tie.After-in-map Inv-states μ-states
+
+abbrev At-states : Type 0
+At-states = tie.At-states Inv-states μ-states
+
 power-requires : tie.Need-power-requires Inv-states μ-states
 power-requires c κs = search needs
 
@@ -27,13 +43,29 @@ states-holds : tie.Need-states-holds Inv-states μ-states
 states-holds c = (omega arith, b-none _ _ 0)
 
 in-map-requires : tie.Need-in-map-requires Inv-states μ-states
-in-map-requires c κs = (c .before .before .before .before .pre .0, omega (arith, c .before .before .power .ensures, c .before .before .before .before .pre .1))
+in-map-requires c κs =
+    let after-power : After-power = search in
+    let start : Start = search in
+    (start .pre .0, omega (arith, after-power .power .ensures, start .pre .1))
 
 breaks-requires : tie.Need-breaks-requires Inv-states μ-states
-breaks-requires c κs = (omega (arith, pow-small (c .before .before .before .before .before .before .args .bits) _ (c .before .before .before .before .before .before .pre .2) (c .before .before .before .before .power .ensures)), c .before .before .before .before .before .before .pre .3, c .before .before .before .before .before .before .pre .4)
+breaks-requires c κs =
+    let after-power : After-power = search in
+    let start : Start = search in (
+      omega (arith, pow-small (start .args .bits) _ (start .pre .2) (after-power .power .ensures)),
+      start .pre .3,
+      start .pre .4,
+    )
 
 returns : tie.Need-returns Inv-states μ-states
-returns c = b-fail _ _ (c .before .before .before .before .before .states .s) (2 ^ c .before .before .before .before .before .before .before .before .args .bits) (omega (arith, c .before .before .before .before .before .before .power .ensures)) (sym (c .before .before .before .in-map .ensures) ∙ c .before .before .if1 .taken) (sym (c .before .breaks .ensures) ∙ c .if2 .taken)
+returns c =
+    let then1 : Then1 = search in
+    let after-in-map : After-in-map = search in
+    let at-states : At-states = search in
+    let after-power : After-power = search in
+    let start : Start = search in
+    b-fail _ _ (at-states .states .s) (2 ^ start .args .bits) (omega (arith, after-power .power .ensures))
+    (sym (after-in-map .in-map .ensures) ∙ then1 .if1 .taken) (sym (c .before .breaks .ensures) ∙ c .if2 .taken)
 
 add-s : tie.Need-add-s Inv-states μ-states
 add-s c = omega arith
@@ -42,10 +74,19 @@ states-less : tie.Need-states-less Inv-states μ-states
 states-less c = omega arith
 
 states-again : tie.Need-states-again Inv-states μ-states
-states-again c = (omega arith, ⊎-elim (λ w. b-keeps _ _ _ (c .before .before .before .states .inv .1) (sym (w .1 .ensures) ∙ w .2 .left)) (λ w. b-other _ _ _ (c .before .before .before .states .inv .1) (sym (c .before .in-map .ensures) ∙ w .left)) (c .if1 .came))
+states-again c =
+    let at-states : At-states = search in (
+      omega arith,
+      ⊎-elim (λ w. b-keeps _ _ _ (at-states .states .inv .1) (sym (w .1 .ensures) ∙ w .2 .left))
+          (λ w. b-other _ _ _ (at-states .states .inv .1) (sym (c .before .in-map .ensures) ∙ w .left)) (c .if1 .came),
+    )
 
 returns-2 : tie.Need-returns-2 Inv-states μ-states
-returns-2 c = b-done _ _ (c .before .states .s) (c .before .states .inv .1) (2 ^ c .before .before .before .before .args .bits) (omega (arith, c .before .before .power .ensures)) (omega (arith, c .before .before .power .ensures))
+returns-2 c =
+    let after-power : After-power = search in
+    let start : Start = search in
+    b-done _ _ (c .before .states .s) (c .before .states .inv .1) (2 ^ start .args .bits)
+    (omega (arith, after-power .power .ensures)) (omega (arith, after-power .power .ensures))
 
 pub holds-b-spec : {M : Type 1} → statement M
 holds-b-spec =

@@ -18,7 +18,9 @@ shr-result : tie.Need-shr-result
 shr-result c = search needs
 
 returns : tie.Need-returns
-returns c = bit-in _ _ _ _ _ (c .before .before .before .pre .1) (c .wide .ensures .0)
+returns c =
+    let start : tie.Start = search in
+    bit-in _ _ _ _ _ (start .pre .1) (c .wide .ensures .0)
 
 pub in-map-spec : {M : Type 1} → statement M
 in-map-spec = tie.close (tie.spec add-wide shared-slice-read-wide wide-requires shr-result returns)

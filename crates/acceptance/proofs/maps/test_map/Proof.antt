@@ -17,16 +17,34 @@ holds-b-requires : tie.Need-holds-b-requires
 holds-b-requires c κs = search needs
 
 returns-2 : tie.Need-returns-2
-returns-2 c = fails-b _ _ _ _ _ _ _ (sym (c .before .before .before .holds-a .ensures) ∙ not-false _ (c .before .before .if1 .left)) (sym (c .before .holds-b .ensures) ∙ not-true _ (c .if2 .taken))
+returns-2 c =
+    let else1 : tie.Else1 = search in
+    let after-holds-a : tie.After-holds-a = search in
+    fails-b _ _ _ _ _ _ _ (sym (after-holds-a .holds-a .ensures) ∙ not-false _ (else1 .if1 .left))
+    (sym (c .before .holds-b .ensures) ∙ not-true _ (c .if2 .taken))
 
 holds-c-requires : tie.Need-holds-c-requires
 holds-c-requires c κs = search needs
 
 returns-3 : tie.Need-returns-3
-returns-3 c = fails-c _ _ _ _ _ _ _ (sym (c .before .before .before .before .before .holds-a .ensures) ∙ not-false _ (c .before .before .before .before .if1 .left)) (sym (c .before .before .before .holds-b .ensures) ∙ not-false _ (c .before .before .if2 .left)) (sym (c .before .holds-c .ensures) ∙ not-true _ (c .if3 .taken))
+returns-3 c =
+    let else2 : tie.Else2 = search in
+    let after-holds-b : tie.After-holds-b = search in
+    let else1 : tie.Else1 = search in
+    let after-holds-a : tie.After-holds-a = search in
+    fails-c _ _ _ _ _ _ _ (sym (after-holds-a .holds-a .ensures) ∙ not-false _ (else1 .if1 .left))
+    (sym (after-holds-b .holds-b .ensures) ∙ not-false _ (else2 .if2 .left))
+    (sym (c .before .holds-c .ensures) ∙ not-true _ (c .if3 .taken))
 
 returns-4 : tie.Need-returns-4
-returns-4 c = safe-holds _ _ _ _ _ _ _ (sym (c .before .before .before .before .before .holds-a .ensures) ∙ not-false _ (c .before .before .before .before .if1 .left)) (sym (c .before .before .before .holds-b .ensures) ∙ not-false _ (c .before .before .if2 .left)) (sym (c .before .holds-c .ensures) ∙ not-false _ (c .if3 .left))
+returns-4 c =
+    let else2 : tie.Else2 = search in
+    let after-holds-b : tie.After-holds-b = search in
+    let else1 : tie.Else1 = search in
+    let after-holds-a : tie.After-holds-a = search in
+    safe-holds _ _ _ _ _ _ _ (sym (after-holds-a .holds-a .ensures) ∙ not-false _ (else1 .if1 .left))
+    (sym (after-holds-b .holds-b .ensures) ∙ not-false _ (else2 .if2 .left))
+    (sym (c .before .holds-c .ensures) ∙ not-false _ (c .if3 .left))
 
 pub test-map-spec : {M : Type 1} → statement M
 test-map-spec =

@@ -2,7 +2,8 @@
 -- Assumes nothing.
 use mathlib.Core.Path.{sym, _∙_}
 use native.Mathlib.Omega.{arith}
-use Rattle.acceptance.proofs.SheetLaws.{record-parts, map-length-pos, map-length-le, body-map, body-trace, body-none}
+use Rattle.acceptance.proofs.SheetLaws.{record-parts, map-length-pos, map-length-le, body-map, body-trace}
+use Rattle.acceptance.proofs.SheetLaws.{body-none}
 use borrow.Author.Needs.{needs}
 use Rattle.acceptance.proofs.sheets.body_shape.Statement.{statement}
 use Rattle.acceptance.proofs.sheets.body_shape.Tie as tie
@@ -25,8 +26,10 @@ map-shape-requires c κs = (
 
 returns : tie.Need-returns
 returns c =
-    body-map _ _ _ _ _ _ _ (c .before .before .before .map-length .ensures) (sym (c .before .before .is-record .ensures) ∙ c .before .if1 .taken)
-    (c .map-shape .ensures)
+    let after-is-record : tie.After-is-record = search in
+    let after-map-length : tie.After-map-length = search in
+    body-map _ _ _ _ _ _ _ (after-map-length .map-length .ensures)
+    (sym (after-is-record .is-record .ensures) ∙ c .before .if1 .taken) (c .map-shape .ensures)
 
 is-record-requires-2 : tie.Need-is-record-requires-2
 is-record-requires-2 c κs = search needs
@@ -41,14 +44,21 @@ trace-shape-requires c κs = (
 
 returns-2 : tie.Need-returns-2
 returns-2 c =
-    body-trace _ _ _ _ _ _ _ (c .before .before .before .before .before .map-length .ensures) (sym (c .before .before .before .before .is-record .ensures) ∙ c .before .before .before .if1 .left)
-    (sym (c .before .before .is-record2 .ensures) ∙ c .before .if2 .taken)
-    (c .trace-shape .ensures)
+    let after-is-record2 : tie.After-is-record2 = search in
+    let else1 : tie.Else1 = search in
+    let after-is-record : tie.After-is-record = search in
+    let after-map-length : tie.After-map-length = search in
+    body-trace _ _ _ _ _ _ _ (after-map-length .map-length .ensures)
+    (sym (after-is-record .is-record .ensures) ∙ else1 .if1 .left)
+    (sym (after-is-record2 .is-record2 .ensures) ∙ c .before .if2 .taken) (c .trace-shape .ensures)
 
 returns-3 : tie.Need-returns-3
 returns-3 c =
-    body-none _ _ _ _ _ _ (c .before .before .before .before .map-length .ensures) (sym (c .before .before .before .is-record .ensures) ∙ c .before .before .if1 .left)
-    (sym (c .before .is-record2 .ensures) ∙ c .if2 .left)
+    let else1 : tie.Else1 = search in
+    let after-is-record : tie.After-is-record = search in
+    let after-map-length : tie.After-map-length = search in
+    body-none _ _ _ _ _ _ (after-map-length .map-length .ensures)
+    (sym (after-is-record .is-record .ensures) ∙ else1 .if1 .left) (sym (c .before .is-record2 .ensures) ∙ c .if2 .left)
 
 pub body-shape-spec : {M : Type 1} → statement M
 body-shape-spec =

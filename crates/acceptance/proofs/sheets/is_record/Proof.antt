@@ -34,7 +34,12 @@ add-if2 c = search needs
 
 returns-2 : tie.Need-returns-2
 returns-2 c =
-    sym (not-eq-not .0 (λ e. c .if2 .taken (four-is _ _ _ _ (c .before .before .two-at .ensures .0) (c .before .two-at2 .ensures .0) ∙ record-parts _ _ _ _ e .1)))
+    let after-two-at : tie.After-two-at = search in
+    sym
+    (not-eq-not .0
+    (λ e. c .if2 .taken
+    (four-is _ _ _ _ (after-two-at .two-at .ensures .0) (c .before .two-at2 .ensures .0) ∙ record-parts _ _ _ _
+    e .1)))
 
 add-two-at-2 : tie.Need-add-two-at-2
 add-two-at-2 c = search needs
@@ -44,9 +49,12 @@ two-at-requires-3 c κs = search needs
 
 returns-3 : tie.Need-returns-3
 returns-3 c =
-    same-test _ _ _ (c .two-at3 .ensures .0)
-    ∙ record-last _ _ _ _ (c .before .before .before .before .if1 .left)
-    (sym (four-is _ _ _ _ (c .before .before .before .two-at .ensures .0) (c .before .before .two-at2 .ensures .0)) ∙ c .before .if2 .left)
+    let after-two-at2 : tie.After-two-at2 = search in
+    let after-two-at : tie.After-two-at = search in
+    let else1 : tie.Else1 = search in
+    same-test _ _ _ (c .two-at3 .ensures .0) ∙ record-last _ _ _ _ (else1 .if1 .left)
+    (sym (four-is _ _ _ _ (after-two-at .two-at .ensures .0) (after-two-at2 .two-at2 .ensures .0)) ∙
+    c .before .if2 .left)
 
 pub is-record-spec : {M : Type 1} → statement M
 is-record-spec =

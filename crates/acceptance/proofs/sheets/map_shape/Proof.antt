@@ -29,13 +29,17 @@ add-end-2 c = search needs
 
 returns-2 : tie.Need-returns-2
 returns-2 c =
-    map-longer _ _ _ _ (c .before .before .before .before .before .pre .0)
-    (sym (c .before .before .unused-clear .ensures) ∙ not-false _ (c .before .if1 .left)) (c .if2 .taken)
+    let after-unused-clear : tie.After-unused-clear = search in
+    let start : tie.Start = search in
+    map-longer _ _ _ _ (start .pre .0)
+    (sym (after-unused-clear .unused-clear .ensures) ∙ not-false _ (c .before .if1 .left)) (c .if2 .taken)
 
 returns-3 : tie.Need-returns-3
 returns-3 c =
-    map-whole _ _ _ _ (c .before .before .before .before .before .pre .0)
-    (sym (c .before .before .unused-clear .ensures) ∙ not-false _ (c .before .if1 .left)) (c .if2 .left)
+    let after-unused-clear : tie.After-unused-clear = search in
+    let start : tie.Start = search in
+    map-whole _ _ _ _ (start .pre .0)
+    (sym (after-unused-clear .unused-clear .ensures) ∙ not-false _ (c .before .if1 .left)) (c .if2 .left)
 
 pub map-shape-spec : {M : Type 1} → statement M
 map-shape-spec =

@@ -33,9 +33,12 @@ wide-requires-3 c κs = search needs
 
 returns-3 : tie.Need-returns-3
 returns-3 c =
-    same-test _ _ _ (c .wide3 .ensures .0)
-    ∙ counts-last _ _ _ _ _ (sym (c .before .before .before .before .before .before .wide .ensures .0) ∙ c .before .before .before .before .before .if1 .left)
-    (sym (c .before .before .before .wide2 .ensures .0) ∙ c .before .before .if2 .left)
+    let else2 : tie.Else2 = search in
+    let after-wide2 : tie.After-wide2 = search in
+    let else1 : tie.Else1 = search in
+    let after-wide : tie.After-wide = search in
+    same-test _ _ _ (c .wide3 .ensures .0) ∙ counts-last _ _ _ _ _
+    (sym (after-wide .wide .ensures .0) ∙ else1 .if1 .left) (sym (after-wide2 .wide2 .ensures .0) ∙ else2 .if2 .left)
 
 pub same-counts-spec : {M : Type 1} → statement M
 same-counts-spec =

@@ -17,14 +17,20 @@ is-record-requires : tie.Need-is-record-requires
 is-record-requires c κs = search needs
 
 returns-2 : tie.Need-returns-2
-returns-2 c = sheet-header _ _ _ _ _ (c .before .before .if1 .left) (sym (c .before .is-record .ensures) ∙ not-true _ (c .if2 .taken))
+returns-2 c =
+    let else1 : tie.Else1 = search in
+    sheet-header _ _ _ _ _ (else1 .if1 .left) (sym (c .before .is-record .ensures) ∙ not-true _ (c .if2 .taken))
 
 same-counts-requires : tie.Need-same-counts-requires
 same-counts-requires c κs = record-parts _ 0 1 3 (sym (c .before .is-record .ensures) ∙ not-false _ (c .if2 .left)) .0
 
 returns-3 : tie.Need-returns-3
 returns-3 c =
-    sheet-counts _ _ _ _ _ (c .before .before .before .before .if1 .left) (sym (c .before .before .before .is-record .ensures) ∙ not-false _ (c .before .before .if2 .left))
+    let else2 : tie.Else2 = search in
+    let after-is-record : tie.After-is-record = search in
+    let else1 : tie.Else1 = search in
+    sheet-counts _ _ _ _ _ (else1 .if1 .left)
+    (sym (after-is-record .is-record .ensures) ∙ not-false _ (else2 .if2 .left))
     (sym (c .before .same-counts .ensures) ∙ not-true _ (c .if3 .taken))
 
 add-power : tie.Need-add-power
@@ -43,9 +49,14 @@ body-shape-requires c κs = (
 
 returns-4 : tie.Need-returns-4
 returns-4 c =
-    sheet-body _ _ _ _ _ (c .before .before .before .before .before .before .if1 .left) (sym (c .before .before .before .before .before .is-record .ensures) ∙ not-false _ (c .before .before .before .before .if2 .left))
-    (sym (c .before .before .before .same-counts .ensures) ∙ not-false _ (c .before .before .if3 .left))
-    _ _ (c .before .power .ensures) (c .body-shape .ensures)
+    let else3 : tie.Else3 = search in
+    let after-same-counts : tie.After-same-counts = search in
+    let else2 : tie.Else2 = search in
+    let after-is-record : tie.After-is-record = search in
+    let else1 : tie.Else1 = search in
+    sheet-body _ _ _ _ _ (else1 .if1 .left) (sym (after-is-record .is-record .ensures) ∙ not-false _ (else2 .if2 .left))
+    (sym (after-same-counts .same-counts .ensures) ∙ not-false _ (else3 .if3 .left)) _ _ (c .before .power .ensures)
+    (c .body-shape .ensures)
 
 pub shape-of-spec : {M : Type 1} → statement M
 shape-of-spec =

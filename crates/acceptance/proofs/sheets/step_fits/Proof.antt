@@ -16,8 +16,8 @@ wide-requires c κs = search needs
 
 returns : tie.Need-returns
 returns c =
-    fits-command _ _ _ (c .before .before .before .before .args .b .now) (c .before .before .before .before .args .p) _ (c .before .wide .ensures .0)
-    (c .if1 .taken)
+    let start : tie.Start = search in
+    fits-command _ _ _ (start .args .b .now) (start .args .p) _ (c .before .wide .ensures .0) (c .if1 .taken)
 
 add-wide : tie.Need-add-wide
 add-wide c = search needs
@@ -39,15 +39,20 @@ count-requires c κs = search needs
 
 power-requires : tie.Need-power-requires
 power-requires c κs =
-    omega
-    (arith, c .before .before .before .before .before .before .before .before .pre .1 .fewStars (c .before .before .before .before .before .wide .result) (c .before .before .before .before .if1 .left), c .count .ensures)
+    let else1 : tie.Else1 = search in
+    let after-wide : tie.After-wide = search in
+    let start : tie.Start = search in
+    omega (arith, start .pre .1 .fewStars (after-wide .wide .result) (else1 .if1 .left), c .count .ensures)
 
 returns-2 : tie.Need-returns-2
 returns-2 c =
-    fits-word _ _ _ (c .before .before .before .before .before .before .before .before .before .before .args .b .now)
-    (c .before .before .before .before .before .before .before .before .before .before .args .p) _ _ _
-    (c .before .before .before .before .before .before .before .wide .ensures .0) (c .before .before .before .before .before .before .if1 .left)
-    (c .before .before .before .before .wide2 .ensures .0) (c .before .power .ensures ∙ ap (λ (x : ℕ). 2 ^ x) (c .before .before .count .ensures))
+    let after-count : tie.After-count = search in
+    let after-wide2 : tie.After-wide2 = search in
+    let else1 : tie.Else1 = search in
+    let after-wide : tie.After-wide = search in
+    let start : tie.Start = search in
+    fits-word _ _ _ (start .args .b .now) (start .args .p) _ _ _ (after-wide .wide .ensures .0) (else1 .if1 .left)
+    (after-wide2 .wide2 .ensures .0) (c .before .power .ensures ∙ ap (λ (x : ℕ). 2 ^ x) (after-count .count .ensures))
     (c .if2 .taken)
 
 add-two-at : tie.Need-add-two-at
@@ -58,11 +63,15 @@ two-at-requires c κs = search needs
 
 returns-3 : tie.Need-returns-3
 returns-3 c =
-    fits-state _ _ _ (c .before .before .before .before .before .before .before .before .before .before .before .args .b .now)
-    (c .before .before .before .before .before .before .before .before .before .before .before .args .p) _ _ _
-    (c .before .before .before .before .before .before .before .before .wide .ensures .0)
-    (c .before .before .before .before .before .before .before .if1 .left) (c .before .before .before .before .before .wide2 .ensures .0)
-    (c .before .before .power .ensures ∙ ap (λ (x : ℕ). 2 ^ x) (c .before .before .before .count .ensures)) _ (c .before .if2 .left)
+    let after-power : tie.After-power = search in
+    let after-count : tie.After-count = search in
+    let after-wide2 : tie.After-wide2 = search in
+    let else1 : tie.Else1 = search in
+    let after-wide : tie.After-wide = search in
+    let start : tie.Start = search in
+    fits-state _ _ _ (start .args .b .now) (start .args .p) _ _ _ (after-wide .wide .ensures .0) (else1 .if1 .left)
+    (after-wide2 .wide2 .ensures .0)
+    (after-power .power .ensures ∙ ap (λ (x : ℕ). 2 ^ x) (after-count .count .ensures)) _ (c .before .if2 .left)
     (c .two-at .ensures .0)
 
 pub step-fits-spec : {M : Type 1} → statement M

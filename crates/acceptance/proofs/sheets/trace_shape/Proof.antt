@@ -1,6 +1,7 @@
 -- `trace_shape` meets its contract: what is left to demand from a record on gives what all of it gave from the first.
 -- Assumes nothing.
-use Rattle.acceptance.proofs.SheetLaws.{steps-start, trace-bad, trace-fault, trace-whole, steps-kind, steps-range, steps-none, steps-left, record-parts}
+use Rattle.acceptance.proofs.SheetLaws.{steps-start, trace-bad, trace-fault, trace-whole, steps-kind}
+use Rattle.acceptance.proofs.SheetLaws.{steps-range, steps-none, steps-left, record-parts}
 use Rattle.acceptance.specs.working.Shapes.{starsIn}
 use Rattle.acceptance.specs.working.SheetReading.{Reading, stepsAt, stepCount}
 use borrow.Author.Tests.{not-true, not-false}
@@ -11,10 +12,32 @@ use Rattle.acceptance.proofs.sheets.trace_shape.Statement.{statement}
 use Rattle.acceptance.proofs.sheets.trace_shape.Tie as tie
 
 abbrev Inv-loop : tie.InvT-loop
-Inv-loop b states commands stars p n at₀ i₀ at i = (i ≤ n) × (at ≡ p + 8 + 10 * i) × ((rest : Reading) → stepsAt states commands (starsIn stars) b at (n - i) rest ≡ stepsAt states commands (starsIn stars) b (p + 8) n rest)
+Inv-loop b states commands stars p n at₀ i₀ at i =
+    (i ≤ n) × (at ≡ p + 8 + 10 * i) ×
+    ((rest : Reading) → stepsAt states commands (starsIn stars) b at (n - i) rest ≡ stepsAt states commands
+    (starsIn stars) b (p + 8) n rest)
 
 abbrev μ-loop : tie.MeasureT-loop
 μ-loop b states commands stars p n at₀ i₀ at i = n - i
+
+-- The places that the answers name.
+abbrev At-loop : Type 0
+At-loop = tie.At-loop Inv-loop μ-loop
+
+abbrev Else1 : Type 0
+Else1 = tie.Else1 Inv-loop μ-loop
+
+abbrev After-two-at : Type 0
+After-two-at = tie.After-two-at Inv-loop μ-loop
+
+abbrev Start : Type 0
+Start = tie.Start Inv-loop μ-loop
+
+abbrev Else2 : Type 0
+Else2 = tie.Else2 Inv-loop μ-loop
+
+abbrev After-is-record : Type 0
+After-is-record = tie.After-is-record Inv-loop μ-loop
 
 add-two-at : tie.Need-add-two-at Inv-loop μ-loop
 add-two-at c = omega arith
@@ -46,8 +69,12 @@ is-record-requires c κs = (omega arith, omega arith)
 returns-2 : tie.Need-returns-2 Inv-loop μ-loop
 unfolding stepCount
 returns-2 c =
-    trace-fault _ _ _ _ _ _ (c .before .before .before .before .before .two-at .ensures .0) (c .before .before .before .before .if1 .left) _ _
-    (λ rest. steps-kind _ _ _ _ _ _ rest (omega arith) (sym (c .before .is-record .ensures) ∙ not-true _ (c .if2 .taken)) ∙ c .before .before .before .loop .inv .2 rest)
+    let at-loop : At-loop = search in
+    let else1 : Else1 = search in
+    let after-two-at : After-two-at = search in
+    trace-fault _ _ _ _ _ _ (after-two-at .two-at .ensures .0) (else1 .if1 .left) _ _
+    (λ rest. steps-kind _ _ _ _ _ _ rest (omega arith)
+    (sym (c .before .is-record .ensures) ∙ not-true _ (c .if2 .taken)) ∙ at-loop .loop .inv .2 rest)
 
 add-step-fits : tie.Need-add-step-fits Inv-loop μ-loop
 add-step-fits c = omega arith
@@ -62,9 +89,15 @@ step-fits-requires c κs = (
 returns-3 : tie.Need-returns-3 Inv-loop μ-loop
 unfolding stepCount
 returns-3 c =
-    trace-fault _ _ _ _ _ _ (c .before .before .before .before .before .before .before .two-at .ensures .0)
-    (c .before .before .before .before .before .before .if1 .left) _ _
-    (λ rest. steps-range _ _ _ _ _ _ rest (omega arith) (sym (c .before .before .before .is-record .ensures) ∙ not-false _ (c .before .before .if2 .left)) (sym (c .before .step-fits .ensures) ∙ not-true _ (c .if3 .taken)) ∙ c .before .before .before .before .before .loop .inv .2 rest)
+    let else2 : Else2 = search in
+    let after-is-record : After-is-record = search in
+    let at-loop : At-loop = search in
+    let else1 : Else1 = search in
+    let after-two-at : After-two-at = search in
+    trace-fault _ _ _ _ _ _ (after-two-at .two-at .ensures .0) (else1 .if1 .left) _ _
+    (λ rest. steps-range _ _ _ _ _ _ rest (omega arith)
+    (sym (after-is-record .is-record .ensures) ∙ not-false _ (else2 .if2 .left))
+    (sym (c .before .step-fits .ensures) ∙ not-true _ (c .if3 .taken)) ∙ at-loop .loop .inv .2 rest)
 
 add-at-2 : tie.Need-add-at-2 Inv-loop μ-loop
 add-at-2 c = omega arith
@@ -86,7 +119,9 @@ loop-again c = (
 returns-4 : tie.Need-returns-4 Inv-loop μ-loop
 unfolding stepCount
 returns-4 c =
-    trace-whole _ _ _ _ _ _ (c .before .before .before .two-at .ensures .0) (c .before .before .if1 .left)
+    let else1 : Else1 = search in
+    let after-two-at : After-two-at = search in
+    trace-whole _ _ _ _ _ _ (after-two-at .two-at .ensures .0) (else1 .if1 .left)
     (λ rest. sym (steps-none _ _ _ _ _ _ rest (omega arith)) ∙ c .before .loop .inv .2 rest)
 
 pub trace-shape-spec : {M : Type 1} → statement M

@@ -12,7 +12,9 @@ power-requires : tie.Need-power-requires
 power-requires c κs = search needs
 
 returns : tie.Need-returns
-returns c = clear-few _ _ _ _ (c .before .before .if1 .taken) (c .before .wide .ensures .0) (c .power .ensures)
+returns c =
+    let then1 : tie.Then1 = search in
+    clear-few _ _ _ _ (then1 .if1 .taken) (c .before .wide .ensures .0) (c .power .ensures)
 
 returns-2 : tie.Need-returns-2
 returns-2 c = clear-many _ _ (c .if1 .left)

@@ -14,12 +14,17 @@ rows-of-requires c κs = search needs
 
 returns : tie.Need-returns
 returns c =
-    let a = c .before .before .before .before .before .before .args in
-    filled-new (slice (a .from) (a .to) (a .ops .now)) (a .state) (a .n) (a .w) (a .rows .now) _ _ (c .before .before .before .before .if1 .taken) (c .before .before .before .batch .ensures) (c .rows-of .ensures)
+    let after-batch : tie.After-batch = search in
+    let then1 : tie.Then1 = search in
+    let start : tie.Start = search in
+    let a = start .args in
+    filled-new (slice (a .from) (a .to) (a .ops .now)) (a .state) (a .n) (a .w) (a .rows .now) _ _ (then1 .if1 .taken)
+    (after-batch .batch .ensures) (c .rows-of .ensures)
 
 returns-2 : tie.Need-returns-2
 returns-2 c =
-    let a = c .before .before .args in
+    let start : tie.Start = search in
+    let a = start .args in
     filled-old (slice (a .from) (a .to) (a .ops .now)) (a .state) (a .n) (a .w) (a .rows .now) (c .if1 .left)
 
 pub fill-spec : {M : Type 1} → statement M

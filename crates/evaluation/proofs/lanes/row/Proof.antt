@@ -13,15 +13,29 @@ use Rattle.evaluation.proofs.lanes.row.Statement.{statement}
 use Rattle.evaluation.proofs.lanes.row.Tie as tie
 
 abbrev Inv-loop : tie.InvT-loop
-Inv-loop cells n r x₀ i₀ x i = (i ≤ n) × (n ≤ 16) × (r < 16) × (x + fours ≤ 2 ^ (n - i) * fours) × (x * 2 ^ i + rowOf cells i r ≡ rowOf cells n r)
+Inv-loop cells n r x₀ i₀ x i =
+    (i ≤ n) × (n ≤ 16) × (r < 16) × (x + fours ≤ 2 ^ (n - i) * fours) × (x * 2 ^ i + rowOf cells i r ≡ rowOf cells n r)
 
 abbrev μ-loop : tie.MeasureT-loop
 μ-loop cells n r x₀ i₀ x i = i
 
+-- The places that the answers name.
+abbrev At-loop : Type 0
+At-loop = tie.At-loop Inv-loop μ-loop
+
+abbrev Start : Type 0
+Start = tie.Start Inv-loop μ-loop
+
 loop-holds : tie.Need-loop-holds Inv-loop μ-loop
 loop-holds c =
-    let a = c .args in
-    (omega arith, omega arith, omega arith, row-first (a .n), sum-none (λ k. bitAnd (getD (a .cells .now) k 0 / 2 ^ a .r) fours) (a .n))
+    let a = c .args in (
+      omega arith,
+      omega arith,
+      omega arith,
+      row-first (a .n),
+      sum-none
+          (λ k. bitAnd (getD (a .cells .now) k 0 / 2 ^ a .r) fours) (a .n),
+    )
 
 sub-i : tie.Need-sub-i Inv-loop μ-loop
 sub-i c = search needs
@@ -37,31 +51,42 @@ shr-x c = search needs
 
 add-x : tie.Need-add-x Inv-loop μ-loop
 add-x c =
-    let a = c .before .before .before .args in
-    let l = c .before .before .loop in
+    let at-loop : At-loop = search in
+    let start : Start = search in
+    let a = start .args in
+    let l = at-loop .loop in
     let m = bitAnd (getD (a .cells .now) (l .i - 1) 0 / 2 ^ a .r) fours in
     let e = row-room (l .x) (a .n) (l .i) (omega arith) (omega arith) (omega arith) (l .inv .3) in
-    record { fits = rw e (row-fits (l .x) m (a .n) (l .i) (omega arith) (omega arith) (omega arith) (row-bits (getD (a .cells .now) (l .i - 1) 0) (a .r)) (l .inv .3)) }
+    record {
+      fits = rw e
+          (row-fits (l .x) m (a .n) (l .i) (omega arith) (omega arith) (omega arith)
+          (row-bits (getD (a .cells .now) (l .i - 1) 0) (a .r)) (l .inv .3));
+    }
 
 loop-less : tie.Need-loop-less Inv-loop μ-loop
 loop-less c = search needs
 
 loop-again : tie.Need-loop-again Inv-loop μ-loop
 loop-again c =
-    let a = c .before .before .before .args in
-    let l = c .before .before .loop in
+    let at-loop : At-loop = search in
+    let start : Start = search in
+    let a = start .args in
+    let l = at-loop .loop in
     let m = bitAnd (getD (a .cells .now) (l .i - 1) 0 / 2 ^ a .r) fours in
     let e = row-room (l .x) (a .n) (l .i) (omega arith) (omega arith) (omega arith) (l .inv .3) in (
       omega arith,
       omega arith,
       omega arith,
-      rw e (row-more (l .x) m (a .n) (l .i) (omega arith) (omega arith) (row-bits (getD (a .cells .now) (l .i - 1) 0) (a .r)) (l .inv .3)),
+      rw e
+          (row-more (l .x) m (a .n) (l .i) (omega arith) (omega arith) (row-bits (getD (a .cells .now) (l .i - 1) 0) (a .r))
+          (l .inv .3)),
       rw e (sum-next (λ k. bitAnd (getD (a .cells .now) k 0 / 2 ^ a .r) fours) (l .x) (l .i) (omega arith) ∙ l .inv .4),
     )
 
 returns : tie.Need-returns Inv-loop μ-loop
 returns c =
-    let a = c .before .before .args in
+    let start : Start = search in
+    let a = start .args in
     let l = c .before .loop in
     let e : l .i ≡ 0 = omega arith in
     sym (sum-done (λ k. bitAnd (getD (a .cells .now) k 0 / 2 ^ a .r) fours) (l .x)) ∙ rw e at (l .inv .4)

@@ -16,6 +16,13 @@ Inv-loop cells n out₀ r₀ out r = (r ≤ 16) × (n ≤ 16) × (out ≡ fills 
 abbrev μ-loop : tie.MeasureT-loop
 μ-loop cells n out₀ r₀ out r = 16 - r
 
+-- The places that the answers name.
+abbrev At-loop : Type 0
+At-loop = tie.At-loop Inv-loop μ-loop
+
+abbrev Start : Type 0
+Start = tie.Start Inv-loop μ-loop
+
 loop-holds : tie.Need-loop-holds Inv-loop μ-loop
 loop-holds c = (omega arith, omega arith, fills-none (rowOf (c .args .cells .now) (c .args .n)) _)
 
@@ -39,15 +46,18 @@ loop-less c = search needs
 
 loop-again : tie.Need-loop-again Inv-loop μ-loop
 loop-again c =
-    let a = c .before .before .before .args in
-    let l = c .before .before .loop in
-    (omega arith, omega arith, ap (set (l .out) (l .r)) (c .row .ensures) ∙ fills-next (rowOf (a .cells .now) (a .n)) (l .r) (l .out) _ (l .inv .2))
+    let at-loop : At-loop = search in
+    let start : Start = search in
+    let a = start .args in
+    let l = at-loop .loop in (
+      omega arith,
+      omega arith,
+      ap (set (l .out) (l .r)) (c .row .ensures) ∙ fills-next (rowOf (a .cells .now) (a .n))
+          (l .r) (l .out) _ (l .inv .2),
+    )
 
 returns : tie.Need-returns Inv-loop μ-loop
-returns c =
-    let l = c .before .loop in
-    let e : l .r ≡ 16 = omega arith in
-    rw e at (l .inv .2)
+returns c = let l = c .before .loop in let e : l .r ≡ 16 = omega arith in rw e at (l .inv .2)
 
 pub rows-of-spec : {M : Type 1} → statement M
 rows-of-spec =

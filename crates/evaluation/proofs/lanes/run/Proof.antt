@@ -18,6 +18,13 @@ Inv-loop ops from to batch cells₀ t₀ i₀ cells t i =
 abbrev μ-loop : tie.MeasureT-loop
 μ-loop ops from to batch cells₀ t₀ i₀ cells t i = to - i
 
+-- The places that the answers name.
+abbrev At-loop : Type 0
+At-loop = tie.At-loop Inv-loop μ-loop
+
+abbrev Start : Type 0
+Start = tie.Start Inv-loop μ-loop
+
 loop-holds : tie.Need-loop-holds Inv-loop μ-loop
 loop-holds c = (omega arith, omega arith, (omega arith, omega arith), refl)
 
@@ -38,15 +45,18 @@ loop-less c = omega arith
 
 loop-again : tie.Need-loop-again Inv-loop μ-loop
 loop-again c =
-    let a = c .before .before .before .before .before .before .args in
-    let l = c .before .before .before .before .loop in
+    let at-loop : At-loop = search in
+    let start : Start = search in
+    let a = start .args in
+    let l = at-loop .loop in
     let t = turn (a .ops .now) (l .i) (a .to) (a .batch) (l .t) (l .cells) (omega arith) (omega arith) in
     let n = tops-in (getD (a .ops .now) (l .i) 0) (l .t) (l .inv .2) in
     (omega arith, omega arith, subst In (sym (c .step .ensures .1)) n, cc)
 
 returns : tie.Need-returns Inv-loop μ-loop
 returns c =
-    let a = c .before .before .before .args in
+    let start : Start = search in
+    let a = start .args in
     let l = c .before .loop in
     let d = done (a .ops .now) (l .i) (a .to) (a .batch) (l .t) (l .cells) (omega arith) in
     cc

@@ -17,6 +17,10 @@ Inv-loop state n cells₀ i₀ cells i = (i ≤ n) × (n ≤ 32) × (cells ≡ f
 abbrev μ-loop : tie.MeasureT-loop
 μ-loop state n cells₀ i₀ cells i = n - i
 
+-- The places that the answers name.
+abbrev Start : Type 0
+Start = tie.Start Inv-loop μ-loop
+
 array-write-cells : tie.Need-array-write-cells Inv-loop μ-loop
 array-write-cells c = search needs
 
@@ -49,13 +53,15 @@ loop-less c = search needs
 
 loop-again : tie.Need-loop-again Inv-loop μ-loop
 loop-again c =
+    let start : Start = search in
     let l = c .before .loop in
-    (omega arith, omega arith, fills-next (λ k. digit (c .before .before .args .state) k * ones) (l .i) (l .cells) _ (l .inv .2))
+    (omega arith, omega arith, fills-next (λ k. digit (start .args .state) k * ones) (l .i) (l .cells) _ (l .inv .2))
 
 returns : tie.Need-returns Inv-loop μ-loop
 returns c =
+    let start : Start = search in
     let l = c .before .loop in
-    let e : l .i ≡ c .before .before .args .n = omega arith in
+    let e : l .i ≡ start .args .n = omega arith in
     rw e at (l .inv .2)
 
 pub start-spec : {M : Type 1} → statement M

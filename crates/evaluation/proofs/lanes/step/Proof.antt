@@ -303,23 +303,33 @@ returns-4 c = (rw (c .before .match .keys4), rw (c .before .match .keys4))
 
 returns-5 : tie.Need-returns-5
 unfolding cellsKind topsKind
-returns-5 c = (rw (c .before .before .match .keys5), rw (c .before .before .match .keys5))
+returns-5 c =
+    let at-match-keys5 : tie.At-match-keys5 = search in
+    (rw (at-match-keys5 .match .keys5), rw (at-match-keys5 .match .keys5))
 
 returns-6 : tie.Need-returns-6
 unfolding cellsKind topsKind
-returns-6 c = (rw (c .before .before .match .keys6), rw (c .before .before .match .keys6))
+returns-6 c =
+    let at-match-keys6 : tie.At-match-keys6 = search in
+    (rw (at-match-keys6 .match .keys6), rw (at-match-keys6 .match .keys6))
 
 returns-7 : tie.Need-returns-7
 unfolding cellsKind topsKind
-returns-7 c = (rw (c .before .before .before .match .keys7), rw (c .before .before .before .match .keys7))
+returns-7 c =
+    let at-match-keys7 : tie.At-match-keys7 = search in
+    (rw (at-match-keys7 .match .keys7), rw (at-match-keys7 .match .keys7))
 
 returns-8 : tie.Need-returns-8
 unfolding cellsKind topsKind
-returns-8 c = (rw (c .before .before .match .keys8), rw (c .before .before .match .keys8))
+returns-8 c =
+    let at-match-keys8 : tie.At-match-keys8 = search in
+    (rw (at-match-keys8 .match .keys8), rw (at-match-keys8 .match .keys8))
 
 returns-9 : tie.Need-returns-9
 unfolding cellsKind topsKind
-returns-9 c = (rw (c .before .before .match .keys9), rw (c .before .before .match .keys9))
+returns-9 c =
+    let at-match-keys9 : tie.At-match-keys9 = search in
+    (rw (at-match-keys9 .match .keys9), rw (at-match-keys9 .match .keys9))
 
 returns-10 : tie.Need-returns-10
 unfolding cellsKind topsKind
@@ -328,8 +338,11 @@ returns-10 c = (rw (c .match .keys10), rw (c .match .keys10))
 returns-11 : tie.Need-returns-11
 returns-11 c =
     let a = c .before .args in
-    let k = past-nine (a .op / 32) (c .match .rest) in
-    (sym (cells-other (a .op / 32) (a .op % 32) (a .batch) (a .t .sp) (a .t .mp) (a .cells .now) k), sym (tops-other (a .op / 32) (a .t .sp) (a .t .mp) k))
+    let k = past-nine (a .op / 32) (c .match .rest) in (
+      sym (cells-other (a .op / 32) (a .op % 32) (a .batch) (a .t .sp) (a .t .mp) (a .cells .now) k),
+      sym
+          (tops-other (a .op / 32) (a .t .sp) (a .t .mp) k),
+    )
 
 pub step-spec : {M : Type 1} → statement M
 step-spec =

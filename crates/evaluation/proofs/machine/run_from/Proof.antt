@@ -18,6 +18,13 @@ Inv-loop ops from to word m₀ i₀ m i =
 abbrev μ-loop : tie.MeasureT-loop
 μ-loop ops from to word m₀ i₀ m i = to - i
 
+-- The places that the answers name.
+abbrev At-loop : Type 0
+At-loop = tie.At-loop Inv-loop μ-loop
+
+abbrev Start : Type 0
+Start = tie.Start Inv-loop μ-loop
+
 loop-holds : tie.Need-loop-holds Inv-loop μ-loop
 loop-holds c = (omega arith, omega arith, refl)
 
@@ -38,14 +45,17 @@ loop-less c = omega arith
 
 loop-again : tie.Need-loop-again Inv-loop μ-loop
 loop-again c =
-    let a = c .before .before .before .before .before .args in
-    let l = c .before .before .before .loop in
+    let at-loop : At-loop = search in
+    let start : Start = search in
+    let a = start .args in
+    let l = at-loop .loop in
     let t = turn (a .ops .now) (l .i) (a .to) (a .word) (l .m) (omega arith) (omega arith) in
     (omega arith, omega arith, cc)
 
 returns : tie.Need-returns Inv-loop μ-loop
 returns c =
-    let a = c .before .before .before .args in
+    let start : Start = search in
+    let a = start .args in
     let l = c .before .loop in
     let d = done (a .ops .now) (l .i) (a .to) (a .word) (l .m) (omega arith) in
     cc

@@ -123,7 +123,9 @@ returns-7 c = rw (c .match .keys6)
 
 returns-8 : tie.Need-returns-8
 unfolding kindOf
-returns-8 c = rw (c .before .before .match .keys7, ne-eqb _ _ (c .before .if1 .left), c .put-bit .ensures)
+returns-8 c =
+    let at-match-keys7 : tie.At-match-keys7 = search in
+    rw (at-match-keys7 .match .keys7, ne-eqb _ _ (c .before .if1 .left), c .put-bit .ensures)
 
 returns-9 : tie.Need-returns-9
 unfolding kindOf

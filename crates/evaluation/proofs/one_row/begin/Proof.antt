@@ -21,7 +21,9 @@ count-requires : tie.Need-count-requires
 count-requires c κs = search needs
 
 returns-2 : tie.Need-returns-2
-returns-2 c = begin-later _ _ _ (c .before .before .if1 .left) (c .count .ensures)
+returns-2 c =
+    let else1 : tie.Else1 = search in
+    begin-later _ _ _ (else1 .if1 .left) (c .count .ensures)
 
 pub begin-spec : {M : Type 1} → statement M
 begin-spec =

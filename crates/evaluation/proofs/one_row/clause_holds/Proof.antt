@@ -23,10 +23,23 @@ count-requires : tie.Need-count-requires
 count-requires c κs = search needs
 
 value-requires : tie.Need-value-requires
-value-requires c κs = (part-rises (c .before .before .before .before .args .commands) _ (c .before .before .before .before .pre .3) (c .before .before .before .before .args .i) _ _ (omega arith) (c .before .count .ensures) (c .before .before .before .begin .ensures), omega (arith, part-short (c .before .before .before .before .args .commands) _ (c .before .before .before .before .pre .3) (c .before .before .before .before .args .i) 0 _ (omega arith) (c .before .count .ensures)))
+value-requires c κs =
+    let after-begin : tie.After-begin = search in
+    let start : tie.Start = search in
+    let commands = start .args .commands in
+    let i = start .args .i in (
+      part-rises commands _ (start .pre .3) i _ _ (omega arith) (c .before .count .ensures)
+          (after-begin .begin .ensures),
+      omega
+          (arith, part-short commands _ (start .pre .3) i 0 _ (omega arith) (c .before .count .ensures)),
+    )
 
 returns : tie.Need-returns
-returns c = clause-fails _ _ _ _ _ _ _ (c .before .before .before .before .before .begin .ensures) (c .before .before .before .count .ensures) (c .before .value .ensures) (c .if1 .taken)
+returns c =
+    let after-count : tie.After-count = search in
+    let after-begin : tie.After-begin = search in
+    clause-fails _ _ _ _ _ _ _ (after-begin .begin .ensures) (after-count .count .ensures) (c .before .value .ensures)
+    (c .if1 .taken)
 
 add-count : tie.Need-add-count
 add-count c = search needs
@@ -41,10 +54,26 @@ count-requires-2 : tie.Need-count-requires-2
 count-requires-2 c κs = search needs
 
 value-requires-2 : tie.Need-value-requires-2
-value-requires-2 c κs = (part-next (c .before .before .before .before .before .before .before .before .before .args .commands) _ (c .before .before .before .before .before .before .before .before .before .pre .3) (c .before .before .before .before .before .before .before .before .before .args .i) _ _ (omega arith) (c .before .before .before .before .before .before .count .ensures) (c .before .count2 .ensures), omega (arith, part-short (c .before .before .before .before .before .before .before .before .before .args .commands) _ (c .before .before .before .before .before .before .before .before .before .pre .3) (c .before .before .before .before .before .before .before .before .before .args .i + 1) 0 _ (omega arith) (c .before .count2 .ensures)))
+value-requires-2 c κs =
+    let after-count : tie.After-count = search in
+    let start : tie.Start = search in
+    let commands = start .args .commands in
+    let i = start .args .i in (
+      part-next commands _ (start .pre .3) i _ _ (omega arith) (after-count .count .ensures)
+          (c .before .count2 .ensures),
+      omega
+          (arith, part-short commands _ (start .pre .3) (i + 1) 0 _ (omega arith) (c .before .count2 .ensures)),
+    )
 
 returns-2 : tie.Need-returns-2
-returns-2 c = clause-goes _ _ _ _ _ _ _ (c .before .before .before .before .before .before .before .before .before .begin .ensures) (c .before .before .before .before .before .before .before .count .ensures) (c .before .before .before .before .before .value .ensures) (c .before .before .before .before .if1 .left) _ _ (c .before .before .count2 .ensures) (c .value2 .ensures)
+returns-2 c =
+    let after-count2 : tie.After-count2 = search in
+    let else1 : tie.Else1 = search in
+    let after-value : tie.After-value = search in
+    let after-count : tie.After-count = search in
+    let after-begin : tie.After-begin = search in
+    clause-goes _ _ _ _ _ _ _ (after-begin .begin .ensures) (after-count .count .ensures) (after-value .value .ensures)
+    (else1 .if1 .left) _ _ (after-count2 .count2 .ensures) (c .value2 .ensures)
 
 pub clause-holds-spec : {M : Type 1} → statement M
 clause-holds-spec =

@@ -33,7 +33,16 @@ cast-run-2 : tie.Need-cast-run-2
 cast-run-2 c = search needs
 
 run-requires : tie.Need-run-requires
-run-requires c κs = (part-rises (c .before .before .before .before .args .commands) _ (c .before .before .before .before .pre .5) (4 + c .before .before .before .before .args .k) _ _ (omega arith) (c .before .count .ensures) (c .before .before .before .begin .ensures), omega (arith, part-short (c .before .before .before .before .args .commands) _ (c .before .before .before .before .pre .5) (4 + c .before .before .before .before .args .k) 0 _ (omega arith) (c .before .count .ensures)))
+run-requires c κs =
+    let after-begin : tie.After-begin = search in
+    let start : tie.Start = search in
+    let commands = start .args .commands in
+    let k = start .args .k in (
+      part-rises commands _ (start .pre .5) (4 + k) _ _ (omega arith) (c .before .count .ensures)
+          (after-begin .begin .ensures),
+      omega
+          (arith, part-short commands _ (start .pre .5) (4 + k) 0 _ (omega arith) (c .before .count .ensures)),
+    )
 
 cast-after : tie.Need-cast-after
 cast-after c = search needs
@@ -42,10 +51,16 @@ power-requires : tie.Need-power-requires
 power-requires c κs = search needs
 
 rem-result : tie.Need-rem-result
-rem-result c = omega (arith, c .power .ensures, pow-pos (c .before .before .before .before .before .before .args .n))
+rem-result c =
+    let start : tie.Start = search in
+    omega (arith, c .power .ensures, pow-pos (start .args .n))
 
 returns : tie.Need-returns
-returns c = step-taken _ _ _ _ _ _ _ _ _ _ (c .before .before .before .before .before .begin .ensures) (c .before .before .before .count .ensures) (c .before .run .ensures) (c .power .ensures)
+returns c =
+    let after-count : tie.After-count = search in
+    let after-begin : tie.After-begin = search in
+    step-taken _ _ _ _ _ _ _ _ _ _ (after-begin .begin .ensures) (after-count .count .ensures) (c .before .run .ensures)
+    (c .power .ensures)
 
 pub step-spec : {M : Type 1} → statement M
 step-spec =

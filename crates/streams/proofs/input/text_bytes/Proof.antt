@@ -15,6 +15,10 @@ Inv-bytes block₀ room₀ n rest₀ i₀ block room rest i = length room ≡ le
 abbrev μ-bytes : tie.MeasureT-bytes
 μ-bytes block₀ room₀ n rest₀ i₀ block room rest i = n - i
 
+-- The places that the answers name.
+abbrev At-bytes : Type 0
+At-bytes = tie.At-bytes Inv-bytes μ-bytes
+
 bytes-holds : tie.Need-bytes-holds Inv-bytes μ-bytes
 bytes-holds c = refl
 
@@ -28,7 +32,9 @@ enum-told : tie.Need-enum-told Inv-bytes μ-bytes
 enum-told c = search needs
 
 same-length : tie.Need-same-length Inv-bytes μ-bytes
-same-length c = c .before .before .before .before .before .bytes .inv
+same-length c =
+    let at-bytes : At-bytes = search in
+    at-bytes .bytes .inv
 
 returns : tie.Need-returns Inv-bytes μ-bytes
 returns c = tt
@@ -44,17 +50,18 @@ bytes-less c = omega arith
 
 bytes-again : tie.Need-bytes-again Inv-bytes μ-bytes
 bytes-again c =
-    let turn = c .before .before .before .before .before .before .before .bytes in
-    ⊎-elim
-    (λ w. ap length (w .1) ∙ length-set (turn .room) _ _ ∙ turn .inv)
-    (λ w. ap length (w .1) ∙ turn .inv)
+    let at-bytes : At-bytes = search in
+    let turn = at-bytes .bytes in
+    ⊎-elim (λ w. ap length (w .1) ∙ length-set (turn .room) _ _ ∙ turn .inv) (λ w. ap length (w .1) ∙ turn .inv)
     (c .if1 .came)
 
 next-byte-requires-2 : tie.Need-next-byte-requires-2 Inv-bytes μ-bytes
 next-byte-requires-2 c κs = tt
 
 same-length-2 : tie.Need-same-length-2 Inv-bytes μ-bytes
-same-length-2 c = c .before .before .before .bytes .inv
+same-length-2 c =
+    let at-bytes : At-bytes = search in
+    at-bytes .bytes .inv
 
 returns-2 : tie.Need-returns-2 Inv-bytes μ-bytes
 returns-2 c = tt

@@ -16,6 +16,16 @@ Inv-parts fd room₀ size at₀ room at = (at ≤ size) × (length room ≡ size
 abbrev μ-parts : tie.MeasureT-parts
 μ-parts fd room₀ size at₀ room at = size - at
 
+-- The places that the answers name.
+abbrev After-read-some : Type 0
+After-read-some = tie.After-read-some Inv-parts μ-parts
+
+abbrev At-parts : Type 0
+At-parts = tie.At-parts Inv-parts μ-parts
+
+abbrev After-got : Type 0
+After-got = tie.After-got Inv-parts μ-parts
+
 parts-holds : tie.Need-parts-holds Inv-parts μ-parts
 parts-holds c = search needs
 
@@ -39,8 +49,10 @@ enum-told c = search needs
 
 same-length : tie.Need-same-length Inv-parts μ-parts
 same-length c =
-    let l = c .before .before .before .before .before .before .before .parts in
-    let r = c .before .before .before .before .read-some in
+    let after-read-some : After-read-some = search in
+    let at-parts : At-parts = search in
+    let l = at-parts .parts in
+    let r = after-read-some .read-some in
     over-length (l .at) (l .room) (r .last .1 .0) (r .kept .1 .0) ∙ l .inv .1 ∙ sym (l .inv .2)
 
 returns : tie.Need-returns Inv-parts μ-parts
@@ -48,36 +60,52 @@ returns c = tt
 
 same-length-2 : tie.Need-same-length-2 Inv-parts μ-parts
 same-length-2 c =
-    let l = c .before .before .before .before .before .before .before .before .before .parts in
-    let r = c .before .before .before .before .before .before .read-some in
+    let after-read-some : After-read-some = search in
+    let at-parts : At-parts = search in
+    let l = at-parts .parts in
+    let r = after-read-some .read-some in
     over-length (l .at) (l .room) (r .last .1 .0) (r .kept .1 .0) ∙ l .inv .1 ∙ sym (l .inv .2)
 
 returns-2 : tie.Need-returns-2 Inv-parts μ-parts
 returns-2 c =
-    let l = c .before .before .before .before .before .before .before .before .before .parts in
-    let r = c .before .before .before .before .before .before .read-some in
+    let after-read-some : After-read-some = search in
+    let at-parts : At-parts = search in
+    let l = at-parts .parts in
+    let r = after-read-some .read-some in
     let e = over-length (l .at) (l .room) (r .last .1 .0) (r .kept .1 .0) in
     counts (l .at) (over (l .at) (l .room) (r .last .1 .0)) (omega (arith, e))
 
 add-at : tie.Need-add-at Inv-parts μ-parts
 add-at c =
-    let l = c .before .before .before .before .before .before .before .before .before .parts in
-    let r = c .before .before .before .before .before .before .read-some in
-    let w = ends-within (l .at) (c .before .before .got .given .0 .0) (l .room) (r .last .1 .0) (r .result) (omega arith) (r .kept .1 .0) (r .ensures) (c .before .before .got .given .1) in
+    let after-got : After-got = search in
+    let after-read-some : After-read-some = search in
+    let at-parts : At-parts = search in
+    let l = at-parts .parts in
+    let r = after-read-some .read-some in
+    let w = ends-within (l .at) (after-got .got .given .0 .0) (l .room) (r .last .1 .0) (r .result) (omega arith)
+    (r .kept .1 .0) (r .ensures) (after-got .got .given .1) in
     omega (arith, w)
 
 parts-less : tie.Need-parts-less Inv-parts μ-parts
 parts-less c =
-    let l = c .before .before .before .before .before .before .before .before .before .parts in
-    let r = c .before .before .before .before .before .before .read-some in
-    let w = ends-within (l .at) (c .before .before .got .given .0 .0) (l .room) (r .last .1 .0) (r .result) (omega arith) (r .kept .1 .0) (r .ensures) (c .before .before .got .given .1) in
+    let after-got : After-got = search in
+    let after-read-some : After-read-some = search in
+    let at-parts : At-parts = search in
+    let l = at-parts .parts in
+    let r = after-read-some .read-some in
+    let w = ends-within (l .at) (after-got .got .given .0 .0) (l .room) (r .last .1 .0) (r .result) (omega arith)
+    (r .kept .1 .0) (r .ensures) (after-got .got .given .1) in
     omega (arith, w)
 
 parts-again : tie.Need-parts-again Inv-parts μ-parts
 parts-again c =
-    let l = c .before .before .before .before .before .before .before .before .before .parts in
-    let r = c .before .before .before .before .before .before .read-some in
-    let w = ends-within (l .at) (c .before .before .got .given .0 .0) (l .room) (r .last .1 .0) (r .result) (omega arith) (r .kept .1 .0) (r .ensures) (c .before .before .got .given .1) in
+    let after-got : After-got = search in
+    let after-read-some : After-read-some = search in
+    let at-parts : At-parts = search in
+    let l = at-parts .parts in
+    let r = after-read-some .read-some in
+    let w = ends-within (l .at) (after-got .got .given .0 .0) (l .room) (r .last .1 .0) (r .result) (omega arith)
+    (r .kept .1 .0) (r .ensures) (after-got .got .given .1) in
     (omega (arith, w), over-length (l .at) (l .room) (r .last .1 .0) (r .kept .1 .0) ∙ l .inv .1, l .inv .2)
 
 same-length-3 : tie.Need-same-length-3 Inv-parts μ-parts
