@@ -40,23 +40,33 @@ returns-2 c = search needs
 
 slice-reshare-prefix-answer : tie.Need-slice-reshare-prefix-answer
 slice-reshare-prefix-answer c =
-    let r = c .before .before .before .before .before .before .before .before .before .before .before .before .read-argument in
-    came (r .result) (r .last .1 .0) (c .before .before .before .before .before .before .before .before .first .given .0 .0) (r .ensures) (c .before .before .before .before .before .before .before .before .first .given .1) .0
+    let after-first : tie.After-first = search in
+    let after-read-argument : tie.After-read-argument = search in
+    let r = after-read-argument .read-argument in
+    came (r .result) (r .last .1 .0) (after-first .first .given .0 .0) (r .ensures) (after-first .first .given .1) .0
 
 slice-aggregate-answer : tie.Need-slice-aggregate-answer
 slice-aggregate-answer c =
-    let r = c .before .before .before .before .before .before .before .before .before .before .before .before .before .read-argument in
-    came (r .result) (r .last .1 .0) (c .before .before .before .before .before .before .before .before .before .first .given .0 .0) (r .ensures) (c .before .before .before .before .before .before .before .before .before .first .given .1) .1
+    let after-first : tie.After-first = search in
+    let after-read-argument : tie.After-read-argument = search in
+    let r = after-read-argument .read-argument in
+    came (r .result) (r .last .1 .0) (after-first .first .given .0 .0) (r .ensures) (after-first .first .given .1) .1
 
 slice-reshare-prefix-answer-2 : tie.Need-slice-reshare-prefix-answer-2
 slice-reshare-prefix-answer-2 c =
-    let r = c .before .before .before .before .before .before .read-argument2 in
-    came (r .result) (r .last .1 .0) (c .before .before .second .given .0 .0) (r .ensures) (c .before .before .second .given .1) .0
+    let after-second : tie.After-second = search in
+    let after-read-argument2 : tie.After-read-argument2 = search in
+    let r = after-read-argument2 .read-argument2 in
+    came (r .result) (r .last .1 .0) (after-second .second .given .0 .0) (r .ensures)
+    (after-second .second .given .1) .0
 
 slice-aggregate-answer-2 : tie.Need-slice-aggregate-answer-2
 slice-aggregate-answer-2 c =
-    let r = c .before .before .before .before .before .before .before .read-argument2 in
-    came (r .result) (r .last .1 .0) (c .before .before .before .second .given .0 .0) (r .ensures) (c .before .before .before .second .given .1) .1
+    let after-second : tie.After-second = search in
+    let after-read-argument2 : tie.After-read-argument2 = search in
+    let r = after-read-argument2 .read-argument2 in
+    came (r .result) (r .last .1 .0) (after-second .second .given .0 .0) (r .ensures)
+    (after-second .second .given .1) .1
 
 answer-requires : tie.Need-answer-requires
 answer-requires c κs = search needs

@@ -43,8 +43,10 @@ same-length-2 c = search needs
 
 returns-3 : tie.Need-returns-3
 returns-3 c =
-    let r = c .before .before .before .before .before .before .read-file in
-    came (r .result) (r .last .1 .0) (c .before .before .got .given .0 .0) (r .ensures) (c .before .before .got .given .1)
+    let after-got : tie.After-got = search in
+    let after-read-file : tie.After-read-file = search in
+    let r = after-read-file .read-file in
+    came (r .result) (r .last .1 .0) (after-got .got .given .0 .0) (r .ensures) (after-got .got .given .1)
 
 pub read-path-spec : {M : Type 1} → statement M
 read-path-spec =

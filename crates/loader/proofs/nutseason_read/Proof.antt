@@ -16,21 +16,32 @@ enum-known-answer : tie.Need-enum-known-answer
 enum-known-answer c = search needs
 
 pack-requires : tie.Need-pack-requires
-pack-requires c κs = near _ _ (c .before .before .before .read .ensures) _ _ (sym (c .before .answer .given .1))
+pack-requires c κs =
+    let after-read : tie.After-read = search in
+    near _ _ (after-read .read .ensures) _ _ (sym (c .before .answer .given .1))
 
 enum-told : tie.Need-enum-told
 enum-told c = search needs
 
 model-number-requires : tie.Need-model-number-requires
-model-number-requires c κs = counts-fit _ _ (c .before .before .before .read .ensures) (sym (c .before .enum-told .given .1))
+model-number-requires c κs =
+    let after-read : tie.After-read = search in
+    counts-fit _ _ (after-read .read .ensures) (sym (c .before .enum-told .given .1))
 
 returns : tie.Need-returns
 unfolding readNumber wordingIn
-returns c = answered _ _ (c .before .before .before .before .read .ensures) (Refused _ _) _ (sym (c .before .before .answer .given .1)) (c .pack .ensures)
+returns c =
+    let after-answer : tie.After-answer = search in
+    let after-read : tie.After-read = search in
+    answered _ _ (after-read .read .ensures) (Refused _ _) _ (sym (after-answer .answer .given .1)) (c .pack .ensures)
 
 returns-2 : tie.Need-returns-2
 unfolding readNumber wordingIn
-returns-2 c = answered _ _ (c .before .before .before .before .read .ensures) Read _ (sym (c .before .before .enum-told .given .1)) (c .model-number .ensures)
+returns-2 c =
+    let after-enum-told : tie.After-enum-told = search in
+    let after-read : tie.After-read = search in
+    answered _ _ (after-read .read .ensures) Read _ (sym (after-enum-told .enum-told .given .1))
+    (c .model-number .ensures)
 
 pub nutseason-read-spec : {M : Type 1} → statement M
 nutseason-read-spec =

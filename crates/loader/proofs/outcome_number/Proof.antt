@@ -2,7 +2,8 @@
 -- Assumes nothing.
 use mathlib.Core.Path.{refl}
 use Rattle.notation.specs.Bytes.{bytes}
-use Rattle.acceptance.specs.declared.outcome.Outcome.the-variants.{SafeHolds, TraceHolds, FailsA, FailsB, FailsC, FailsD, FailsE, FailsF, Refused}
+use Rattle.acceptance.specs.declared.outcome.Outcome.the-variants.{SafeHolds, TraceHolds, FailsA, FailsB, FailsC}
+use Rattle.acceptance.specs.declared.outcome.Outcome.the-variants.{FailsD, FailsE, FailsF, Refused}
 use Rattle.acceptance.specs.Outcomes.{wordingOf}
 use Rattle.loader.specs.Numbers.{testNumber}
 use Rattle.loader.proofs.Told.{place-fits, number-of}
@@ -62,7 +63,9 @@ enum-known-outcome : tie.Need-enum-known-outcome
 enum-known-outcome c = search needs
 
 pack-requires-9 : tie.Need-pack-requires-9
-pack-requires-9 c κs = place-fits _ _ _ (c .before .before .before .pre) (c .before .outcome .given .1)
+pack-requires-9 c κs =
+    let start : tie.Start = search in
+    place-fits _ _ _ (start .pre) (c .before .outcome .given .1)
 
 returns : tie.Need-returns
 unfolding testNumber wordingOf bytes
@@ -98,7 +101,9 @@ returns-8 c = number-of _ FailsF _ _ (c .before .enum-told8 .given .1) (c .pack8
 
 returns-9 : tie.Need-returns-9
 unfolding testNumber wordingOf
-returns-9 c = number-of _ (Refused _ _) _ _ (c .before .before .outcome .given .1) (c .pack9 .ensures) refl
+returns-9 c =
+    let after-outcome : tie.After-outcome = search in
+    number-of _ (Refused _ _) _ _ (after-outcome .outcome .given .1) (c .pack9 .ensures) refl
 
 pub outcome-number-spec : {M : Type 1} → statement M
 outcome-number-spec =

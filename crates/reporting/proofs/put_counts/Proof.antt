@@ -11,33 +11,68 @@ slice-aggregate-put c = search needs
 
 put-requires : tie.Need-put-requires
 unfolding bytes
-put-requires c κs = line-first _ _ (c .before .before .before .pre)
+put-requires c κs =
+    let start : tie.Start = search in
+    line-first _ _ (start .pre)
 
 put-number-requires : tie.Need-put-number-requires
 unfolding bytes
-put-number-requires c κs = word-first _ _ (line-rest _ _ (c .before .before .before .put .ensures) (c .before .before .before .before .before .before .before .pre))
+put-number-requires c κs =
+    let after-put : tie.After-put = search in
+    let start : tie.Start = search in
+    word-first _ _ (line-rest _ _ (after-put .put .ensures) (start .pre))
 
 put-number-requires-2 : tie.Need-put-number-requires-2
 unfolding bytes
-put-number-requires-2 c κs = word-first _ _ (word-rest _ _ (c .before .before .before .put-number .ensures) (line-rest _ _ (c .before .before .before .before .before .before .before .put .ensures) (c .before .before .before .before .before .before .before .before .before .before .before .pre)))
+put-number-requires-2 c κs =
+    let after-put-number : tie.After-put-number = search in
+    let after-put : tie.After-put = search in
+    let start : tie.Start = search in
+    word-first _ _
+    (word-rest _ _ (after-put-number .put-number .ensures) (line-rest _ _ (after-put .put .ensures) (start .pre)))
 
 put-number-requires-3 : tie.Need-put-number-requires-3
 unfolding bytes
-put-number-requires-3 c κs = word-first _ _ (word-rest _ _ (c .before .before .before .put-number2 .ensures) (word-rest _ _ (c .before .before .before .before .before .before .before .put-number .ensures) (line-rest _ _ (c .before .before .before .before .before .before .before .before .before .before .before .put .ensures) (c .before .before .before .before .before .before .before .before .before .before .before .before .before .before .before .pre))))
+put-number-requires-3 c κs =
+    let after-put-number2 : tie.After-put-number2 = search in
+    let after-put-number : tie.After-put-number = search in
+    let after-put : tie.After-put = search in
+    let start : tie.Start = search in
+    word-first _ _
+    (word-rest _ _ (after-put-number2 .put-number2 .ensures)
+    (word-rest _ _ (after-put-number .put-number .ensures) (line-rest _ _ (after-put .put .ensures) (start .pre))))
 
 slice-aggregate-put-2 : tie.Need-slice-aggregate-put-2
 slice-aggregate-put-2 c = search needs
 
 put-requires-2 : tie.Need-put-requires-2
 unfolding bytes
-put-requires-2 c κs = end-fits (word-rest _ _ (c .before .before .before .before .put-number3 .ensures) (word-rest _ _ (c .before .before .before .before .before .before .before .before .put-number2 .ensures) (word-rest _ _ (c .before .before .before .before .before .before .before .before .before .before .before .before .put-number .ensures) (line-rest _ _ (c .before .before .before .before .before .before .before .before .before .before .before .before .before .before .before .before .put .ensures) (c .before .before .before .before .before .before .before .before .before .before .before .before .before .before .before .before .before .before .before .before .pre)))))
+put-requires-2 c κs =
+    let after-put-number3 : tie.After-put-number3 = search in
+    let after-put-number2 : tie.After-put-number2 = search in
+    let after-put-number : tie.After-put-number = search in
+    let after-put : tie.After-put = search in
+    let start : tie.Start = search in
+    end-fits
+    (word-rest _ _ (after-put-number3 .put-number3 .ensures)
+    (word-rest _ _ (after-put-number2 .put-number2 .ensures)
+    (word-rest _ _ (after-put-number .put-number .ensures) (line-rest _ _ (after-put .put .ensures) (start .pre)))))
 
 same-length : tie.Need-same-length
 same-length c = search needs
 
 returns : tie.Need-returns
 unfolding bytes
-returns c = line-put _ _ (c .before .before .before .before .before .before .before .before .before .before .before .before .before .before .before .before .before .before .before .put .ensures) (word-put _ _ (c .before .before .before .before .before .before .before .before .before .before .before .before .before .before .before .put-number .ensures) (word-put _ _ (c .before .before .before .before .before .before .before .before .before .before .before .put-number2 .ensures) (word-put _ _ (c .before .before .before .before .before .before .before .put-number3 .ensures) (end-put (c .before .before .put2 .ensures)))))
+returns c =
+    let after-put2 : tie.After-put2 = search in
+    let after-put-number3 : tie.After-put-number3 = search in
+    let after-put-number2 : tie.After-put-number2 = search in
+    let after-put-number : tie.After-put-number = search in
+    let after-put : tie.After-put = search in
+    line-put _ _ (after-put .put .ensures)
+    (word-put _ _ (after-put-number .put-number .ensures)
+    (word-put _ _ (after-put-number2 .put-number2 .ensures)
+    (word-put _ _ (after-put-number3 .put-number3 .ensures) (end-put (after-put2 .put2 .ensures)))))
 
 pub put-counts-spec : {M : Type 1} → statement M
 put-counts-spec =

@@ -16,8 +16,11 @@ read-requires c κs = search needs
 
 put-counts-requires : tie.Need-put-counts-requires
 put-counts-requires c κs =
-    let r = c .before .before .read in
-    counts-room (r .result .code) (readingOf (c .before .before .before .before .before .args .text .now) .code) (ap (λ (z : Reading). z .code) (r .ensures)) (λ d. safeLine) (c .before .before .before .before .before .pre)
+    let after-read : tie.After-read = search in
+    let start : tie.Start = search in
+    let r = after-read .read in
+    counts-room (r .result .code) (readingOf (start .args .text .now) .code)
+    (ap (λ (z : Reading). z .code) (r .ensures)) (λ d. safeLine) (start .pre)
 
 slice-aggregate-put : tie.Need-slice-aggregate-put
 slice-aggregate-put c = search needs
@@ -25,8 +28,12 @@ slice-aggregate-put c = search needs
 put-requires : tie.Need-put-requires
 unfolding bytes line others
 put-requires c κs =
-    let r = c .before .before .before .before .before .before .before .read in
-    tail-room (r .result .code) (readingOf (c .before .before .before .before .before .before .before .before .before .before .args .text .now) .code) (ap (λ (z : Reading). z .code) (r .ensures)) (λ d. safeLine) (c .before .before .before .before .put-counts .ensures) (c .before .before .before .before .before .before .before .before .before .before .pre)
+    let after-put-counts : tie.After-put-counts = search in
+    let after-read : tie.After-read = search in
+    let start : tie.Start = search in
+    let r = after-read .read in
+    tail-room (r .result .code) (readingOf (start .args .text .now) .code) (ap (λ (z : Reading). z .code) (r .ensures))
+    (λ d. safeLine) (after-put-counts .put-counts .ensures) (start .pre)
 
 same-length : tie.Need-same-length
 same-length c = search needs
@@ -34,8 +41,14 @@ same-length c = search needs
 returns : tie.Need-returns
 unfolding bytes line others
 returns c =
-    let r = c .before .before .before .before .before .before .before .before .before .before .read in
-    tail-written (r .result .code) (readingOf (c .before .before .before .before .before .before .before .before .before .before .before .before .before .args .text .now) .code) (ap (λ (z : Reading). z .code) (r .ensures)) (λ d. safeLine) (c .before .before .before .before .before .before .before .put-counts .ensures) (c .before .before .put .ensures)
+    let after-put : tie.After-put = search in
+    let after-put-counts : tie.After-put-counts = search in
+    let after-read : tie.After-read = search in
+    let start : tie.Start = search in
+    let r = after-read .read in
+    tail-written (r .result .code) (readingOf (start .args .text .now) .code)
+    (ap (λ (z : Reading). z .code) (r .ensures)) (λ d. safeLine) (after-put-counts .put-counts .ensures)
+    (after-put .put .ensures)
 
 pub put-safe-spec : {M : Type 1} → statement M
 put-safe-spec =

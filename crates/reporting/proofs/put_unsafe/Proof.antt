@@ -15,23 +15,33 @@ read-requires c κs = search needs
 
 put-counts-requires : tie.Need-put-counts-requires
 put-counts-requires c κs =
-    let a = c .before .before .before .before .before .before .before .args in
-    let r = c .before .before .before .read in
-    counts-room (r .result .code) (readingOf (a .text .now) .code) (ap (λ (z : Reading). z .code) (r .ensures)) (runOf (a .text .now) (a .sheet .now)) (c .before .before .before .before .before .before .before .pre .1)
+    let after-read : tie.After-read = search in
+    let start : tie.Start = search in
+    let a = start .args in
+    let r = after-read .read in
+    counts-room (r .result .code) (readingOf (a .text .now) .code) (ap (λ (z : Reading). z .code) (r .ensures))
+    (runOf (a .text .now) (a .sheet .now)) (start .pre .1)
 
 add-put-run : tie.Need-add-put-run
 add-put-run c =
-    let a = c .before .before .before .before .before .before .before .before .before .before .before .before .args in
-    let r = c .before .before .before .before .before .before .before .before .read in
-    let h : Printable (a .text .now) (r .result .code) (a .sheet .now) = subst (λ (z : Reading). Printable (a .text .now) (z .code) (a .sheet .now)) (sym (r .ensures)) (c .before .before .before .before .before .before .before .before .before .before .before .before .pre .0) in
+    let after-read : tie.After-read = search in
+    let start : tie.Start = search in
+    let a = start .args in
+    let r = after-read .read in
+    let h : Printable (a .text .now) (r .result .code) (a .sheet .now) = subst
+    (λ (z : Reading). Printable (a .text .now) (z .code) (a .sheet .now)) (sym (r .ensures)) (start .pre .0) in
     omega (arith, h .few)
 
 put-run-requires : tie.Need-put-run-requires
 put-run-requires c κs =
-    let a = c .before .before .before .before .before .before .before .before .before .before .before .before .args in
-    let r = c .before .before .before .before .before .before .before .before .read in (
-      subst (λ (z : Reading). Printable (a .text .now) (z .code) (a .sheet .now)) (sym (r .ensures)) (c .before .before .before .before .before .before .before .before .before .before .before .before .pre .0),
-      tail-room (r .result .code) (readingOf (a .text .now) .code) (ap (λ (z : Reading). z .code) (r .ensures)) (runOf (a .text .now) (a .sheet .now)) (c .before .before .before .before .put-counts .ensures) (c .before .before .before .before .before .before .before .before .before .before .before .before .pre .1),
+    let after-put-counts : tie.After-put-counts = search in
+    let after-read : tie.After-read = search in
+    let start : tie.Start = search in
+    let a = start .args in
+    let r = after-read .read in (
+      subst (λ (z : Reading). Printable (a .text .now) (z .code) (a .sheet .now)) (sym (r .ensures)) (start .pre .0),
+      tail-room (r .result .code) (readingOf (a .text .now) .code) (ap (λ (z : Reading). z .code) (r .ensures))
+          (runOf (a .text .now) (a .sheet .now)) (after-put-counts .put-counts .ensures) (start .pre .1),
     )
 
 same-length : tie.Need-same-length
@@ -39,9 +49,14 @@ same-length c = search needs
 
 returns : tie.Need-returns
 returns c =
-    let a = c .before .before .before .before .before .before .before .before .before .before .before .before .before .before .before .args in
-    let r = c .before .before .before .before .before .before .before .before .before .before .before .read in
-    tail-written (r .result .code) (readingOf (a .text .now) .code) (ap (λ (z : Reading). z .code) (r .ensures)) (runOf (a .text .now) (a .sheet .now)) (c .before .before .before .before .before .before .before .put-counts .ensures) (c .before .before .put-run .ensures)
+    let after-put-run : tie.After-put-run = search in
+    let after-put-counts : tie.After-put-counts = search in
+    let after-read : tie.After-read = search in
+    let start : tie.Start = search in
+    let a = start .args in
+    let r = after-read .read in
+    tail-written (r .result .code) (readingOf (a .text .now) .code) (ap (λ (z : Reading). z .code) (r .ensures))
+    (runOf (a .text .now) (a .sheet .now)) (after-put-counts .put-counts .ensures) (after-put-run .put-run .ensures)
 
 pub put-unsafe-spec : {M : Type 1} → statement M
 put-unsafe-spec =

@@ -19,16 +19,36 @@ returns : tie.Need-returns
 returns c = first-short (systemIn _ _ _ _ _ _) _ (c .before .power .ensures) _ _ _ (c .if1 .taken)
 
 returns-2 : tie.Need-returns-2
-returns-2 c = second-short (systemIn _ _ _ _ _ _) _ (c .before .before .power .ensures) _ _ _ (c .before .if1 .left) (c .if2 .taken)
+returns-2 c =
+    let after-power : tie.After-power = search in
+    second-short (systemIn _ _ _ _ _ _) _ (after-power .power .ensures) _ _ _ (c .before .if1 .left) (c .if2 .taken)
 
 mul-if3 : tie.Need-mul-if3
-mul-if3 c = omega (arith, pow-small (c .before .before .before .before .before .before .args .shared + c .before .before .before .before .before .before .args .row) (c .before .before .power .result) (c .before .before .before .before .before .before .pre .0) (c .before .before .power .ensures))
+mul-if3 c =
+    let after-power : tie.After-power = search in
+    let start : tie.Start = search in
+    omega (
+      arith,
+      pow-small (start .args .shared + start .args .row) (after-power .power .result) (start .pre .0)
+          (after-power .power .ensures),
+    )
 
 add-if3 : tie.Need-add-if3
-add-if3 c = omega (arith, pow-small (c .before .before .before .before .before .before .args .shared + c .before .before .before .before .before .before .args .row) (c .before .before .power .result) (c .before .before .before .before .before .before .pre .0) (c .before .before .power .ensures))
+add-if3 c =
+    let after-power : tie.After-power = search in
+    let start : tie.Start = search in
+    omega (
+      arith,
+      pow-small (start .args .shared + start .args .row) (after-power .power .result) (start .pre .0)
+          (after-power .power .ensures),
+    )
 
 returns-3 : tie.Need-returns-3
-returns-3 c = sheet-short (systemIn _ _ _ _ _ _) _ (c .before .before .before .power .ensures) _ _ _ (c .before .before .if1 .left) (c .before .if2 .left) (c .if3 .taken)
+returns-3 c =
+    let else1 : tie.Else1 = search in
+    let after-power : tie.After-power = search in
+    sheet-short (systemIn _ _ _ _ _ _) _ (after-power .power .ensures) _ _ _ (else1 .if1 .left) (c .before .if2 .left)
+    (c .if3 .taken)
 
 search-roomy-requires : tie.Need-search-roomy-requires
 search-roomy-requires c κs = search needs
@@ -43,7 +63,14 @@ same-length-3 : tie.Need-same-length-3
 same-length-3 c = search needs
 
 returns-4 : tie.Need-returns-4
-returns-4 c = room-for (systemIn _ _ _ _ _ _) _ (c .before .before .before .before .before .before .before .before .before .before .before .before .before .power .ensures) _ _ _ (c .before .before .before .before .before .before .before .before .before .before .before .before .if1 .left) (c .before .before .before .before .before .before .before .before .before .before .before .if2 .left) (c .before .before .before .before .before .before .before .before .before .before .if3 .left) _ _ _ _ (c .before .before .before .before .before .before .search-roomy .ensures)
+returns-4 c =
+    let after-search-roomy : tie.After-search-roomy = search in
+    let else3 : tie.Else3 = search in
+    let else2 : tie.Else2 = search in
+    let else1 : tie.Else1 = search in
+    let after-power : tie.After-power = search in
+    room-for (systemIn _ _ _ _ _ _) _ (after-power .power .ensures) _ _ _ (else1 .if1 .left) (else2 .if2 .left)
+    (else3 .if3 .left) _ _ _ _ (after-search-roomy .search-roomy .ensures)
 
 pub search-code-spec : {M : Type 1} → statement M
 search-code-spec =

@@ -1,7 +1,8 @@
 -- `search_roomy` meets its contract: the header, and then the trace or the map, with both tables cleared.
 -- Assumes nothing.
 use native.Mathlib.Omega.{arith}
-use Rattle.search.proofs.SearchesLeft.{header-asked, head-asked, map-asked, length-small, second-room, last-some, last-within, trace-asked, unsafe-left, safe-left}
+use Rattle.search.proofs.SearchesLeft.{header-asked, head-asked, map-asked, length-small, second-room, last-some}
+use Rattle.search.proofs.SearchesLeft.{last-within, trace-asked, unsafe-left, safe-left}
 use Prim.Native.Nat.{_+_}
 use borrow.Author.Needs.{needs}
 use Rattle.search.proofs.search_roomy.Statement.{statement}
@@ -11,28 +12,47 @@ add-bits : tie.Need-add-bits
 add-bits c = search needs
 
 put-header-requires : tie.Need-put-header-requires
-put-header-requires c κs = header-asked _ _ _ _ _ (c .before .before .before .before .pre .0) (c .before .before .before .before .pre .1 .fewCommands) (c .before .before .before .before .pre .3) (c .before .before .before .before .pre .6)
+put-header-requires c κs =
+    let start : tie.Start = search in
+    header-asked _ _ _ _ _ (start .pre .0) (start .pre .1 .fewCommands) (start .pre .3) (start .pre .6)
 
 run-requires : tie.Need-run-requires
 run-requires c κs = search needs
 
 sub-t : tie.Need-sub-t
-sub-t c = last-some _ _ _ _ _ _ _ (c .before .before .before .before .before .before .before .before .before .before .before .before .before .before .before .before .pre .0) (c .before .before .before .before .before .before .before .before .before .before .before .before .before .before .before .before .pre .3) (c .before .before .before .before .before .before .run .ensures) (c .before .if1 .taken)
+sub-t c =
+    let after-run : tie.After-run = search in
+    let start : tie.Start = search in
+    last-some _ _ _ _ _ _ _ (start .pre .0) (start .pre .3) (after-run .run .ensures) (c .before .if1 .taken)
 
 mul-t : tie.Need-mul-t
 mul-t c = search needs
 
 slice-read-t : tie.Need-slice-read-t
-slice-read-t c = last-within _ _ _ _ _ _ _ (c .before .before .before .before .before .before .before .before .before .before .before .before .before .before .before .before .before .pre .0) (c .before .before .before .before .before .before .before .before .before .before .before .before .before .before .before .before .before .pre .3) (c .before .before .before .before .before .before .before .run .ensures) (c .before .before .if1 .taken)
+slice-read-t c =
+    let then1 : tie.Then1 = search in
+    let after-run : tie.After-run = search in
+    let start : tie.Start = search in
+    last-within _ _ _ _ _ _ _ (start .pre .0) (start .pre .3) (after-run .run .ensures) (then1 .if1 .taken)
 
 write-trace-requires : tie.Need-write-trace-requires
-write-trace-requires c κs = trace-asked _ _ _ _ _ _ _ (c .before .before .before .before .before .before .before .before .before .before .before .before .before .before .before .before .before .before .before .pre .0) (c .before .before .before .before .before .before .before .before .before .before .before .before .before .before .before .before .before .before .before .pre .3) (c .before .before .before .before .before .before .before .before .before .run .ensures) (c .before .before .before .before .if1 .taken) (c .before .before .before .before .before .before .before .before .before .before .before .before .before .before .before .before .before .before .before .pre .1) (c .before .before .before .before .before .before .before .before .before .before .before .before .before .before .before .before .before .before .before .pre .2) (c .before .before .before .before .before .before .before .before .before .before .before .before .before .before .before .before .before .before .before .args .sheet .now) _ (c .before .before .before .before .before .before .before .before .before .before .before .before .before .before .before .before .before .before .before .pre .6) (c .before .before .before .before .before .before .before .before .before .before .before .before .before .before .put-header .ensures)
+write-trace-requires c κs =
+    let then1 : tie.Then1 = search in
+    let after-run : tie.After-run = search in
+    let after-put-header : tie.After-put-header = search in
+    let start : tie.Start = search in
+    trace-asked _ _ _ _ _ _ _ (start .pre .0) (start .pre .3) (after-run .run .ensures) (then1 .if1 .taken)
+    (start .pre .1) (start .pre .2) (start .args .sheet .now) _ (start .pre .6) (after-put-header .put-header .ensures)
 
 clear-requires : tie.Need-clear-requires
 clear-requires c κs = search needs
 
 clear-requires-2 : tie.Need-clear-requires-2
-clear-requires-2 c κs = second-room _ _ _ _ _ _ _ (c .before .before .before .before .before .before .before .before .before .before .before .before .before .before .before .before .before .before .before .before .before .before .before .before .before .before .before .pre .0) (c .before .before .before .before .before .before .before .before .before .before .before .before .before .before .before .before .before .before .before .before .before .before .before .before .before .before .before .pre .3) (c .before .before .before .before .before .before .before .before .before .before .before .before .before .before .before .before .before .run .ensures)
+clear-requires-2 c κs =
+    let then1 : tie.Then1 = search in
+    let after-run : tie.After-run = search in
+    let start : tie.Start = search in
+    second-room _ _ _ _ _ _ _ (start .pre .0) (start .pre .3) (after-run .run .ensures)
 
 same-length : tie.Need-same-length
 same-length c = search needs
@@ -44,25 +64,61 @@ same-length-3 : tie.Need-same-length-3
 same-length-3 c = search needs
 
 returns : tie.Need-returns
-returns c = unsafe-left _ _ _ _ _ _ _ (c .before .before .before .before .before .before .before .before .before .before .before .before .before .before .before .before .before .before .before .before .before .before .before .before .before .before .before .before .before .before .pre .0) (c .before .before .before .before .before .before .before .before .before .before .before .before .before .before .before .before .before .before .before .before .before .before .before .before .before .before .before .before .before .before .pre .3) (c .before .before .before .before .before .before .before .before .before .before .before .before .before .before .before .before .before .before .before .before .run .ensures) (c .before .before .before .before .before .before .before .before .before .before .before .before .before .before .before .before .before .before .before .before .before .before .before .before .before .before .before .before .before .before .args .sheet .now) (c .before .before .before .before .before .before .before .before .before .before .before .before .before .before .before .before .before .before .before .before .before .before .before .before .before .put-header .ensures) (c .before .before .before .before .before .before .clear .ensures) (c .before .before .clear2 .ensures) (c .before .before .before .before .before .before .before .before .before .before .before .before .before .before .before .if1 .taken) (c .before .before .before .before .before .before .before .before .before .before .write-trace .ensures)
+returns c =
+    let after-clear2 : tie.After-clear2 = search in
+    let after-clear : tie.After-clear = search in
+    let after-write-trace : tie.After-write-trace = search in
+    let then1 : tie.Then1 = search in
+    let after-run : tie.After-run = search in
+    let after-put-header : tie.After-put-header = search in
+    let start : tie.Start = search in
+    unsafe-left _ _ _ _ _ _ _ (start .pre .0) (start .pre .3) (after-run .run .ensures) (start .args .sheet .now)
+    (after-put-header .put-header .ensures) (after-clear .clear .ensures) (after-clear2 .clear2 .ensures)
+    (then1 .if1 .taken) (after-write-trace .write-trace .ensures)
 
 map-length-requires : tie.Need-map-length-requires
 map-length-requires c κs = search needs
 
 put-head-requires : tie.Need-put-head-requires
-put-head-requires c κs = head-asked _ _ _ _ _ (c .before .before .before .before .before .before .before .before .before .before .before .before .before .before .before .before .before .pre .0) (c .before .before .before .before .before .before .before .before .before .before .before .before .before .before .before .before .before .pre .3) (c .before .map-length .ensures) (c .before .before .before .before .before .before .before .before .before .before .before .before .before .before .before .before .before .args .sheet .now) _ (c .before .before .before .before .before .before .before .before .before .before .before .before .before .before .before .before .before .pre .6) (c .before .before .before .before .before .before .before .before .before .before .before .before .put-header .ensures)
+put-head-requires c κs =
+    let after-put-header : tie.After-put-header = search in
+    let start : tie.Start = search in
+    head-asked _ _ _ _ _ (start .pre .0) (start .pre .3) (c .before .map-length .ensures) (start .args .sheet .now) _
+    (start .pre .6) (after-put-header .put-header .ensures)
 
 write-map-requires : tie.Need-write-map-requires
-write-map-requires c κs = map-asked _ _ _ _ _ (c .before .before .before .before .before .before .before .before .before .before .before .before .before .before .before .before .before .before .before .before .before .before .pre .0) (c .before .before .before .before .before .before .before .before .before .before .before .before .before .before .before .before .before .before .before .before .before .before .pre .3) (c .before .before .before .before .before .before .map-length .ensures) (c .before .before .before .before .before .before .before .before .before .before .before .before .before .before .before .before .before .before .before .before .before .before .args .sheet .now) _ (c .before .before .before .before .before .before .before .before .before .before .before .before .before .before .before .before .before .before .before .before .before .before .pre .6) (c .before .before .before .before .before .before .before .before .before .before .before .before .before .before .before .before .before .put-header .ensures) _ (second-room _ _ _ _ _ _ _ (c .before .before .before .before .before .before .before .before .before .before .before .before .before .before .before .before .before .before .before .before .before .before .pre .0) (c .before .before .before .before .before .before .before .before .before .before .before .before .before .before .before .before .before .before .before .before .before .before .pre .3) (c .before .before .before .before .before .before .before .before .before .before .before .before .run .ensures)) _ (c .before .before .before .before .put-head .ensures)
+write-map-requires c κs =
+    let after-put-head : tie.After-put-head = search in
+    let after-map-length : tie.After-map-length = search in
+    let after-run : tie.After-run = search in
+    let after-put-header : tie.After-put-header = search in
+    let start : tie.Start = search in
+    map-asked _ _ _ _ _ (start .pre .0) (start .pre .3) (after-map-length .map-length .ensures)
+    (start .args .sheet .now) _ (start .pre .6) (after-put-header .put-header .ensures) _
+    (second-room _ _ _ _ _ _ _ (start .pre .0) (start .pre .3) (after-run .run .ensures)) _
+    (after-put-head .put-head .ensures)
 
 clear-requires-3 : tie.Need-clear-requires-3
 clear-requires-3 c κs = search needs
 
 clear-requires-4 : tie.Need-clear-requires-4
-clear-requires-4 c κs = second-room _ _ _ _ _ _ _ (c .before .before .before .before .before .before .before .before .before .before .before .before .before .before .before .before .before .before .before .before .before .before .before .before .before .before .before .before .before .before .pre .0) (c .before .before .before .before .before .before .before .before .before .before .before .before .before .before .before .before .before .before .before .before .before .before .before .before .before .before .before .before .before .before .pre .3) (c .before .before .before .before .before .before .before .before .before .before .before .before .before .before .before .before .before .before .before .before .run .ensures)
+clear-requires-4 c κs =
+    let after-put-head : tie.After-put-head = search in
+    let after-run : tie.After-run = search in
+    let start : tie.Start = search in
+    second-room _ _ _ _ _ _ _ (start .pre .0) (start .pre .3) (after-run .run .ensures)
 
 add-t47 : tie.Need-add-t47
-add-t47 c = omega (arith, length-small (c .before .before .before .before .before .before .before .before .before .before .before .before .before .before .before .before .before .before .before .before .before .before .before .before .before .before .before .before .before .before .before .before .before .args .shared + c .before .before .before .before .before .before .before .before .before .before .before .before .before .before .before .before .before .before .before .before .before .before .before .before .before .before .before .before .before .before .before .before .before .args .row) (c .before .before .before .before .before .before .before .before .before .before .before .before .before .before .before .before .before .before .before .before .before .before .before .before .before .before .before .before .before .before .before .before .before .args .states) (c .before .before .before .before .before .before .before .before .before .before .before .before .before .before .before .before .before .map-length .result) (c .before .before .before .before .before .before .before .before .before .before .before .before .before .before .before .before .before .before .before .before .before .before .before .before .before .before .before .before .before .before .before .before .before .pre .0) (c .before .before .before .before .before .before .before .before .before .before .before .before .before .before .before .before .before .before .before .before .before .before .before .before .before .before .before .before .before .before .before .before .before .pre .3) (c .before .before .before .before .before .before .before .before .before .before .before .before .before .before .before .before .before .map-length .ensures))
+add-t47 c =
+    let after-write-map-arg : tie.After-write-map-arg = search in
+    let after-map-length : tie.After-map-length = search in
+    let after-put-header-arg : tie.After-put-header-arg = search in
+    let start : tie.Start = search in
+    omega (
+      arith,
+      length-small (start .args .shared + start .args .row) (start .args .states)
+          (after-map-length .map-length .result) (start .pre .0) (start .pre .3) (after-map-length .map-length .ensures),
+    )
 
 same-length-4 : tie.Need-same-length-4
 same-length-4 c = search needs
@@ -74,7 +130,20 @@ same-length-6 : tie.Need-same-length-6
 same-length-6 c = search needs
 
 returns-2 : tie.Need-returns-2
-returns-2 c = safe-left _ _ _ _ _ _ _ (c .before .before .before .before .before .before .before .before .before .before .before .before .before .before .before .before .before .before .before .before .before .before .before .before .before .before .before .before .before .before .before .before .before .pre .0) (c .before .before .before .before .before .before .before .before .before .before .before .before .before .before .before .before .before .before .before .before .before .before .before .before .before .before .before .before .before .before .before .before .before .pre .3) (c .before .before .before .before .before .before .before .before .before .before .before .before .before .before .before .before .before .before .before .before .before .before .before .run .ensures) (c .before .before .before .before .before .before .before .before .before .before .before .before .before .before .before .before .before .before .before .before .before .before .before .before .before .before .before .before .before .before .before .before .before .args .sheet .now) (c .before .before .before .before .before .before .before .before .before .before .before .before .before .before .before .before .before .before .before .before .before .before .before .before .before .before .before .before .put-header .ensures) (c .before .before .before .before .before .before .clear3 .ensures) (c .before .before .clear4 .ensures) (c .before .before .before .before .before .before .before .before .before .before .before .before .before .before .before .before .before .before .if1 .left) (c .before .before .before .before .before .before .before .before .before .before .before .before .before .before .before .before .before .map-length .ensures) (c .before .before .before .before .before .before .before .before .before .before .before .before .before .before .before .put-head .ensures) (c .before .before .before .before .before .before .before .before .before .before .write-map .ensures)
+returns-2 c =
+    let after-clear4 : tie.After-clear4 = search in
+    let after-clear3 : tie.After-clear3 = search in
+    let after-write-map : tie.After-write-map = search in
+    let after-put-head : tie.After-put-head = search in
+    let after-map-length : tie.After-map-length = search in
+    let else1 : tie.Else1 = search in
+    let after-run : tie.After-run = search in
+    let after-put-header : tie.After-put-header = search in
+    let start : tie.Start = search in
+    safe-left _ _ _ _ _ _ _ (start .pre .0) (start .pre .3) (after-run .run .ensures) (start .args .sheet .now)
+    (after-put-header .put-header .ensures) (after-clear3 .clear3 .ensures) (after-clear4 .clear4 .ensures)
+    (else1 .if1 .left) (after-map-length .map-length .ensures) (after-put-head .put-head .ensures)
+    (after-write-map .write-map .ensures)
 
 pub search-roomy-spec : {M : Type 1} → statement M
 search-roomy-spec =

@@ -16,10 +16,20 @@ enum-told : tie.Need-enum-told
 enum-told c = search needs
 
 search-code-requires : tie.Need-search-code-requires
-search-code-requires c κs = (was-read _ _ (c .before .before .before .before .before .before .before .before .before .before .before .before .read .ensures) (sym (c .before .before .before .before .before .before .before .before .before .before .enum-told .given .1)) .fewNames, was-read _ _ (c .before .before .before .before .before .before .before .before .before .before .before .before .read .ensures) (sym (c .before .before .before .before .before .before .before .before .before .before .enum-told .given .1)) .few, was-read _ _ (c .before .before .before .before .before .before .before .before .before .before .before .before .read .ensures) (sym (c .before .before .before .before .before .before .before .before .before .before .enum-told .given .1)) .parted)
+search-code-requires c κs =
+    let after-enum-told : tie.After-enum-told = search in
+    let after-read : tie.After-read = search in (
+      was-read _ _ (after-read .read .ensures) (sym (after-enum-told .enum-told .given .1)) .fewNames,
+      was-read _ _
+          (after-read .read .ensures) (sym (after-enum-told .enum-told .given .1)) .few,
+      was-read _ _
+          (after-read .read .ensures) (sym (after-enum-told .enum-told .given .1)) .parted,
+    )
 
 returns : tie.Need-returns
-returns c = search-refused _ _ (c .before .before .before .read .ensures) _ _ (sym (c .before .answer .given .1)) _ _ _
+returns c =
+    let after-read : tie.After-read = search in
+    search-refused _ _ (after-read .read .ensures) _ _ (sym (c .before .answer .given .1)) _ _ _
 
 same-length : tie.Need-same-length
 same-length c = search needs
@@ -31,7 +41,12 @@ same-length-3 : tie.Need-same-length-3
 same-length-3 c = search needs
 
 returns-2 : tie.Need-returns-2
-returns-2 c = search-read _ _ (c .before .before .before .before .before .before .before .before .before .before .before .before .before .before .before .before .before .before .before .read .ensures) (sym (c .before .before .before .before .before .before .before .before .before .before .before .before .before .before .before .before .before .enum-told .given .1)) _ _ _ _ _ _ _ (c .before .before .before .before .before .before .search-code .ensures)
+returns-2 c =
+    let after-search-code : tie.After-search-code = search in
+    let after-enum-told : tie.After-enum-told = search in
+    let after-read : tie.After-read = search in
+    search-read _ _ (after-read .read .ensures) (sym (after-enum-told .enum-told .given .1)) _ _ _ _ _ _ _
+    (after-search-code .search-code .ensures)
 
 pub search-text-spec : {M : Type 1} → statement M
 search-text-spec =

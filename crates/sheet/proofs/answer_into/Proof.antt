@@ -34,13 +34,16 @@ returns c = search needs
 
 slice-reshare-prefix-answer : tie.Need-slice-reshare-prefix-answer
 slice-reshare-prefix-answer c =
-    let r = c .before .before .before .before .before .read-file in
+    let after-read-file : tie.After-read-file = search in
+    let r = after-read-file .read-file in
     came (r .result) (r .last .1 .0) (c .before .got .given .0 .0) (r .ensures) (c .before .got .given .1) .0
 
 slice-aggregate-answer : tie.Need-slice-aggregate-answer
 slice-aggregate-answer c =
-    let r = c .before .before .before .before .before .before .read-file in
-    came (r .result) (r .last .1 .0) (c .before .before .got .given .0 .0) (r .ensures) (c .before .before .got .given .1) .1
+    let after-got : tie.After-got = search in
+    let after-read-file : tie.After-read-file = search in
+    let r = after-read-file .read-file in
+    came (r .result) (r .last .1 .0) (after-got .got .given .0 .0) (r .ensures) (after-got .got .given .1) .1
 
 answer-requires : tie.Need-answer-requires
 answer-requires c κs = search needs

@@ -6,7 +6,8 @@ use borrow.Author.Needs.{needs}
 use Rattle.lines.specs.Lines.{others, line}
 use Rattle.lines.proofs.Parts.{refusal-fits}
 use Rattle.acceptance.specs.Outcomes.{wordingOf}
-use Rattle.acceptance.specs.declared.outcome.Outcome.the-variants.{SafeHolds, TraceHolds, FailsA, FailsB, FailsC, FailsD, FailsE, FailsF}
+use Rattle.acceptance.specs.declared.outcome.Outcome.the-variants.{SafeHolds, TraceHolds, FailsA, FailsB, FailsC}
+use Rattle.acceptance.specs.declared.outcome.Outcome.the-variants.{FailsD, FailsE, FailsF}
 use Rattle.notation.specs.Bytes.{bytes}
 use Rattle.wording.specs.Lines.{spelt}
 use Rattle.wording.proofs.Spelling.{told, told-refusal}
@@ -92,42 +93,80 @@ cast-n : tie.Need-cast-n
 cast-n c = search needs
 
 put-refusal-requires : tie.Need-put-refusal-requires
-put-refusal-requires c κs = refusal-fits (c .before .before .before .before .args .line .now) _ _ (omega arith)
+put-refusal-requires c κs =
+    let start : tie.Start = search in
+    refusal-fits (start .args .line .now) _ _ (omega arith)
 
 returns : tie.Need-returns
 unfolding spelt line others bytes wordingOf
-returns c = told (c .before .before .before .before .before .args .line .now) (c .put .last .0) _ (c .put .result) (c .before .before .before .before .before .args .outcome) SafeHolds (c .put .ensures) (c .before .before .before .enum-told .given .1) refl (omega arith) (omega arith)
+returns c =
+    let after-enum-told : tie.After-enum-told = search in
+    let start : tie.Start = search in
+    told (start .args .line .now) (c .put .last .0) _ (c .put .result) (start .args .outcome) SafeHolds
+    (c .put .ensures) (after-enum-told .enum-told .given .1) refl (omega arith) (omega arith)
 
 returns-2 : tie.Need-returns-2
 unfolding spelt line others bytes wordingOf
-returns-2 c = told (c .before .before .before .before .before .args .line .now) (c .put2 .last .0) _ (c .put2 .result) (c .before .before .before .before .before .args .outcome) TraceHolds (c .put2 .ensures) (c .before .before .before .enum-told2 .given .1) refl (omega arith) (omega arith)
+returns-2 c =
+    let after-enum-told2 : tie.After-enum-told2 = search in
+    let start : tie.Start = search in
+    told (start .args .line .now) (c .put2 .last .0) _ (c .put2 .result) (start .args .outcome) TraceHolds
+    (c .put2 .ensures) (after-enum-told2 .enum-told2 .given .1) refl (omega arith) (omega arith)
 
 returns-3 : tie.Need-returns-3
 unfolding spelt line others bytes wordingOf
-returns-3 c = told (c .before .before .before .before .before .args .line .now) (c .put3 .last .0) _ (c .put3 .result) (c .before .before .before .before .before .args .outcome) FailsA (c .put3 .ensures) (c .before .before .before .enum-told3 .given .1) refl (omega arith) (omega arith)
+returns-3 c =
+    let after-enum-told3 : tie.After-enum-told3 = search in
+    let start : tie.Start = search in
+    told (start .args .line .now) (c .put3 .last .0) _ (c .put3 .result) (start .args .outcome) FailsA
+    (c .put3 .ensures) (after-enum-told3 .enum-told3 .given .1) refl (omega arith) (omega arith)
 
 returns-4 : tie.Need-returns-4
 unfolding spelt line others bytes wordingOf
-returns-4 c = told (c .before .before .before .before .before .args .line .now) (c .put4 .last .0) _ (c .put4 .result) (c .before .before .before .before .before .args .outcome) FailsB (c .put4 .ensures) (c .before .before .before .enum-told4 .given .1) refl (omega arith) (omega arith)
+returns-4 c =
+    let after-enum-told4 : tie.After-enum-told4 = search in
+    let start : tie.Start = search in
+    told (start .args .line .now) (c .put4 .last .0) _ (c .put4 .result) (start .args .outcome) FailsB
+    (c .put4 .ensures) (after-enum-told4 .enum-told4 .given .1) refl (omega arith) (omega arith)
 
 returns-5 : tie.Need-returns-5
 unfolding spelt line others bytes wordingOf
-returns-5 c = told (c .before .before .before .before .before .args .line .now) (c .put5 .last .0) _ (c .put5 .result) (c .before .before .before .before .before .args .outcome) FailsC (c .put5 .ensures) (c .before .before .before .enum-told5 .given .1) refl (omega arith) (omega arith)
+returns-5 c =
+    let after-enum-told5 : tie.After-enum-told5 = search in
+    let start : tie.Start = search in
+    told (start .args .line .now) (c .put5 .last .0) _ (c .put5 .result) (start .args .outcome) FailsC
+    (c .put5 .ensures) (after-enum-told5 .enum-told5 .given .1) refl (omega arith) (omega arith)
 
 returns-6 : tie.Need-returns-6
 unfolding spelt line others bytes wordingOf
-returns-6 c = told (c .before .before .before .before .before .args .line .now) (c .put6 .last .0) _ (c .put6 .result) (c .before .before .before .before .before .args .outcome) FailsD (c .put6 .ensures) (c .before .before .before .enum-told6 .given .1) refl (omega arith) (omega arith)
+returns-6 c =
+    let after-enum-told6 : tie.After-enum-told6 = search in
+    let start : tie.Start = search in
+    told (start .args .line .now) (c .put6 .last .0) _ (c .put6 .result) (start .args .outcome) FailsD
+    (c .put6 .ensures) (after-enum-told6 .enum-told6 .given .1) refl (omega arith) (omega arith)
 
 returns-7 : tie.Need-returns-7
 unfolding spelt line others bytes wordingOf
-returns-7 c = told (c .before .before .before .before .before .args .line .now) (c .put7 .last .0) _ (c .put7 .result) (c .before .before .before .before .before .args .outcome) FailsE (c .put7 .ensures) (c .before .before .before .enum-told7 .given .1) refl (omega arith) (omega arith)
+returns-7 c =
+    let after-enum-told7 : tie.After-enum-told7 = search in
+    let start : tie.Start = search in
+    told (start .args .line .now) (c .put7 .last .0) _ (c .put7 .result) (start .args .outcome) FailsE
+    (c .put7 .ensures) (after-enum-told7 .enum-told7 .given .1) refl (omega arith) (omega arith)
 
 returns-8 : tie.Need-returns-8
 unfolding spelt line others bytes wordingOf
-returns-8 c = told (c .before .before .before .before .before .args .line .now) (c .put8 .last .0) _ (c .put8 .result) (c .before .before .before .before .before .args .outcome) FailsF (c .put8 .ensures) (c .before .before .before .enum-told8 .given .1) refl (omega arith) (omega arith)
+returns-8 c =
+    let after-enum-told8 : tie.After-enum-told8 = search in
+    let start : tie.Start = search in
+    told (start .args .line .now) (c .put8 .last .0) _ (c .put8 .result) (start .args .outcome) FailsF
+    (c .put8 .ensures) (after-enum-told8 .enum-told8 .given .1) refl (omega arith) (omega arith)
 
 returns-9 : tie.Need-returns-9
-returns-9 c = told-refusal (c .before .before .before .before .before .args .line .now) (c .put-refusal .last .0) (c .put-refusal .result) (c .before .before .before .before .before .args .outcome) _ _ (c .put-refusal .ensures) (c .before .before .before .outcome .given .1) (omega arith)
+returns-9 c =
+    let after-outcome : tie.After-outcome = search in
+    let start : tie.Start = search in
+    told-refusal (start .args .line .now) (c .put-refusal .last .0) (c .put-refusal .result) (start .args .outcome) _ _
+    (c .put-refusal .ensures) (after-outcome .outcome .given .1) (omega arith)
 
 pub put-line-spec : {M : Type 1} → statement M
 put-line-spec =

@@ -14,31 +14,43 @@ enum-known-finding : tie.Need-enum-known-finding
 enum-known-finding c = search needs
 
 pack-requires : tie.Need-pack-requires
-pack-requires c κs = safe-fits _ (c .before .before .before .pre) _ (c .before .finding .given .1)
+pack-requires c κs =
+    let start : tie.Start = search in
+    safe-fits _ (start .pre) _ (c .before .finding .given .1)
 
 enum-known-finding-2 : tie.Need-enum-known-finding-2
 enum-known-finding-2 c = search needs
 
 pack-requires-2 : tie.Need-pack-requires-2
-pack-requires-2 c κs = unsafe-fits _ (c .before .before .before .pre) _ (c .before .finding2 .given .1)
+pack-requires-2 c κs =
+    let start : tie.Start = search in
+    unsafe-fits _ (start .pre) _ (c .before .finding2 .given .1)
 
 enum-known-finding-3 : tie.Need-enum-known-finding-3
 enum-known-finding-3 c = search needs
 
 pack-requires-3 : tie.Need-pack-requires-3
-pack-requires-3 c κs = place-fits _ (c .before .before .before .pre) _ _ (c .before .finding3 .given .1)
+pack-requires-3 c κs =
+    let start : tie.Start = search in
+    place-fits _ (start .pre) _ _ (c .before .finding3 .given .1)
 
 returns : tie.Need-returns
 unfolding searchNumber wordingOf bytes
-returns c = number-of _ (Safe _) _ _ (c .before .before .finding .given .1) (c .pack .ensures) refl
+returns c =
+    let after-finding : tie.After-finding = search in
+    number-of _ (Safe _) _ _ (after-finding .finding .given .1) (c .pack .ensures) refl
 
 returns-2 : tie.Need-returns-2
 unfolding searchNumber wordingOf bytes
-returns-2 c = number-of _ (Unsafe _) _ _ (c .before .before .finding2 .given .1) (c .pack2 .ensures) refl
+returns-2 c =
+    let after-finding2 : tie.After-finding2 = search in
+    number-of _ (Unsafe _) _ _ (after-finding2 .finding2 .given .1) (c .pack2 .ensures) refl
 
 returns-3 : tie.Need-returns-3
 unfolding searchNumber wordingOf
-returns-3 c = number-of _ (Refused _ _) _ _ (c .before .before .finding3 .given .1) (c .pack3 .ensures) refl
+returns-3 c =
+    let after-finding3 : tie.After-finding3 = search in
+    number-of _ (Refused _ _) _ _ (after-finding3 .finding3 .given .1) (c .pack3 .ensures) refl
 
 pub finding-number-spec : {M : Type 1} → statement M
 finding-number-spec =

@@ -15,7 +15,8 @@ search-requires c κs = search needs
 
 finding-number-requires : tie.Need-finding-number-requires
 finding-number-requires c κs =
-    subst (λ (f : Finding). Bounded (wordingOf f)) (sym (c .before .before .before .before .before .before .search .ensures .0)) (answers-bounded _ _ _ _)
+    let after-search : tie.After-search = search in
+    subst (λ (f : Finding). Bounded (wordingOf f)) (sym (after-search .search .ensures .0)) (answers-bounded _ _ _ _)
 
 same-length : tie.Need-same-length
 same-length c = search needs
@@ -28,7 +29,8 @@ same-length-3 c = search needs
 
 returns : tie.Need-returns
 returns c =
-    let left = c .before .before .before .before .before .before .before .search .ensures in
+    let after-search : tie.After-search = search in
+    let left = after-search .search .ensures in
     (c .finding-number .ensures ∙ ap (λ (f : Finding). searchNumber (wordingOf f)) (left .0), left .1)
 
 pub nutseason-search-spec : {M : Type 1} → statement M

@@ -43,17 +43,31 @@ part-put-word-end c = search needs
 
 put-word-requires : tie.Need-put-word-requires
 put-word-requires c κs =
-    let a = c .before .before .before .before .before .before .before .before .args in
-    subst (λ v. Fits (a .out .now) (a .at) (word v)) (sym (name-part (a .text .now) (a .names .now) (a .i) (c .before .before .before .before .count .result) (c .before .before .count2 .result) (c .before .before .before .before .count .ensures) (c .before .before .count2 .ensures))) (c .before .before .before .before .before .before .before .before .pre .1)
+    let after-count2 : tie.After-count2 = search in
+    let after-count : tie.After-count = search in
+    let start : tie.Start = search in
+    let a = start .args in
+    subst (λ v. Fits (a .out .now) (a .at) (word v))
+    (sym
+    (name-part (a .text .now) (a .names .now) (a .i) (after-count .count .result) (after-count2 .count2 .result)
+    (after-count .count .ensures) (after-count2 .count2 .ensures)))
+    (start .pre .1)
 
 same-length : tie.Need-same-length
 same-length c = search needs
 
 returns : tie.Need-returns
 returns c =
-    let a = c .before .before .before .before .before .before .before .before .before .before .before .args in
-    let p = c .before .before .put-word in
-    subst (λ v. Puts (a .out .now) (a .at) (word v) (p .last .0) (p .result)) (name-part (a .text .now) (a .names .now) (a .i) (c .before .before .before .before .before .before .before .count .result) (c .before .before .before .before .before .count2 .result) (c .before .before .before .before .before .before .before .count .ensures) (c .before .before .before .before .before .count2 .ensures)) (p .ensures)
+    let after-put-word : tie.After-put-word = search in
+    let after-count2 : tie.After-count2 = search in
+    let after-count : tie.After-count = search in
+    let start : tie.Start = search in
+    let a = start .args in
+    let p = after-put-word .put-word in
+    subst (λ v. Puts (a .out .now) (a .at) (word v) (p .last .0) (p .result))
+    (name-part (a .text .now) (a .names .now) (a .i) (after-count .count .result) (after-count2 .count2 .result)
+    (after-count .count .ensures) (after-count2 .count2 .ensures))
+    (p .ensures)
 
 pub put-name-spec : {M : Type 1} → statement M
 put-name-spec =

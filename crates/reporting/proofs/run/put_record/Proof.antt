@@ -33,18 +33,38 @@ add-put-step c = search needs
 
 put-step-requires : tie.Need-put-step-requires
 put-step-requires c κs =
-    let a = c .before .before .before .before .before .before .before .before .before .args in
-    let h = c .before .before .before .before .before .before .before .before .before .pre in
-    (named-told (a .text .now) (a .names .now) (a .base) (a .sheet .now) (a .p) (c .before .before .before .before .wide .result) (c .before .before .before .before .wide .ensures .0) (h .2), subst (Fits (a .out .now) (a .at)) (sym (record-told (a .text .now) (a .names .now) (a .base) (a .sheet .now) (a .p) (a .number) (c .before .before .before .before .wide .result) (c .before .before .wide2 .result) (c .before .two-at .result) (c .before .before .before .before .wide .ensures .0) (c .before .before .wide2 .ensures .0) (c .before .two-at .ensures .0))) (h .3))
+    let after-wide2 : tie.After-wide2 = search in
+    let after-wide : tie.After-wide = search in
+    let start : tie.Start = search in
+    let a = start .args in
+    let h = start .pre in (
+      named-told (a .text .now) (a .names .now) (a .base) (a .sheet .now) (a .p) (after-wide .wide .result)
+          (after-wide .wide .ensures .0) (h .2),
+      subst (Fits (a .out .now) (a .at))
+          (sym
+          (record-told (a .text .now) (a .names .now) (a .base) (a .sheet .now) (a .p) (a .number)
+          (after-wide .wide .result) (after-wide2 .wide2 .result) (c .before .two-at .result)
+          (after-wide .wide .ensures .0) (after-wide2 .wide2 .ensures .0) (c .before .two-at .ensures .0)))
+          (h .3),
+    )
 
 same-length : tie.Need-same-length
 same-length c = search needs
 
 returns : tie.Need-returns
 returns c =
-    let a = c .before .before .before .before .before .before .before .before .before .before .before .before .args in
-    let s = c .before .before .put-step in
-    subst (λ v. Puts (a .out .now) (a .at) v (s .last .0) (s .result)) (record-told (a .text .now) (a .names .now) (a .base) (a .sheet .now) (a .p) (a .number) (c .before .before .before .before .before .before .before .wide .result) (c .before .before .before .before .before .wide2 .result) (c .before .before .before .before .two-at .result) (c .before .before .before .before .before .before .before .wide .ensures .0) (c .before .before .before .before .before .wide2 .ensures .0) (c .before .before .before .before .two-at .ensures .0)) (s .ensures)
+    let after-put-step : tie.After-put-step = search in
+    let after-two-at : tie.After-two-at = search in
+    let after-wide2 : tie.After-wide2 = search in
+    let after-wide : tie.After-wide = search in
+    let start : tie.Start = search in
+    let a = start .args in
+    let s = after-put-step .put-step in
+    subst (λ v. Puts (a .out .now) (a .at) v (s .last .0) (s .result))
+    (record-told (a .text .now) (a .names .now) (a .base) (a .sheet .now) (a .p) (a .number) (after-wide .wide .result)
+    (after-wide2 .wide2 .result) (after-two-at .two-at .result) (after-wide .wide .ensures .0)
+    (after-wide2 .wide2 .ensures .0) (after-two-at .two-at .ensures .0))
+    (s .ensures)
 
 pub put-record-spec : {M : Type 1} → statement M
 put-record-spec =

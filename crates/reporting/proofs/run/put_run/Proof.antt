@@ -1,6 +1,6 @@
 -- `put_run` meets its contract: what writes the steps that are left, writes all of them from where the loop began.
 -- Assumes nothing.
-use Prim.Native.Nat.{_+_, _-_, _*_, _≤_}
+use Prim.Native.Nat.{_+_, _-_, _*_, _^_, _<_, _≤_}
 use mathlib.Core.Path.{_∙_}
 use native.Mathlib.Omega.{arith}
 use lib.ListN.{length}
@@ -12,42 +12,92 @@ use Rattle.reporting.proofs.run.put_run.Statement.{statement}
 use Rattle.reporting.proofs.run.put_run.Tie as tie
 
 abbrev Inv-steps : tie.InvT-steps
-Inv-steps out₀ at text names base sheet steps judged end₀ i₀ out end i = Going text names base sheet steps out₀ end₀ out end i
+Inv-steps out₀ at text names base sheet steps judged end₀ i₀ out end i =
+    Going text names base sheet steps out₀ end₀ out end i
 
 abbrev μ-steps : tie.MeasureT-steps
 μ-steps out₀ at text names base sheet steps judged end₀ i₀ out end i = steps - i
+
+-- The places that the answers name.
+abbrev Start : Type 0
+Start = tie.Start Inv-steps μ-steps
+
+abbrev After-put-verdict : Type 0
+After-put-verdict = tie.After-put-verdict Inv-steps μ-steps
+
+abbrev After-put-start : Type 0
+After-put-start = tie.After-put-start Inv-steps μ-steps
+
+abbrev After-two-at : Type 0
+After-two-at = tie.After-two-at Inv-steps μ-steps
+
+abbrev At-steps : Type 0
+At-steps = tie.At-steps Inv-steps μ-steps
+
+abbrev After-put-record : Type 0
+After-put-record = tie.After-put-record Inv-steps μ-steps
+
+-- No slice is as long as the numbers go.
+short : (c : Start) → length (c .args .sheet .now) < 2 ^ 64
+short c = omega arith
 
 sub-steps : tie.Need-sub-steps Inv-steps μ-steps
 sub-steps c = omega arith
 
 put-verdict-requires : tie.Need-put-verdict-requires Inv-steps μ-steps
-put-verdict-requires c κs = let a = c .before .before .before .before .args in verdict-room (a .text .now) (a .names .now) (a .base) (a .sheet .now) (c .before .before .before .before .pre .1)
+put-verdict-requires c κs =
+    let start : Start = search in
+    let a = start .args in
+    verdict-room (a .text .now) (a .names .now) (a .base) (a .sheet .now) (start .pre .1)
 
 two-at-requires : tie.Need-two-at-requires Inv-steps μ-steps
-two-at-requires c κs = omega (arith, c .before .before .before .before .before .before .before .before .pre .0 .long)
+two-at-requires c κs =
+    let start : Start = search in
+    omega (arith, start .pre .0 .long)
 
 put-start-requires : tie.Need-put-start-requires Inv-steps μ-steps
-put-start-requires c κs = let a = c .before .before .before .before .before .before .before .before .before .args in start-room (a .text .now) (a .names .now) (a .base) (a .sheet .now) (c .before .before .before .before .put-verdict .ensures) (c .two-at .ensures .0) (c .before .before .before .before .before .before .before .before .before .pre .1)
+put-start-requires c κs =
+    let after-put-verdict : After-put-verdict = search in
+    let start : Start = search in
+    let a = start .args in
+    start-room (a .text .now) (a .names .now) (a .base) (a .sheet .now) (after-put-verdict .put-verdict .ensures)
+    (c .two-at .ensures .0) (start .pre .1)
 
 steps-holds : tie.Need-steps-holds Inv-steps μ-steps
 steps-holds c =
-    let a = c .before .before .before .before .before .before .before .before .before .before .before .before .args in
-    let h : 17 + 10 * stepsOf (a .sheet .now) ≤ length (a .sheet .now) = omega (arith, c .before .before .before .before .before .before .before .before .before .before .before .before .pre .0 .long) in
-    begun (a .text .now) (a .names .now) (a .base) (a .sheet .now) (stepsOf (a .sheet .now)) (c .before .before .before .before .before .before .before .before .before .before .before .before .pre .0 .few) h (c .before .before .before .before .before .before .before .before .before .before .before .before .pre .0 .named)
-    (steps-room (a .text .now) (a .names .now) (a .base) (a .sheet .now) (c .before .before .before .before .before .before .before .put-verdict .ensures) (c .before .before .before .two-at .ensures .0) (c .before .before .put-start .ensures) (c .before .before .before .before .before .before .before .before .before .before .before .before .pre .1))
+    let after-put-start : After-put-start = search in
+    let after-two-at : After-two-at = search in
+    let after-put-verdict : After-put-verdict = search in
+    let at-start : Start = search in
+    let a = at-start .args in
+    let h : 17 + 10 * stepsOf (a .sheet .now) ≤ length (a .sheet .now) = omega (arith, at-start .pre .0 .long) in
+    begun (a .text .now) (a .names .now) (a .base) (a .sheet .now) (stepsOf (a .sheet .now)) (at-start .pre .0 .few) h
+    (at-start .pre .0 .named)
+    (steps-room (a .text .now) (a .names .now) (a .base) (a .sheet .now) (after-put-verdict .put-verdict .ensures)
+    (after-two-at .two-at .ensures .0) (after-put-start .put-start .ensures) (at-start .pre .1))
 
 mul-put-record : tie.Need-mul-put-record Inv-steps μ-steps
-mul-put-record c = omega (arith, c .before .before .steps .inv .inside)
+mul-put-record c =
+    let at-steps : At-steps = search in
+    let start : Start = search in
+    omega (arith, at-steps .steps .inv .inside, short start)
 
 add-put-record : tie.Need-add-put-record Inv-steps μ-steps
-add-put-record c = omega (arith, c .before .before .steps .inv .inside)
+add-put-record c =
+    let at-steps : At-steps = search in
+    let start : Start = search in
+    omega (arith, at-steps .steps .inv .inside, short start)
 
 add-put-record-2 : tie.Need-add-put-record-2 Inv-steps μ-steps
-add-put-record-2 c = omega (arith, c .before .before .steps .inv .inside)
+add-put-record-2 c =
+    let at-steps : At-steps = search in
+    let start : Start = search in
+    omega (arith, at-steps .steps .inv .inside, short start)
 
 put-record-requires : tie.Need-put-record-requires Inv-steps μ-steps
 put-record-requires c κs =
-    let G = c .before .before .steps .inv in
+    let at-steps : At-steps = search in
+    let G = at-steps .steps .inv in
     (G .few, omega (arith, G .inside), next-named _ _ _ _ _ G (omega arith), next-fits _ _ _ _ _ G (omega arith))
 
 add-i : tie.Need-add-i Inv-steps μ-steps
@@ -57,17 +107,29 @@ steps-less : tie.Need-steps-less Inv-steps μ-steps
 steps-less c = omega arith
 
 steps-again : tie.Need-steps-again Inv-steps μ-steps
-steps-again c = went _ _ _ _ _ (c .before .before .before .before .before .steps .inv) (omega arith) (c .before .before .put-record .ensures)
+steps-again c =
+    let after-put-record : After-put-record = search in
+    let at-steps : At-steps = search in
+    went _ _ _ _ _ (at-steps .steps .inv) (omega arith) (after-put-record .put-record .ensures)
 
 same-length : tie.Need-same-length Inv-steps μ-steps
-same-length c = c .before .steps .inv .long ∙ keeps (c .before .before .before .before .put-start .ensures) ∙ keeps (c .before .before .before .before .before .before .before .before .before .put-verdict .ensures)
+same-length c =
+    let after-put-start : After-put-start = search in
+    let after-put-verdict : After-put-verdict = search in
+    c .before .steps .inv .long ∙ keeps (after-put-start .put-start .ensures) ∙ keeps
+    (after-put-verdict .put-verdict .ensures)
 
 returns : tie.Need-returns Inv-steps μ-steps
 returns c =
-    let a = c .before .before .before .before .before .before .before .before .before .before .before .before .before .before .args in
+    let after-put-start : After-put-start = search in
+    let after-two-at : After-two-at = search in
+    let after-put-verdict : After-put-verdict = search in
+    let at-start : Start = search in
+    let a = at-start .args in
     let n = stepsOf (a .sheet .now) in
     let d = done (a .text .now) (a .names .now) (a .base) (a .sheet .now) n (c .before .steps .inv) (omega arith) in
-    run-written (a .text .now) (a .names .now) (a .base) (a .sheet .now) (c .before .before .before .before .before .before .before .before .before .put-verdict .ensures) (c .before .before .before .before .before .two-at .ensures .0) (c .before .before .before .before .put-start .ensures) d
+    run-written (a .text .now) (a .names .now) (a .base) (a .sheet .now) (after-put-verdict .put-verdict .ensures)
+    (after-two-at .two-at .ensures .0) (after-put-start .put-start .ensures) d
 
 pub put-run-spec : {M : Type 1} → statement M
 put-run-spec =

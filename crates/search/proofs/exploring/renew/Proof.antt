@@ -14,7 +14,8 @@ returns c = c .fill .ensures
 
 returns-2 : tie.Need-returns-2
 returns-2 c =
-    let a = c .before .before .args in
+    let start : tie.Start = search in
+    let a = start .args in
     filled-old (slice (a .from) (a .to) (a .ops .now)) (a .state) (a .n) (a .w) (a .rows .now) (c .if1 .left)
 
 pub renew-spec : {M : Type 1} → statement M

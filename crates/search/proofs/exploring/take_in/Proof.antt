@@ -10,55 +10,118 @@ use Rattle.evaluation.specs.working.CodeSystem.{startsIn, breaksIn}
 use Rattle.exploration.specs.working.Tables.{Took}
 use Rattle.search.specs.working.CodeTransitions.{still}
 use Rattle.search.proofs.CodeSteps.{unmet-first, unmet-next}
-use Rattle.exploration.proofs.Laws.{Taking, taking-refl, taking-end, taking-skip, taking-next, taking-broke, meets-new, room}
+use Rattle.exploration.proofs.Laws.{Taking, taking-refl, taking-end, taking-skip, taking-next, taking-broke, meets-new}
+use Rattle.exploration.proofs.Laws.{room}
 use Rattle.search.proofs.exploring.take_in.Statement.{statement}
 use Rattle.search.proofs.exploring.take_in.Tie as tie
 
 abbrev Inv-states : tie.InvT-states
-Inv-states ops ends commands states queue₀ parent₀ count₀ found₀ s₀ queue parent count found s = (s ≤ states) × (found ≡ false) × Taking (still states (startsIn ops ends) (breaksIn ops ends)) queue₀ parent₀ s queue count parent × ((i : ℕ) → s ≤ i → i < states → getD parent i 0 ≡ 0)
+Inv-states ops ends commands states queue₀ parent₀ count₀ found₀ s₀ queue parent count found s =
+    (s ≤ states) × (found ≡ false) × Taking (still states (startsIn ops ends) (breaksIn ops ends)) queue₀ parent₀ s
+    queue count parent × ((i : ℕ) → s ≤ i → i < states → getD parent i 0 ≡ 0)
 
 abbrev μ-states : tie.MeasureT-states
 μ-states ops ends commands states queue₀ parent₀ count₀ found₀ s₀ queue parent count found s = states - s
 
+-- The places that the answers name.
+abbrev In-states : Type 0
+In-states = tie.In-states Inv-states μ-states
+
+abbrev Then2 : Type 0
+Then2 = tie.Then2 Inv-states μ-states
+
+abbrev At-states : Type 0
+At-states = tie.At-states Inv-states μ-states
+
+abbrev Start : Type 0
+Start = tie.Start Inv-states μ-states
+
+abbrev Then1 : Type 0
+Then1 = tie.Then1 Inv-states μ-states
+
+abbrev After-starts : Type 0
+After-starts = tie.After-starts Inv-states μ-states
+
 -- The state at hand is not met yet; where it violates `keep`, the start states are taken in up to it.
-unmet : (c : tie.In-states Inv-states μ-states) → getD (c .before .states .parent) (c .before .states .s) 0 ≡ 0
+unmet : (c : In-states) → getD (c .before .states .parent) (c .before .states .s) 0 ≡ 0
 unmet c = c .before .states .inv .3 (c .before .states .s) (omega arith) (c .states-test .taken)
 
-broken : (c : tie.Then2 Inv-states μ-states) → Took (still (c .before .before .before .before .before .before .before .before .args .states) (startsIn (c .before .before .before .before .before .before .before .before .args .ops .now) (c .before .before .before .before .before .before .before .before .args .ends .now)) (breaksIn (c .before .before .before .before .before .before .before .before .args .ops .now) (c .before .before .before .before .before .before .before .before .args .ends .now))) (c .before .before .before .before .before .before .before .before .args .queue .now) (c .before .before .before .before .before .before .before .before .args .parent .now) (set (c .before .before .before .before .before .states .queue) (c .before .before .before .before .before .states .count) (c .before .before .before .before .before .states .s)) (c .before .before .before .before .before .states .count + 1) (set (c .before .before .before .before .before .states .parent) (c .before .before .before .before .before .states .s) (c .before .before .before .before .before .states .s + 1)) true
-broken c = taking-broke (c .before .before .before .before .before .states .inv .2) (c .before .before .before .before .states-test .taken) (sym (c .before .before .before .starts .ensures) ∙ c .before .before .if1 .taken) (meets-new (c .before .before .before .before .before .states .inv .2 .kept .ready) (c .before .before .before .before .states-test .taken) (unmet (c .before .before .before .before)) (c .before .breaks .ensures)) (c .if2 .taken)
+broken : (c : Then2) →
+    let at-states : At-states = search in
+    let start : Start = search in
+    let ends = start .args .ends .now in
+    let ops = start .args .ops .now in
+    Took (still (start .args .states) (startsIn ops ends) (breaksIn ops ends)) (start .args .queue .now)
+    (start .args .parent .now) (set (at-states .states .queue) (at-states .states .count) (at-states .states .s))
+    (at-states .states .count + 1) (set (at-states .states .parent) (at-states .states .s) (at-states .states .s + 1))
+    true
+broken c =
+    let then1 : Then1 = search in
+    let after-starts : After-starts = search in
+    let in-states : In-states = search in
+    let at-states : At-states = search in
+    taking-broke (at-states .states .inv .2) (in-states .states-test .taken)
+    (sym (after-starts .starts .ensures) ∙ then1 .if1 .taken)
+    (meets-new (at-states .states .inv .2 .kept .ready) (in-states .states-test .taken) (unmet in-states)
+    (c .before .breaks .ensures))
+    (c .if2 .taken)
 
 states-holds : tie.Need-states-holds Inv-states μ-states
-states-holds c = (omega arith, refl, taking-refl _ _ _ (c .before .before .pre .3), unmet-first _ _ _ (c .before .before .pre .3))
+states-holds c =
+    let start : Start = search in
+    (omega arith, refl, taking-refl _ _ _ (start .pre .3), unmet-first _ _ _ (start .pre .3))
 
 starts-requires : tie.Need-starts-requires Inv-states μ-states
-starts-requires c κs = (omega (arith, c .before .before .before .before .pre .0), c .before .before .before .before .pre .1, c .before .before .before .before .pre .2)
+starts-requires c κs =
+    let start : Start = search in
+    (omega (arith, start .pre .0), start .pre .1, start .pre .2)
 
 add-parent : tie.Need-add-parent Inv-states μ-states
 add-parent c = omega arith
 
 cast-parent : tie.Need-cast-parent Inv-states μ-states
-cast-parent c = omega (arith, c .before .before .before .before .before .before .pre .0)
+cast-parent c =
+    let start : Start = search in
+    omega (arith, start .pre .0)
 
 mul-parent : tie.Need-mul-parent Inv-states μ-states
 mul-parent c = omega arith
 
 slice-write-parent : tie.Need-slice-write-parent Inv-states μ-states
-slice-write-parent c = omega (arith, c .before .before .before .states .inv .2 .kept .ready .parent-room)
+slice-write-parent c =
+    let at-states : At-states = search in
+    omega (arith, at-states .states .inv .2 .kept .ready .parent-room)
 
 cast-queue : tie.Need-cast-queue Inv-states μ-states
-cast-queue c = omega (arith, c .before .before .before .before .before .before .pre .0)
+cast-queue c =
+    let start : Start = search in
+    omega (arith, start .pre .0)
 
 mul-queue : tie.Need-mul-queue Inv-states μ-states
 mul-queue c = omega arith
 
 slice-write-queue : tie.Need-slice-write-queue Inv-states μ-states
-slice-write-queue c = let K = c .before .before .before .states .inv .2 .kept in omega (arith, room _ _ _ _ (K .ready) 0 _ (c .before .before .states-test .taken) (c .before .before .before .states .inv .3 (c .before .before .before .states .s) (omega arith) (c .before .before .states-test .taken)), K .ready .queue-room)
+slice-write-queue c =
+    let in-states : In-states = search in
+    let at-states : At-states = search in
+    let K = at-states .states .inv .2 .kept in
+    omega (
+      arith,
+      room _ _ _ _ (K .ready) 0 _ (in-states .states-test .taken)
+          (at-states .states .inv .3 (at-states .states .s) (omega arith) (in-states .states-test .taken)),
+      K .ready .queue-room,
+    )
 
 add-count : tie.Need-add-count Inv-states μ-states
-add-count c = omega (arith, c .before .before .before .states .inv .2 .kept .few, c .before .before .before .before .before .before .pre .0)
+add-count c =
+    let at-states : At-states = search in
+    let start : Start = search in
+    omega (arith, at-states .states .inv .2 .kept .few, start .pre .0)
 
 breaks-requires : tie.Need-breaks-requires Inv-states μ-states
-breaks-requires c κs = (omega (arith, c .before .before .before .before .before .before .pre .0), c .before .before .before .before .before .before .pre .1, c .before .before .before .before .before .before .pre .2)
+breaks-requires c κs =
+    let start : Start = search in
+    (omega (arith, start .pre .0), start .pre .1, start .pre .2)
 
 add-s : tie.Need-add-s Inv-states μ-states
 add-s c = omega arith
@@ -67,7 +130,28 @@ states-less : tie.Need-states-less Inv-states μ-states
 states-less c = omega arith
 
 states-again : tie.Need-states-again Inv-states μ-states
-states-again c = (omega arith, c .before .before .before .states .inv .1, ⊎-elim (λ w. rw (w .3, w .4, w .5) (taking-next (c .before .before .before .states .inv .2) (c .before .before .states-test .taken) (sym (c .before .starts .ensures) ∙ w .0 .taken) (meets-new (c .before .before .before .states .inv .2 .kept .ready) (c .before .before .states-test .taken) (unmet (c .before .before)) (w .1 .ensures)) (w .2 .left))) (λ w. rw (w .1, w .2, w .3) (taking-skip (c .before .before .before .states .inv .2) (c .before .before .states-test .taken) (sym (c .before .starts .ensures) ∙ w .0 .left))) (c .if1 .came), ⊎-elim (λ w. rw (w .4) (unmet-next (c .before .before .before .states .parent) (c .before .before .before .states .s) (c .before .before .before .states .s + 1) _ (c .before .before .before .states .inv .3))) (λ w. rw (w .2) (λ i a h. c .before .before .before .states .inv .3 i (omega arith) h)) (c .if1 .came))
+states-again c =
+    let in-states : In-states = search in
+    let at-states : At-states = search in (
+      omega arith,
+      at-states .states .inv .1,
+      ⊎-elim
+          (λ w. rw (w .3, w .4, w .5)
+          (taking-next (at-states .states .inv .2) (in-states .states-test .taken)
+          (sym (c .before .starts .ensures) ∙ w .0 .taken)
+          (meets-new (at-states .states .inv .2 .kept .ready) (in-states .states-test .taken) (unmet in-states)
+          (w .1 .ensures))
+          (w .2 .left)))
+          (λ w. rw (w .1, w .2, w .3)
+          (taking-skip (at-states .states .inv .2) (in-states .states-test .taken)
+          (sym (c .before .starts .ensures) ∙ w .0 .left)))
+          (c .if1 .came),
+      ⊎-elim
+          (λ w. rw (w .4)
+          (unmet-next (at-states .states .parent) (at-states .states .s) (at-states .states .s + 1) _
+          (at-states .states .inv .3)))
+          (λ w. rw (w .2) (λ i a h. at-states .states .inv .3 i (omega arith) h)) (c .if1 .came),
+    )
 
 same-length : tie.Need-same-length Inv-states μ-states
 same-length c = c .before .states .inv .2 .kept .queue-length

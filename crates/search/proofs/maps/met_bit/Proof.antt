@@ -13,10 +13,14 @@ shared-slice-read-if2 : tie.Need-shared-slice-read-if2
 shared-slice-read-if2 c = search needs
 
 returns : tie.Need-returns
-returns c = (bit-one _ _ _ (c .before .before .if1 .taken) (c .if2 .taken), omega arith)
+returns c =
+    let then1 : tie.Then1 = search in
+    (bit-one _ _ _ (then1 .if1 .taken) (c .if2 .taken), omega arith)
 
 returns-2 : tie.Need-returns-2
-returns-2 c = (bit-zero _ _ _ (c .before .before .if1 .taken) (c .if2 .left), omega arith)
+returns-2 c =
+    let then1 : tie.Then1 = search in
+    (bit-zero _ _ _ (then1 .if1 .taken) (c .if2 .left), omega arith)
 
 returns-3 : tie.Need-returns-3
 returns-3 c = (bit-past _ _ _ (c .if1 .left), omega arith)

@@ -13,10 +13,18 @@ use Rattle.search.proofs.maps.write_map.Statement.{statement}
 use Rattle.search.proofs.maps.write_map.Tie as tie
 
 abbrev Inv-loop : tie.InvT-loop
-Inv-loop m parent n out₀ i₀ out i = (i ≤ n) × (sets out (15 + i) (mapFrom (map (ltb 0) (take m parent)) i (n - i)) ≡ sets out₀ 15 (mapFrom (map (ltb 0) (take m parent)) 0 n)) × (length out ≡ length out₀)
+Inv-loop m parent n out₀ i₀ out i =
+    (i ≤ n) ×
+    (sets out (15 + i) (mapFrom (map (ltb 0) (take m parent)) i (n - i)) ≡ sets out₀ 15
+    (mapFrom (map (ltb 0) (take m parent)) 0 n))
+    × (length out ≡ length out₀)
 
 abbrev μ-loop : tie.MeasureT-loop
 μ-loop m parent n out₀ i₀ out i = n - i
+
+-- The places that the answers name.
+abbrev At-loop : Type 0
+At-loop = tie.At-loop Inv-loop μ-loop
 
 loop-holds : tie.Need-loop-holds Inv-loop μ-loop
 loop-holds c = (omega arith, map-start _ _ _, refl)
@@ -37,7 +45,12 @@ loop-less : tie.Need-loop-less Inv-loop μ-loop
 loop-less c = omega arith
 
 loop-again : tie.Need-loop-again Inv-loop μ-loop
-loop-again c = (omega arith, map-next _ _ _ _ _ (c .before .loop-test .taken) (c .map-byte .ensures) (c .before .before .loop .inv .1), length-set (c .before .before .loop .out) (15 + c .before .before .loop .i) (c .map-byte .result) ∙ c .before .before .loop .inv .2)
+loop-again c =
+    let at-loop : At-loop = search in (
+      omega arith,
+      map-next _ _ _ _ _ (c .before .loop-test .taken) (c .map-byte .ensures) (at-loop .loop .inv .1),
+      length-set (at-loop .loop .out) (15 + at-loop .loop .i) (c .map-byte .result) ∙ at-loop .loop .inv .2,
+    )
 
 same-length : tie.Need-same-length Inv-loop μ-loop
 same-length c = c .before .loop .inv .2

@@ -32,7 +32,9 @@ same-length : tie.Need-same-length
 same-length c = search needs
 
 returns : tie.Need-returns
-returns c = rw (c .before .before .put-head .ensures) refl
+returns c =
+    let after-put-head : tie.After-put-head = search in
+    rw (after-put-head .put-head .ensures) refl
 
 pub put-header-spec : {M : Type 1} → statement M
 put-header-spec =

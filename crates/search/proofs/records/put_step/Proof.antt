@@ -50,7 +50,9 @@ same-length : tie.Need-same-length
 same-length c = search needs
 
 returns : tie.Need-returns
-returns c = rw (c .before .before .put-head .ensures) (simp towards-suc)
+returns c =
+    let after-put-head : tie.After-put-head = search in
+    rw (after-put-head .put-head .ensures) (simp towards-suc)
 
 pub put-step-spec : {M : Type 1} → statement M
 put-step-spec =

@@ -15,6 +15,10 @@ Inv-loop table₀ n i₀ table i = (i ≤ n) × (table ≡ replicate i 0 ++ drop
 abbrev μ-loop : tie.MeasureT-loop
 μ-loop table₀ n i₀ table i = n - i
 
+-- The places that the answers name.
+abbrev Start : Type 0
+Start = tie.Start Inv-loop μ-loop
+
 loop-holds : tie.Need-loop-holds Inv-loop μ-loop
 loop-holds c = (omega arith, fill-none _ 0, refl)
 
@@ -32,14 +36,23 @@ loop-less c = omega arith
 
 loop-again : tie.Need-loop-again Inv-loop μ-loop
 loop-again c =
-    let at = c .before .loop in
-    (omega arith, ap (λ (l : List _). set l (at .i) 0) (at .inv .1) ∙ fill-more (at .i) 0 _ (omega arith), length-set (at .table) (at .i) 0 ∙ at .inv .2)
+    let at = c .before .loop in (
+      omega arith,
+      ap (λ (l : List _). set l (at .i) 0) (at .inv .1) ∙ fill-more (at .i) 0 _ (omega arith),
+      length-set
+          (at .table) (at .i) 0 ∙ at .inv .2,
+    )
 
 same-length : tie.Need-same-length Inv-loop μ-loop
 same-length c = c .before .loop .inv .2
 
 returns : tie.Need-returns Inv-loop μ-loop
-returns c = let e : c .before .loop .i ≡ c .before .before .args .n = omega arith in rw e at (c .before .loop .inv .1)
+returns c =
+    let start : Start = search in
+    let e : c .before .loop .i ≡ start .args .n = omega arith in
+    rw e at (c .before .loop .inv .1)
 
 pub clear-spec : {M : Type 1} → statement M
-clear-spec = tie.close (tie.spec Inv-loop μ-loop loop-holds mul-table slice-write-table add-i loop-less loop-again same-length returns)
+clear-spec =
+    tie.close
+    (tie.spec Inv-loop μ-loop loop-holds mul-table slice-write-table add-i loop-less loop-again same-length returns)

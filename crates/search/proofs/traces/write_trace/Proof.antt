@@ -9,85 +9,201 @@ use Rattle.search.specs.working.CodeTransitions.{transitionsIn}
 use Rattle.exploration.specs.working.Runs.{runTo, steps}
 use Rattle.exploration.specs.working.Transitions.{moveOf}
 use Rattle.search.proofs.CodeSteps.{code-lawful, words-within}
-use Rattle.exploration.proofs.Trace.{Walking, walking-start, walking-below, walking-one, walking-end, walking-next, Writing, writing-start, writing-below, writing-one, writing-parent, Turn, writing-next, writing-end, recorded-short}
+use Rattle.exploration.proofs.Trace.{Walking, walking-start, walking-below, walking-one, walking-end, walking-next}
+use Rattle.exploration.proofs.Trace.{Writing, writing-start, writing-below, writing-one, writing-parent, Turn}
+use Rattle.exploration.proofs.Trace.{writing-next, writing-end, recorded-short}
 use Rattle.search.proofs.traces.write_trace.Statement.{statement}
 use Rattle.search.proofs.traces.write_trace.Tie as tie
 
 abbrev Inv-count : tie.InvT-count
-Inv-count ops ends stars commands bits parent t out n₀ s₀ n s = Walking (transitionsIn bits commands ops ends stars) parent t n s
+Inv-count ops ends stars commands bits parent t out n₀ s₀ n s =
+    Walking (transitionsIn bits commands ops ends stars) parent t n s
 
 abbrev μ-count : tie.MeasureT-count
 μ-count ops ends stars commands bits parent t out n₀ s₀ n s = 2 ^ bits - n
 
 abbrev Inv-write : tie.InvT-write
-Inv-write ops ends stars commands bits parent t out₀ n s i₀ u₀ out i u = Writing (transitionsIn bits commands ops ends stars) parent t out₀ out i u
+Inv-write ops ends stars commands bits parent t out₀ n s i₀ u₀ out i u =
+    Writing (transitionsIn bits commands ops ends stars) parent t out₀ out i u
 
 abbrev μ-write : tie.MeasureT-write
 μ-write ops ends stars commands bits parent t out₀ n s i₀ u₀ out i u = i
 
+-- The places that the answers name.
+abbrev At-count : Type 0
+At-count = tie.At-count Inv-count μ-count Inv-write μ-write
+
+abbrev Start : Type 0
+Start = tie.Start Inv-count μ-count Inv-write μ-write
+
+abbrev Then1 : Type 0
+Then1 = tie.Then1 Inv-count μ-count Inv-write μ-write
+
+abbrev In-write : Type 0
+In-write = tie.In-write Inv-count μ-count Inv-write μ-write
+
+abbrev After-first-move : Type 0
+After-first-move = tie.After-first-move Inv-count μ-count Inv-write μ-write
+
+abbrev At-write : Type 0
+At-write = tie.At-write Inv-count μ-count Inv-write μ-write
+
+abbrev After-put-step : Type 0
+After-put-step = tie.After-put-step Inv-count μ-count Inv-write μ-write
+
+abbrev After-put-start : Type 0
+After-put-start = tie.After-put-start Inv-count μ-count Inv-write μ-write
+
+abbrev After-write : Type 0
+After-write = tie.After-write Inv-count μ-count Inv-write μ-write
+
 -- The states on the way back are states; the first loop counts the run's steps, and a turn of the second writes one.
-s-below : (c : tie.At-count Inv-count μ-count Inv-write μ-write) → c .count .s < 2 ^ c .before .before .before .args .bits
+s-below : (c : At-count) →
+    let start : Start = search in
+    c .count .s < 2 ^ start .args .bits
 s-below c = walking-below (transitionsIn _ _ _ _ _) (code-lawful _ _ _ _ _) _ _ _ _ (c .count .inv)
 
-counted : (c : tie.Then1 Inv-count μ-count Inv-write μ-write) → c .before .before .count .n ≡ steps (runTo (transitionsIn (c .before .before .before .before .before .args .bits) (c .before .before .before .before .before .args .commands) (c .before .before .before .before .before .args .ops .now) (c .before .before .before .before .before .args .ends .now) (c .before .before .before .before .before .args .stars .now)) (take (2 ^ c .before .before .before .before .before .args .bits) (c .before .before .before .before .before .args .parent .now)) (2 ^ c .before .before .before .before .before .args .bits) (c .before .before .before .before .before .args .t))
-counted c = walking-end (transitionsIn _ _ _ _ _) (code-lawful _ _ _ _ _) _ _ _ _ (c .before .before .count .inv) (c .if1 .taken)
+counted : (c : Then1) →
+    let at-count : At-count = search in
+    let start : Start = search in
+    let bits = start .args .bits in
+    at-count .count .n ≡ steps
+    (runTo
+    (transitionsIn bits (start .args .commands) (start .args .ops .now) (start .args .ends .now)
+    (start .args .stars .now))
+    (take (2 ^ bits) (start .args .parent .now)) (2 ^ bits) (start .args .t))
+counted c =
+    let at-count : At-count = search in
+    walking-end (transitionsIn _ _ _ _ _) (code-lawful _ _ _ _ _) _ _ _ _ (at-count .count .inv) (c .if1 .taken)
 
-u-below : (c : tie.In-write Inv-count μ-count Inv-write μ-write) → c .before .write .u < 2 ^ c .before .before .before .before .before .before .before .args .bits
+u-below : (c : In-write) →
+    let start : Start = search in
+    c .before .write .u < 2 ^ start .args .bits
 u-below c = writing-below (transitionsIn _ _ _ _ _) (code-lawful _ _ _ _ _) _ _ _ _ _ _ (c .before .write .inv)
 
-turn : (c : tie.After-first-move Inv-count μ-count Inv-write μ-write) → Turn (transitionsIn (c .before .before .before .before .before .before .before .before .before .args .bits) (c .before .before .before .before .before .before .before .before .before .args .commands) (c .before .before .before .before .before .before .before .before .before .args .ops .now) (c .before .before .before .before .before .before .before .before .before .args .ends .now) (c .before .before .before .before .before .before .before .before .before .args .stars .now)) (code-lawful _ _ _ _ _) _ _ _ _ _ _ (c .before .before .before .write .inv) (moveOf (c .first-move .result .command) (c .first-move .result .word))
-turn c = writing-next (transitionsIn _ _ _ _ _) (code-lawful _ _ _ _ _) _ _ _ _ _ _ (c .before .before .before .write .inv) (c .before .before .write-test .taken) _ (c .first-move .ensures)
+turn : (c : After-first-move) →
+    let at-write : At-write = search in
+    let start : Start = search in
+    Turn
+    (transitionsIn (start .args .bits) (start .args .commands) (start .args .ops .now) (start .args .ends .now)
+    (start .args .stars .now))
+    (code-lawful _ _ _ _ _) _ _ _ _ _ _ (at-write .write .inv)
+    (moveOf (c .first-move .result .command) (c .first-move .result .word))
+turn c =
+    let in-write : In-write = search in
+    let at-write : At-write = search in
+    writing-next (transitionsIn _ _ _ _ _) (code-lawful _ _ _ _ _) _ _ _ _ _ _ (at-write .write .inv)
+    (in-write .write-test .taken) _ (c .first-move .ensures)
 
 count-holds : tie.Need-count-holds Inv-count μ-count Inv-write μ-write
-count-holds c = walking-start (transitionsIn _ _ _ _ _) _ _ (c .before .before .pre .4)
+count-holds c =
+    let start : Start = search in
+    walking-start (transitionsIn _ _ _ _ _) _ _ (start .pre .4)
 
 cast-at : tie.Need-cast-at Inv-count μ-count Inv-write μ-write
-cast-at c = omega (arith, s-below c, pow-small (c .before .before .before .args .bits) (2 ^ c .before .before .before .args .bits) (c .before .before .before .pre .0) refl)
+cast-at c =
+    let start : Start = search in
+    let bits = start .args .bits in
+    omega (arith, s-below c, pow-small bits (2 ^ bits) (start .pre .0) refl)
 
 mul-p : tie.Need-mul-p Inv-count μ-count Inv-write μ-write
-mul-p c = omega (arith, s-below c, pow-small (c .before .before .before .args .bits) (2 ^ c .before .before .before .args .bits) (c .before .before .before .pre .0) refl)
+mul-p c =
+    let start : Start = search in
+    let bits = start .args .bits in
+    omega (arith, s-below c, pow-small bits (2 ^ bits) (start .pre .0) refl)
 
 shared-slice-read-p : tie.Need-shared-slice-read-p Inv-count μ-count Inv-write μ-write
-shared-slice-read-p c = omega (arith, s-below (c .before), c .before .before .before .before .pre .3)
+shared-slice-read-p c =
+    let start : Start = search in
+    omega (arith, s-below (c .before), start .pre .3)
 
 sub-p : tie.Need-sub-p Inv-count μ-count Inv-write μ-write
 sub-p c = walking-one (transitionsIn _ _ _ _ _) (code-lawful _ _ _ _ _) _ _ _ _ (c .before .count .inv)
 
 add-n : tie.Need-add-n Inv-count μ-count Inv-write μ-write
-add-n c = omega (arith, c .before .before .count .inv .short, pow-small (c .before .before .before .before .before .args .bits) (2 ^ c .before .before .before .before .before .args .bits) (c .before .before .before .before .before .pre .0) refl)
+add-n c =
+    let at-count : At-count = search in
+    let start : Start = search in
+    let bits = start .args .bits in
+    omega (arith, at-count .count .inv .short, pow-small bits (2 ^ bits) (start .pre .0) refl)
 
 count-less : tie.Need-count-less Inv-count μ-count Inv-write μ-write
-count-less c = omega (arith, c .before .before .count .inv .short)
+count-less c =
+    let at-count : At-count = search in
+    omega (arith, at-count .count .inv .short)
 
 count-again : tie.Need-count-again Inv-count μ-count Inv-write μ-write
-count-again c = walking-next (transitionsIn _ _ _ _ _) (code-lawful _ _ _ _ _) _ _ _ _ (c .before .before .count .inv) (c .if1 .left)
+count-again c =
+    let at-count : At-count = search in
+    walking-next (transitionsIn _ _ _ _ _) (code-lawful _ _ _ _ _) _ _ _ _ (at-count .count .inv) (c .if1 .left)
 
 write-holds : tie.Need-write-holds Inv-count μ-count Inv-write μ-write
-write-holds c = writing-start (transitionsIn (c .before .before .before .before .before .args .bits) _ _ _ _) _ _ _ (c .before .before .count .n) (c .before .before .before .before .before .pre .4) (counted c) (omega (arith, counted c, recorded-short (transitionsIn _ _ _ _ _) _ _ (c .before .before .before .before .before .pre .4), c .before .before .before .before .before .pre .5))
+write-holds c =
+    let at-count : At-count = search in
+    let start : Start = search in
+    writing-start (transitionsIn (start .args .bits) _ _ _ _) _ _ _ (at-count .count .n) (start .pre .4) (counted c)
+    (omega (arith, counted c, recorded-short (transitionsIn _ _ _ _ _) _ _ (start .pre .4), start .pre .5))
 
 cast-at-2 : tie.Need-cast-at-2 Inv-count μ-count Inv-write μ-write
-cast-at-2 c = omega (arith, u-below c, pow-small (c .before .before .before .before .before .before .before .args .bits) (2 ^ c .before .before .before .before .before .before .before .args .bits) (c .before .before .before .before .before .before .before .pre .0) refl)
+cast-at-2 c =
+    let start : Start = search in
+    let bits = start .args .bits in
+    omega (arith, u-below c, pow-small bits (2 ^ bits) (start .pre .0) refl)
 
 mul-p-2 : tie.Need-mul-p-2 Inv-count μ-count Inv-write μ-write
-mul-p-2 c = omega (arith, u-below c, pow-small (c .before .before .before .before .before .before .before .args .bits) (2 ^ c .before .before .before .before .before .before .before .args .bits) (c .before .before .before .before .before .before .before .pre .0) refl)
+mul-p-2 c =
+    let start : Start = search in
+    let bits = start .args .bits in
+    omega (arith, u-below c, pow-small bits (2 ^ bits) (start .pre .0) refl)
 
 shared-slice-read-p-2 : tie.Need-shared-slice-read-p-2 Inv-count μ-count Inv-write μ-write
-shared-slice-read-p-2 c = omega (arith, u-below (c .before), c .before .before .before .before .before .before .before .before .pre .3)
+shared-slice-read-p-2 c =
+    let start : Start = search in
+    omega (arith, u-below (c .before), start .pre .3)
 
 sub-p-2 : tie.Need-sub-p-2 Inv-count μ-count Inv-write μ-write
-sub-p-2 c = writing-one (transitionsIn _ _ _ _ _) (code-lawful _ _ _ _ _) _ _ _ _ _ _ (c .before .before .write .inv)
+sub-p-2 c =
+    let at-write : At-write = search in
+    writing-one (transitionsIn _ _ _ _ _) (code-lawful _ _ _ _ _) _ _ _ _ _ _ (at-write .write .inv)
 
 first-move-requires : tie.Need-first-move-requires Inv-count μ-count Inv-write μ-write
-first-move-requires c κs = (c .before .before .before .before .before .before .before .before .pre .0, c .before .before .before .before .before .before .before .before .pre .1, c .before .before .before .before .before .before .before .before .pre .2, writing-parent (transitionsIn _ _ _ _ _) (code-lawful _ _ _ _ _) _ _ _ _ _ _ (c .before .before .write .inv) (c .before .write-test .taken))
+first-move-requires c κs =
+    let at-write : At-write = search in
+    let start : Start = search in (
+      start .pre .0,
+      start .pre .1,
+      start .pre .2,
+      writing-parent (transitionsIn _ _ _ _ _) (code-lawful _ _ _ _ _) _ _ _
+          _ _ _ (at-write .write .inv) (c .before .write-test .taken),
+    )
 
 mul-put-step : tie.Need-mul-put-step Inv-count μ-count Inv-write μ-write
-mul-put-step c = omega (arith, c .before .before .before .before .write .inv .short, pow-small (c .before .before .before .before .before .before .before .before .before .before .args .bits) (2 ^ c .before .before .before .before .before .before .before .before .before .before .args .bits) (c .before .before .before .before .before .before .before .before .before .before .pre .0) refl)
+mul-put-step c =
+    let at-write : At-write = search in
+    let start : Start = search in
+    let bits = start .args .bits in
+    omega (arith, at-write .write .inv .short, pow-small bits (2 ^ bits) (start .pre .0) refl)
 
 add-put-step : tie.Need-add-put-step Inv-count μ-count Inv-write μ-write
-add-put-step c = omega (arith, c .before .before .before .before .write .inv .short, pow-small (c .before .before .before .before .before .before .before .before .before .before .args .bits) (2 ^ c .before .before .before .before .before .before .before .before .before .before .args .bits) (c .before .before .before .before .before .before .before .before .before .before .pre .0) refl)
+add-put-step c =
+    let at-write : At-write = search in
+    let start : Start = search in
+    let bits = start .args .bits in
+    omega (arith, at-write .write .inv .short, pow-small bits (2 ^ bits) (start .pre .0) refl)
 
 put-step-requires : tie.Need-put-step-requires Inv-count μ-count Inv-write μ-write
-put-step-requires c κs = (omega (arith, c .before .before .before .before .write .inv .room), omega (arith, turn (c .before) .move .0, c .before .before .before .before .before .before .before .before .before .before .pre .1 .fewCommands), omega (arith, turn (c .before) .move .1, words-within _ _ (c .before .before .before .before .before .before .before .before .before .before .pre .1) (c .before .first-move .result .command) (turn (c .before) .move .0)))
+put-step-requires c κs =
+    let at-write : At-write = search in
+    let start : Start = search in (
+      omega (arith, at-write .write .inv .room),
+      omega (arith, turn (c .before) .move .0, start .pre .1 .fewCommands),
+      omega (
+        arith,
+        turn (c .before) .move .1,
+        words-within _ _ (start .pre .1) (c .before .first-move .result .command)
+            (turn (c .before) .move .0),
+      ),
+    )
 
 sub-i : tie.Need-sub-i Inv-count μ-count Inv-write μ-write
 sub-i c = omega arith
@@ -96,22 +212,46 @@ write-less : tie.Need-write-less Inv-count μ-count Inv-write μ-write
 write-less c = omega arith
 
 write-again : tie.Need-write-again Inv-count μ-count Inv-write μ-write
-write-again c = rw (c .before .before .put-step .ensures) (turn (c .before .before .before .before) .next)
+write-again c =
+    let after-put-step : After-put-step = search in
+    let after-first-move : After-first-move = search in
+    rw (after-put-step .put-step .ensures) (turn after-first-move .next)
 
 put-start-requires : tie.Need-put-start-requires Inv-count μ-count Inv-write μ-write
-put-start-requires c κs = omega (arith, c .before .before .write .inv .room)
+put-start-requires c κs =
+    let at-write : At-write = search in
+    omega (arith, at-write .write .inv .room)
 
 mul-result : tie.Need-mul-result Inv-count μ-count Inv-write μ-write
-mul-result c = omega (arith, c .before .before .before .before .before .before .before .before .count .inv .short, pow-small (c .before .before .before .before .before .before .before .before .before .before .before .args .bits) (2 ^ c .before .before .before .before .before .before .before .before .before .before .before .args .bits) (c .before .before .before .before .before .before .before .before .before .before .before .pre .0) refl)
+mul-result c =
+    let at-count : At-count = search in
+    let start : Start = search in
+    let bits = start .args .bits in
+    omega (arith, at-count .count .inv .short, pow-small bits (2 ^ bits) (start .pre .0) refl)
 
 add-result : tie.Need-add-result Inv-count μ-count Inv-write μ-write
-add-result c = omega (arith, c .before .before .before .before .before .before .before .before .count .inv .short, pow-small (c .before .before .before .before .before .before .before .before .before .before .before .args .bits) (2 ^ c .before .before .before .before .before .before .before .before .before .before .before .args .bits) (c .before .before .before .before .before .before .before .before .before .before .before .pre .0) refl)
+add-result c =
+    let at-count : At-count = search in
+    let start : Start = search in
+    let bits = start .args .bits in
+    omega (arith, at-count .count .inv .short, pow-small bits (2 ^ bits) (start .pre .0) refl)
 
 same-length : tie.Need-same-length Inv-count μ-count Inv-write μ-write
-same-length c = c .before .before .put-start .kept .0 ∙ c .before .before .before .before .before .write .inv .kept
+same-length c =
+    let after-put-start : After-put-start = search in
+    let at-write : At-write = search in
+    after-put-start .put-start .kept .0 ∙ at-write .write .inv .kept
 
 returns : tie.Need-returns Inv-count μ-count Inv-write μ-write
-returns c = (c .before .before .put-start .ensures ∙ writing-end (transitionsIn _ _ _ _ _) (code-lawful _ _ _ _ _) _ _ _ _ _ _ (c .before .before .before .before .before .write .inv) (c .before .before .before .before .write-test .left), ap (λ (n : ℕ). 17 + 10 * n) (counted (c .before .before .before .before .before .before)))
+returns c =
+    let after-put-start : After-put-start = search in
+    let after-write : After-write = search in
+    let at-write : At-write = search in
+    let then1 : Then1 = search in (
+      after-put-start .put-start .ensures ∙ writing-end (transitionsIn _ _ _ _ _) (code-lawful _ _ _ _ _) _ _ _ _ _ _
+          (at-write .write .inv) (after-write .write-test .left),
+      ap (λ (n : ℕ). 17 + 10 * n) (counted then1),
+    )
 
 pub write-trace-spec : {M : Type 1} → statement M
 write-trace-spec =
