@@ -80,7 +80,8 @@ module _ (l sp mp : ℕ) (c : List ℕ) (st on s : ℕ) (hl : l < 64) (z : Sim l
         in-m = z .in-m;
         of-state = zone-apart c l (λ i. i) 32 s (32 + sp) 0 (λ i h e. omega arith) (z .of-state);
         of-stack =
-            zone-pop c l (sAt sp) (sAt (down sp)) 63 st (32 + sp) hl (let f = z .full in let g = z .in-s in omega arith) (last sp (z .in-s)) (λ i h. next sp i (z .in-s) h) (λ i h e. apart sp i (z .in-s) h e)
+            zone-pop c l (sAt sp) (sAt (down sp)) 63 st (32 + sp) hl (let f = z .full in let g = z .in-s in omega arith) (last sp (z .in-s))
+            (λ i h. next sp i (z .in-s) h) (λ i h e. apart sp i (z .in-s) h e)
             (z .of-stack);
         of-mask = zone-apart c l (mAt mp) 32 on (32 + sp) 0 (λ i h e. let g = z .in-s in omega arith) (z .of-mask);
       }
@@ -145,7 +146,8 @@ module _ (l sp mp : ℕ) (c : List ℕ) (st on s : ℕ) (hl : l < 64) (z : Sim l
         of-state = zone-apart c l (λ i. i) 32 s (96 + mp) 0 (λ i h e. omega arith) (z .of-state);
         of-stack = zone-apart c l (sAt sp) 64 st (96 + mp) 0 (λ i h e. omega arith) (z .of-stack);
         of-mask =
-            zone-pop c l (mAt mp) (mAt (mdown mp)) 31 on (96 + mp) hl (let f = z .full in let g = z .in-m in omega arith) (last mp (z .in-m)) (λ i h. next mp i (z .in-m) h) (λ i h e. apart mp i (z .in-m) h e)
+            zone-pop c l (mAt mp) (mAt (mdown mp)) 31 on (96 + mp) hl (let f = z .full in let g = z .in-m in omega arith) (last mp (z .in-m))
+            (λ i h. next mp i (z .in-m) h) (λ i h e. apart mp i (z .in-m) h e)
             (z .of-mask);
       }
     where

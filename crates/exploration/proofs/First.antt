@@ -58,7 +58,8 @@ traced-set M p t v new (goesOn y m) h = (
   h .3,
 )
 
-first-move : (M : Transitions) (s t : ℕ) (a : List Move) (m : Move) (b : List Move) → ((l : Move) → List·Memᴰ l a → M .step s (l .command) (l .word) ≡ t → ⊥) → M .step s (m .command) (m .word) ≡ t → firstMove M s t (a ++ m ∷ b) ≡ m
+first-move : (M : Transitions) (s t : ℕ) (a : List Move) (m : Move) (b : List Move) → ((l : Move) → List·Memᴰ l a → M .step s (l .command) (l .word) ≡ t → ⊥)
+    → M .step s (m .command) (m .word) ≡ t → firstMove M s t (a ++ m ∷ b) ≡ m
 unfolding firstMove
 first-move M s t [] m b n e = rw (eq-eqb (M .step s (m .command) (m .word)) t e)
 first-move M s t (l ∷ a) m b n e = rw (ne-eqb (M .step s (l .command) (l .word)) t (n l (List·Memᴰ·head refl))) (first-move M s t a m b (λ k h. n k (List·Memᴰ·tail h)) e)
@@ -141,7 +142,9 @@ module _ (M : Transitions) (ρ : List Run) (z : Run) where
               (g .0, omega (arith, length-snoc ρ z, g .1), ap (final M) (at-old ρ z (g .0) (g .1)) ∙ g .2)
         ]
 
-    good-more : Valid M z → final M z < M .size → getD (x .parent) (final M z) 0 ≡ 0 → M .breaks (final M z) ≡ false → ((i : ℕ) → i < length ρ → Before (at ρ i) z) → Traced M (push x s (final M z) .parent) z → steps z ≤ length ρ → Good M (ρ ++ z ∷ []) (push x s (final M z))
+    good-more : Valid M z → final M z < M .size → getD (x .parent) (final M z) 0 ≡ 0 → M .breaks (final M z) ≡ false
+        → ((i : ℕ) → i < length ρ → Before (at ρ i) z) → Traced M (push x s (final M z) .parent) z → steps z ≤ length ρ
+        → Good M (ρ ++ z ∷ []) (push x s (final M z))
     good-more v b new k l tr st =
         record {
           queue-is = queue-more M ρ z x (G .queue-is);
@@ -336,7 +339,8 @@ module _ (M : Transitions) (law : Lawful M) (head s : ℕ) (done : List Move) (m
 
 -- All moves.
 
-tries-then : (M : Transitions) (head s : ℕ) (d e : List Move) (o : Progress) (f : Seen → Progress) → Tries M head s d o → ((y : Seen) → Going M head s d y → Tries M head s e (f y)) → Tries M head s e (andThen o f)
+tries-then : (M : Transitions) (head s : ℕ) (d e : List Move) (o : Progress) (f : Seen → Progress) → Tries M head s d o
+    → ((y : Seen) → Going M head s d y → Tries M head s e (f y)) → Tries M head s e (andThen o f)
 tries-then M head s d e (broke x) f t k = t
 tries-then M head s d e (through x) f t k = k x t
 
@@ -392,12 +396,14 @@ closed M head x B h = record { runs = B .runs; good = B .good; reached = go }
     go (startsAt t) v = B .frontier .starts t v
     go (goesOn y l) v =
         let c = go y (v .0) in
-        covered-step M (B .runs) (at (B .runs) (c .0)) y l (c .2) (c .3) (B .frontier .past (c .0) (omega (arith, c .1)) l (moves-has M 0 (M .commands) l (omega arith) (omega (arith, v .1 .0)) (v .1 .1)))
+        covered-step M (B .runs) (at (B .runs) (c .0)) y l (c .2) (c .3)
+        (B .frontier .past (c .0) (omega (arith, c .1)) l (moves-has M 0 (M .commands) l (omega arith) (omega (arith, v .1 .0)) (v .1 .1)))
 
 queue-length : (M : Transitions) (ρ : List Run) (x : Seen) → Good M ρ x → length (x .queue) ≡ length ρ
 queue-length M ρ x G = ap length (G .queue-is) ∙ length-map ρ (final M)
 
-searched-then : (M : Transitions) (head s : ℕ) (d : List Move) (o : Progress) (f : Seen → Progress) → Tries M head s d o → ((y : Seen) → Going M head s d y → Searched M (f y)) → Searched M (andThen o f)
+searched-then : (M : Transitions) (head s : ℕ) (d : List Move) (o : Progress) (f : Seen → Progress) → Tries M head s d o
+    → ((y : Seen) → Going M head s d y → Searched M (f y)) → Searched M (andThen o f)
 searched-then M head s d (broke x) f t k = t
 searched-then M head s d (through x) f t k = k x t
 
@@ -452,7 +458,8 @@ Takes M s (broke x) = Ended M x
 Takes M s (through x) = Starting M s x
 
 module _ (M : Transitions) (s : ℕ) (x : Seen) (S : Starting M s x) (h : s < M .size) where
-  starts-more : (ρ : List Run) → ((t : ℕ) → t < s → Valid M (startsAt t) → Covered M ρ (startsAt t)) → (Valid M (startsAt s) → Covered M ρ (startsAt s)) → (t : ℕ) → t < s + 1 → Valid M (startsAt t) → Covered M ρ (startsAt t)
+  starts-more : (ρ : List Run) → ((t : ℕ) → t < s → Valid M (startsAt t) → Covered M ρ (startsAt t)) → (Valid M (startsAt s) → Covered M ρ (startsAt s))
+      → (t : ℕ) → t < s + 1 → Valid M (startsAt t) → Covered M ρ (startsAt t)
   starts-more ρ old new t l v = ⊎-elim (λ (k : t < s). old t k v) (λ (k : s ≤ t). let e : t ≡ s = omega arith in rw e (new (rw e at v))) (lt-or-ge t s)
 
   no-start : M .starts s ≡ false → Starting M (s + 1) x

@@ -77,7 +77,8 @@ module _ (M : Transitions) (q : List ℕ) (n : ℕ) (p : List ℕ) (R : Ready M 
     meet-new = rw (at-parent, eq-eqb (getD p t 0) 0 new, queue-pushed, parent-pushed)
 
     below-pushed : (i : ℕ) → i < n + 1 → getD (set q n t) i 0 < M .size
-    below-pushed = below-more (λ (i : ℕ). getD (set q n t) i 0 < M .size) n (λ k h. rw (getD-set-other q n k t 0 (omega arith)) (R .below k h)) (rw (getD-set-same q n t 0 (omega (arith, room, R .queue-room))) ht)
+    below-pushed = below-more (λ (i : ℕ). getD (set q n t) i 0 < M .size) n (λ k h. rw (getD-set-other q n k t 0 (omega arith)) (R .below k h))
+        (rw (getD-set-same q n t 0 (omega (arith, room, R .queue-room))) ht)
 
     pub kept-pushed : Kept M q p (set q n t) (n + 1) (set p t (s + 1))
     kept-pushed =
@@ -98,7 +99,8 @@ module _ (M : Transitions) (q : List ℕ) (n : ℕ) (p : List ℕ) (R : Ready M 
 
 -- What the function `meet` promises.
 
-pub meets-new : {M : Transitions} {q : List ℕ} {n : ℕ} {p : List ℕ} {s t : ℕ} {b : Bool} → Ready M q n p → t < M .size → getD p t 0 ≡ 0 → b ≡ M .breaks t → Meets M s t q n p (set q n t) (n + 1) (set p t (s + 1)) b
+pub meets-new : {M : Transitions} {q : List ℕ} {n : ℕ} {p : List ℕ} {s t : ℕ} {b : Bool} → Ready M q n p → t < M .size → getD p t 0 ≡ 0 → b ≡ M .breaks t
+    → Meets M s t q n p (set q n t) (n + 1) (set p t (s + 1)) b
 meets-new {M} {q} {n} {p} {s} {t} {b} R ht new e =
     record { kept = kept-pushed M q n p R s t ht new; what = rw e (sym (meet-new M q n p R s t ht new)) }
 
@@ -144,7 +146,8 @@ pub record Broke (M : Transitions) (s : ℕ) (ms₀ : List Move) (q₀ : List �
 pub tried-refl : (M : Transitions) (s : ℕ) (ms : List Move) (q : List ℕ) (n : ℕ) (p : List ℕ) → Ready M q n p → Tried M s ms q n p ms q n p
 tried-refl M s ms q n p R = record { kept = kept-refl M q n p R; same = refl }
 
-module _ {M : Transitions} {s : ℕ} {ms₀ : List Move} {q₀ : List ℕ} {n₀ : ℕ} {p₀ : List ℕ} (c w k : ℕ) {q : List ℕ} {n : ℕ} {p : List ℕ} (T : Tried M s ms₀ q₀ n₀ p₀ (wordsFrom c w (k - w)) q n p) (h : w < k) (t : ℕ) (e : t ≡ M .step s c w) (ht : t < M .size) where
+module _ {M : Transitions} {s : ℕ} {ms₀ : List Move} {q₀ : List ℕ} {n₀ : ℕ} {p₀ : List ℕ} (c w k : ℕ) {q : List ℕ} {n : ℕ} {p : List ℕ}
+    (T : Tried M s ms₀ q₀ n₀ p₀ (wordsFrom c w (k - w)) q n p) (h : w < k) (t : ℕ) (e : t ≡ M .step s c w) (ht : t < M .size) where
   -- What the move does first.
   head-move : andThen (meet M s t (seen M q n p)) (tryMoves M s (wordsFrom c (w + 1) (k - (w + 1)))) ≡ tryMoves M s ms₀ (seen M q₀ n₀ p₀)
   unfolding tryMoves
@@ -224,7 +227,8 @@ words-start {M} {s} c n {q} {k} {p} R = let e : n - 0 ≡ n = omega arith in rw 
 -- After the last word of a command, the next command.
 pub command-done : {M : Transitions} {s : ℕ} {ms₀ : List Move} {q₀ : List ℕ} {n₀ : ℕ} {p₀ : List ℕ} (c n k w : ℕ) {q₁ : List ℕ} {n₁ : ℕ} {p₁ : List ℕ} {q₂ : List ℕ} {n₂ : ℕ} {p₂ : List ℕ}
     → k ≡ M .words c → c < n → w ≤ k → k ≤ w
-    → Tried M s ms₀ q₀ n₀ p₀ (movesFrom M c (n - c)) q₁ n₁ p₁ → Tried M s (wordsFrom c 0 k) q₁ n₁ p₁ (wordsFrom c w (k - w)) q₂ n₂ p₂ → Tried M s ms₀ q₀ n₀ p₀ (movesFrom M (c + 1) (n - (c + 1))) q₂ n₂ p₂
+    → Tried M s ms₀ q₀ n₀ p₀ (movesFrom M c (n - c)) q₁ n₁ p₁ → Tried M s (wordsFrom c 0 k) q₁ n₁ p₁ (wordsFrom c w (k - w)) q₂ n₂ p₂
+    → Tried M s ms₀ q₀ n₀ p₀ (movesFrom M (c + 1) (n - (c + 1))) q₂ n₂ p₂
 command-done {M} c n k w e h le ge T U =
     let f : w ≡ k = omega arith in
     tried-all (wordsFrom c 0 (M .words c)) (movesFrom M (c + 1) (n - (c + 1))) (rw (moves-next M c n h) at T) (rw (f, words-none, e) at U)
@@ -283,7 +287,8 @@ module _ (M : Transitions) (q p₀ p : List ℕ) (e : p ≡ replicate (M .size) 
   cleared-front = ap (take (M .size)) e ∙ take-at (replicate (M .size) 0) (drop (M .size) p₀) (M .size) (length-replicate (M .size) 0)
 
   cleared-length : length p ≡ length p₀
-  cleared-length = ap length e ∙ length-append (replicate (M .size) 0) (drop (M .size) p₀) ∙ ap (λ (k : ℕ). k + length (drop (M .size) p₀)) (length-replicate (M .size) 0) ∙ omega (arith, length-drop (M .size) p₀)
+  cleared-length = ap length e ∙ length-append (replicate (M .size) 0) (drop (M .size) p₀)
+      ∙ ap (λ (k : ℕ). k + length (drop (M .size) p₀)) (length-replicate (M .size) 0) ∙ omega (arith, length-drop (M .size) p₀)
 
   pub cleared : Kept M q p₀ q 0 p
   cleared =
@@ -309,7 +314,8 @@ module _ (M : Transitions) (q p₀ p : List ℕ) (e : p ≡ replicate (M .size) 
   pub ran-broke : {q₁ : List ℕ} {n₁ : ℕ} {p₁ : List ℕ} {b : Bool} → Took M q p q₁ n₁ p₁ b → b ≡ true → Ran M q p₀ q₁ n₁ p₁ b
   ran-broke T f = record { kept = kept-trans cleared (T .kept); what = rw f (rw f at (taken-in T)) }
 
-  pub ran-on : {q₁ : List ℕ} {n₁ : ℕ} {p₁ : List ℕ} {b : Bool} → Took M q p q₁ n₁ p₁ b → b ≡ false → {q₂ : List ℕ} {n₂ : ℕ} {p₂ : List ℕ} {d : Bool} → Explored M q₁ n₁ p₁ q₂ n₂ p₂ d → Ran M q p₀ q₂ n₂ p₂ d
+  pub ran-on : {q₁ : List ℕ} {n₁ : ℕ} {p₁ : List ℕ} {b : Bool} → Took M q p q₁ n₁ p₁ b → b ≡ false → {q₂ : List ℕ} {n₂ : ℕ} {p₂ : List ℕ} {d : Bool}
+      → Explored M q₁ n₁ p₁ q₂ n₂ p₂ d → Ran M q p₀ q₂ n₂ p₂ d
   ran-on T f E = record { kept = kept-trans (kept-trans cleared (T .kept)) (E .kept); what = E .what ∙ (rw f at (taken-in T)) }
 
 -- The first move from s to t.

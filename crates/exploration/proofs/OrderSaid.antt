@@ -66,7 +66,11 @@ in-order-of (startsAt s) (goesOn r m) h = inl (omega arith)
 in-order-of (goesOn q l) (startsAt t) h = absurd h
 in-order-of (goesOn q l) (goesOn r m) (inl h) = longer q r l m (in-order-of q r h)
 in-order-of (goesOn q l) (goesOn r m) (inr h) =
-    inr (ap (λ (x : Run). suc (steps x)) (h .0), inr (ap startOf (h .0), subst (λ (x : List Move). StepByStep (movesOf q ++ l ∷ []) (x ++ m ∷ [])) (ap movesOf (h .0)) (snoc-late (movesOf q) l m (h .1))))
+    inr (
+      ap (λ (x : Run). suc (steps x)) (h .0),
+      inr
+          (ap startOf (h .0), subst (λ (x : List Move). StepByStep (movesOf q ++ l ∷ []) (x ++ m ∷ [])) (ap movesOf (h .0)) (snoc-late (movesOf q) l m (h .1))),
+    )
 
 pub of-in-order : (a b : Run) → InOrder a b → Before a b
 of-in-order (startsAt s) (startsAt t) (inl h) = omega arith

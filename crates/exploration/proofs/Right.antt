@@ -46,7 +46,8 @@ closed-safe M x C =
     marked : (t : ℕ) → Reached M t → getD (map (ltb 0) (x .parent)) t false ≡ true
     marked t r =
         let c = C .reached (r .run) (r .valid) in
-        let p : 0 < getD (x .parent) t 0 = positive (getD (x .parent) t 0) (λ z. traced-met M (x .parent) (at (C .runs) (c .0)) (C .good .traced (c .0) (c .1)) (ap (λ (u : ℕ). getD (x .parent) u 0) (c .2 ∙ r .ends) ∙ z)) in
+        let p : 0 < getD (x .parent) t 0 = positive (getD (x .parent) t 0)
+        (λ z. traced-met M (x .parent) (at (C .runs) (c .0)) (C .good .traced (c .0) (c .1)) (ap (λ (u : ℕ). getD (x .parent) u 0) (c .2 ∙ r .ends) ∙ z)) in
         entry t ∙ lt-ltb 0 (getD (x .parent) t 0) p
       where
         positive : (n : ℕ) → (n ≡ 0 → ⊥) → 0 < n

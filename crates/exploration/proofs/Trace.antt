@@ -46,7 +46,8 @@ pub record Walking (M : Transitions) (P : List ℕ) (t n s : ℕ) : Type 0 where
 
 pub walking-start : (M : Transitions) (P : List ℕ) (t : ℕ) → RecordedTo M (take (M .size) P) t → Walking M P t 0 t
 walking-start M P t R =
-    let e : runTo M (take (M .size) P) (M .size) t ≡ R .run = ap (runTo M (take (M .size) P) (M .size)) (sym (R .ends)) ∙ run-to M (take (M .size) P) (R .run) (R .traced) (M .size) (omega (arith, R .short)) in
+    let e : runTo M (take (M .size) P) (M .size) t ≡ R .run = ap (runTo M (take (M .size) P) (M .size)) (sym (R .ends))
+    ∙ run-to M (take (M .size) P) (R .run) (R .traced) (M .size) (omega (arith, R .short)) in
     record { run = R .run; valid = R .valid; traced = R .traced; ends = R .ends; counted = rw e (omega arith); short = omega (arith, R .short) }
 
 module _ (M : Transitions) (law : Lawful M) (P : List ℕ) (t n s : ℕ) (W : Walking M P t n s) where
@@ -71,7 +72,8 @@ module _ (M : Transitions) (law : Lawful M) (P : List ℕ) (t n s : ℕ) (W : Wa
   pub walking-next : (getD P s 0 - 1 ≡ s → ⊥) → Walking M P t (n + 1) (getD P s 0 - 1)
   walking-next e = go (W .run) (W .valid) (W .traced) (W .ends) (W .counted) (W .short)
     where
-      go : (r : Run) → Valid M r → Traced M (take (M .size) P) r → final M r ≡ s → n + steps r ≡ steps (runTo M (take (M .size) P) (M .size) t) → n + steps r < M .size → Walking M P t (n + 1) (getD P s 0 - 1)
+      go : (r : Run) → Valid M r → Traced M (take (M .size) P) r → final M r ≡ s → n + steps r ≡ steps (runTo M (take (M .size) P) (M .size) t)
+          → n + steps r < M .size → Walking M P t (n + 1) (getD P s 0 - 1)
       go (startsAt u) v h f c k =
           let g : getD P s 0 ≡ u + 1 = sym walking-at ∙ ap (λ (u : ℕ). getD (take (M .size) P) u 0) (sym f) ∙ h in
           absurd (e (omega arith))
@@ -91,9 +93,11 @@ pub record Writing (M : Transitions) (P : List ℕ) (t : ℕ) (out₀ out : List
   pub kept : length out ≡ length out₀
   pub room : 17 + 10 * i ≤ length out
 
-pub writing-start : (M : Transitions) (P : List ℕ) (t : ℕ) (out : List ℕ) (n : ℕ) → RecordedTo M (take (M .size) P) t → n ≡ steps (runTo M (take (M .size) P) (M .size) t) → 17 + 10 * n ≤ length out → Writing M P t out out n t
+pub writing-start : (M : Transitions) (P : List ℕ) (t : ℕ) (out : List ℕ) (n : ℕ) → RecordedTo M (take (M .size) P) t → n
+    ≡ steps (runTo M (take (M .size) P) (M .size) t) → 17 + 10 * n ≤ length out → Writing M P t out out n t
 writing-start M P t out n R e h =
-    let f : runTo M (take (M .size) P) (M .size) t ≡ R .run = ap (runTo M (take (M .size) P) (M .size)) (sym (R .ends)) ∙ run-to M (take (M .size) P) (R .run) (R .traced) (M .size) (omega (arith, R .short)) in
+    let f : runTo M (take (M .size) P) (M .size) t ≡ R .run = ap (runTo M (take (M .size) P) (M .size)) (sym (R .ends))
+    ∙ run-to M (take (M .size) P) (R .run) (R .traced) (M .size) (omega (arith, R .short)) in
     let g : n ≡ steps (R .run) = e ∙ ap steps f in
     record { run = R .run; valid = R .valid; traced = R .traced; ends = R .ends; left = sym g; short = omega (arith, R .short); same = rw f; kept = refl; room = h }
 
@@ -142,7 +146,8 @@ module _ (M : Transitions) (law : Lawful M) (P : List ℕ) (t : ℕ) (out₀ out
                   ends = sym g;
                   left = omega arith;
                   short = omega (arith, W .short);
-                  same = ap (λ (u : List ℕ). sets (sets out (7 + 10 * i) u) 9 (runBytes M y)) b ∙ sets-swap out 9 (runBytes M y) (stepBytes k (final M (goesOn y k))) (7 + 10 * i) (omega (arith, run-length M y)) ∙ x;
+                  same = ap (λ (u : List ℕ). sets (sets out (7 + 10 * i) u) 9 (runBytes M y)) b
+                      ∙ sets-swap out 9 (runBytes M y) (stepBytes k (final M (goesOn y k))) (7 + 10 * i) (omega (arith, run-length M y)) ∙ x;
                   kept = length-sets out (7 + 10 * i) (stepBytes m s) ∙ W .kept;
                   room = subst (λ (u : ℕ). 17 + 10 * (i - 1) ≤ u) (sym (length-sets out (7 + 10 * i) (stepBytes m s))) (omega (arith, W .room));
                 };
@@ -152,6 +157,7 @@ module _ (M : Transitions) (law : Lawful M) (P : List ℕ) (t : ℕ) (out₀ out
   unfolding runBytes
   writing-end h = go (W .run) (W .ends) (W .left) (W .same)
     where
-      go : (r : Run) → final M r ≡ s → steps r ≡ i → sets out 9 (runBytes M r) ≡ sets out₀ 9 (runBytes M (runTo M (take (M .size) P) (M .size) t)) → sets out 9 (startBytes s) ≡ sets out₀ 9 (runBytes M (runTo M (take (M .size) P) (M .size) t))
+      go : (r : Run) → final M r ≡ s → steps r ≡ i → sets out 9 (runBytes M r) ≡ sets out₀ 9 (runBytes M (runTo M (take (M .size) P) (M .size) t))
+          → sets out 9 (startBytes s) ≡ sets out₀ 9 (runBytes M (runTo M (take (M .size) P) (M .size) t))
       go (startsAt u) f l x = rw f at x
       go (goesOn y k) f l x = absurd (omega arith)

@@ -74,8 +74,16 @@ number-ends n P = omega (arith, P .ends, digits-within 19 n)
 pub refusal-short : (n p : ℕ) → length (refusalLine n p) ≤ 50
 unfolding bytes
 refusal-short n p =
-    omega
-    (arith, line-length (bytes "refused") (decimalOf n ∷ decimalOf p ∷ []), others-length (decimalOf n) (decimalOf p ∷ []), others-length (decimalOf p) [], end-length, digits-within 19 n, digits-within 19 p)
+    omega (
+      arith,
+      line-length (bytes "refused") (decimalOf n ∷ decimalOf p ∷ []),
+      others-length (decimalOf n) (decimalOf p ∷ []),
+      others-length
+          (decimalOf p) [],
+      end-length,
+      digits-within 19 n,
+      digits-within 19 p,
+    )
 
 pub refusal-fits : (l : List ℕ) (n p : ℕ) → 50 ≤ length l → Fits l 0 (refusalLine n p)
 refusal-fits l n p h = record { room = omega (arith, refusal-short n p) }

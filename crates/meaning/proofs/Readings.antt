@@ -129,7 +129,8 @@ unreached-member = (
 )
 
 barred-says : TextSays barredText barred
-unfolding bytes sameWord reserved wordIn wordToken sameKind allowed nameCounts R.view has elem placeOf among nameOf exprOf rowItemOf rowItemsOf itemOf itemsOf commandOf clauseOf modelOf span mark front lexemes tokensFrom tally note exceeds fault lines skips find L.step ending reads answer
+unfolding bytes sameWord reserved wordIn wordToken sameKind allowed nameCounts R.view has elem placeOf among nameOf exprOf rowItemOf rowItemsOf itemOf itemsOf
+    commandOf clauseOf modelOf span mark front lexemes tokensFrom tally note exceeds fault lines skips find L.step ending reads answer
 barred-says = record { tree = _; says = says-iff-answer barredText _ .1 refl; meant = refl }
 
 pub zero-rows : ZeroRows

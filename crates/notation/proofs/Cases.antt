@@ -303,5 +303,6 @@ longCases =
     []
 
 pub all-long-cases : map (λ (c : Case). came (c .expected) (answer (c .text))) longCases ≡ map (λ (c : Case). c .expected) longCases
-unfolding bytes sameWord reserved wordIn wordToken sameKind allowed nameCounts view has elem span mark front lexemes tokensFrom tally note exceeds fault lines skips find step ending reads answer longCases
+unfolding bytes sameWord reserved wordIn wordToken sameKind allowed nameCounts view has elem span mark front lexemes tokensFrom tally note exceeds fault lines
+    skips find step ending reads answer longCases
 all-long-cases = refl

@@ -58,7 +58,9 @@ least title = record { parts = part (declares commandName) (name nobody) ∷ [];
 least oneCommand = record {
   parts = a-command-parts;
   value = command₀;
-  serves = λ σ c rest x D. takes _ refl (takes _ refl (takes _ refl (takes _ refl (over refl (over refl (takes _ refl (takes _ refl (over refl (takes _ refl (takes _ refl (over refl (takes _ refl D))))))))))));
+  serves = λ σ c rest x D. takes _ refl (takes _ refl
+      (takes _ refl (takes _ refl (over refl (over refl
+      (takes _ refl (takes _ refl (over refl (takes _ refl (takes _ refl (over refl (takes _ refl D))))))))))));
 }
 least commands = record { parts = []; value = []; serves = λ σ c rest x D. over refl D }
 least (factor m d) = record { parts = zero-part ∷ []; value = false′; serves = λ σ c rest x D. takes _ refl D }

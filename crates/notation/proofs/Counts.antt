@@ -112,7 +112,8 @@ kept-before ps qs h us p vs e = h us p (vs ++ qs) (rw e (append-assoc us (p ∷ 
 -- ---- one or more
 
 -- What holds of none, and with one more before it, holds of one or more.
-module _ {A : Type 0} {One : List Part → A → Type 0} (P : List Part → List A → Type 0) (more : (ps qs : List Part) (x : A) (xs : List A) → One ps x → P qs xs → P (ps ++ qs) (x ∷ xs)) (base : P [] []) where
+module _ {A : Type 0} {One : List Part → A → Type 0} (P : List Part → List A → Type 0)
+    (more : (ps qs : List Part) (x : A) (xs : List A) → One ps x → P qs xs → P (ps ++ qs) (x ∷ xs)) (base : P [] []) where
   pub several-all : {ps : List Part} {xs : List A} → Several One ps xs → P ps xs
   several-all (final i) = rw append-nil at (more _ _ _ _ i base)
   several-all (andThen i is) = more _ _ _ _ i (several-all is)
@@ -164,7 +165,8 @@ assigned : {ps qs : List Part} {c d s t : ℕ} (x : Kind) (w : Name) → Sized p
 unfolding view elem count
 assigned x w h g = fit (join (one (target x) (name w) refl) (after ASSIGN (join h g))) (omega arith) (omega arith)
 
-branches : {cs ps qs : List Part} {c d e s t u : ℕ} (k : ℕ) → Sized cs c s → Sized ps d t → Sized qs e u → Sized (cs ++ (plain DO ∷ ps ++ (plain ELSE ∷ qs ++ (plain k ∷ [])))) (c + (d + e)) (s + t + u)
+branches : {cs ps qs : List Part} {c d e s t u : ℕ} (k : ℕ) → Sized cs c s → Sized ps d t → Sized qs e u
+    → Sized (cs ++ (plain DO ∷ ps ++ (plain ELSE ∷ qs ++ (plain k ∷ [])))) (c + (d + e)) (s + t + u)
 branches k h g f = fit (join h (after DO (join g (after ELSE (join f (after k empty)))))) (omega arith) (omega arith)
 
 looped : {cs ps qs rs : List Part} {c d e f s t u v : ℕ} → Sized cs c s → Sized ps d t → Sized qs e u → Sized rs f v →
@@ -179,7 +181,8 @@ record Commanded (cs : List Part) (code stars : ℕ) : Type 0 where
   few : (us : List Part) → stars ≤ total STARS (us ++ cs)
 
 commanded : {cs ps qs : List Part} {c d e s t u : ℕ} (w : Name) → Sized cs c s → Sized ps d t → Sized qs e u →
-    Commanded (part beginsCommand (sign COMMAND) ∷ part (declares commandName) (name w) ∷ plain IF ∷ cs ++ (plain DO ∷ ps ++ (plain ELSE ∷ qs ++ (plain DOT ∷ [])))) (c + (suc d + (suc e + 1))) (s + t + u)
+    Commanded (part beginsCommand (sign COMMAND) ∷ part (declares commandName) (name w) ∷ plain IF ∷ cs ++
+    (plain DO ∷ ps ++ (plain ELSE ∷ qs ++ (plain DOT ∷ [])))) (c + (suc d + (suc e + 1))) (s + t + u)
 unfolding view elem nameCounts count total thisCommand
 commanded w h g f =
     let b = join (one (declares commandName) (name w) refl) (after IF (branches DOT h g f)) in
@@ -195,7 +198,8 @@ module _ (a : ℕ) (ws vs : List Word) where
   expression-sized {m} isStar p k = one (chance m) (sign STAR) refl
   expression-sized {m} (isName w) p k = go (among (w .word) ws)
     where
-      go : (x : Bool) → Sized (part (uses m) (name w) ∷ []) (length (exprCode a (cond x (M.shared (placeOf (w .word) ws)) (M.row (placeOf (w .word) vs))))) (length (starsExpr p (cond x (M.shared (placeOf (w .word) ws)) (M.row (placeOf (w .word) vs)))))
+      go : (x : Bool) → Sized (part (uses m) (name w) ∷ []) (length (exprCode a (cond x (M.shared (placeOf (w .word) ws)) (M.row (placeOf (w .word) vs)))))
+          (length (starsExpr p (cond x (M.shared (placeOf (w .word) ws)) (M.row (placeOf (w .word) vs)))))
       go true = one (uses m) (name w) refl
       go false = one (uses m) (name w) refl
   expression-sized (isNot x) p k = fit (join (one (negates _) (sign NOT) refl) (expression-sized x p k)) (simp length-append (omega arith)) (omega arith)

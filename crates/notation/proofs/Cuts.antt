@@ -73,7 +73,9 @@ front-bad i b bs h = go (wordByte b) (blankByte b) (eqb b 58) (eqb b 46) (eqb b 
   where
     go : (w n c x1 x2 x3 x4 x5 x6 : Bool) → wordByte b ≡ w → blankByte b ≡ n → eqb b 58 ≡ c →
         eqb b 46 ≡ x1 → eqb b 59 ≡ x2 → eqb b 40 ≡ x3 → eqb b 41 ≡ x4 → eqb b 42 ≡ x5 → eqb b 61 ≡ x6 →
-        cond w false (cond n false (cond c false (isNone (cond x1 (some DOT) (cond x2 (some SEMI) (cond x3 (some OPEN) (cond x4 (some CLOSE) (cond x5 (some STAR) (cond x6 (some OTHER) none))))))))) ≡ true →
+        cond w false (cond n false (cond c false
+        (isNone (cond x1 (some DOT) (cond x2 (some SEMI)
+        (cond x3 (some OPEN) (cond x4 (some CLOSE) (cond x5 (some STAR) (cond x6 (some OTHER) none))))))))) ≡ true →
         (blankByte b ≡ false) × (front i b bs ≡ oneByte none)
     go true n c x1 x2 x3 x4 x5 x6 ew en ec e1 e2 e3 e4 e5 e6 h = (cc, cc)
     go false true c x1 x2 x3 x4 x5 x6 ew en ec e1 e2 e3 e4 e5 e6 h = (cc, cc)
@@ -127,7 +129,8 @@ cut-is (suc l) h (blank e c) = rw e (cut-is l (le-of-suc-le-suc h) c)
 cut-is (suc l) h (run {i} {bs} {us} b w e j c) =
     lexed l i b (w ++ bs) _ (word-no-blank b (all-head b w e .0)) (front-run i b w bs e j)
     ∙ rw (drop-append-seam w bs) (ap (λ (r : List Lexeme). at i (wordToken i (b ∷ w)) ∷ r) (cut-is l (shorter l w bs h) c))
-cut-is (suc l) h (T.mark {i} {b} {k} {bs} e c) = one-lexed l i b bs _ (front-mark i b k bs e .0) (front-mark i b k bs e .1) ∙ ap (λ (r : List Lexeme). at i (some (sign k)) ∷ r) (cut-is l (le-of-suc-le-suc h) c)
+cut-is (suc l) h (T.mark {i} {b} {k} {bs} e c) = one-lexed l i b bs _ (front-mark i b k bs e .0) (front-mark i b k bs e .1)
+    ∙ ap (λ (r : List Lexeme). at i (some (sign k)) ∷ r) (cut-is l (le-of-suc-le-suc h) c)
 cut-is (suc l) h (assign {i} {bs} c) = lexed-assign l i bs ∙ ap (λ (r : List Lexeme). at i (some (sign ASSIGN)) ∷ r) (cut-is l (omega arith) c)
 cut-is (suc l) h (colon {i} {bs} e c) = one-lexed l i 58 bs _ refl (front-colon i bs e) ∙ ap (λ (r : List Lexeme). at i (some (sign OTHER)) ∷ r) (cut-is l (le-of-suc-le-suc h) c)
 cut-is (suc l) h (barred {i} {b} {bs} e c) = one-lexed l i b bs _ (front-bad i b bs e .0) (front-bad i b bs e .1) ∙ ap (λ (r : List Lexeme). at i none ∷ r) (cut-is l (le-of-suc-le-suc h) c)

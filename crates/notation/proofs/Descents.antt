@@ -43,7 +43,9 @@ module _ (len l : ℕ) (d : Reader) (s : Serves len l d) where
   sequence-short X [] x ts b h = omega arith
   sequence-short X (m ∷ α) f ts b h = go (d m ts b) (s .short m ts b h) (λ v us b h. sequence-short X α (f v) us b h)
     where
-      go : (g : Got (Val m)) → Shorter (length ts) g → ((v : Val m) (us : List Lexeme) (b : Book) → length us < l → Shorter (length us) (sequence d α (f v) us b)) → Shorter (length ts) (thenReads g (λ v ts b. sequence d α (f v) ts b))
+      go : (g : Got (Val m)) → Shorter (length ts) g
+          → ((v : Val m) (us : List Lexeme) (b : Book) → length us < l → Shorter (length us) (sequence d α (f v) us b))
+          → Shorter (length ts) (thenReads g (λ v ts b. sequence d α (f v) ts b))
       go (got v us b) i rec = longer i (sequence d α (f v) us b) (rec v us b (omega arith))
       go (stop n j) i rec = tt
 
@@ -55,7 +57,8 @@ module _ (len l : ℕ) (d : Reader) (s : Serves len l d) where
       s .same m (α ++ σ) (λ v. feed X σ α (f v) k) ts b h ∙ go (d m ts b) (s .short m ts b h) (λ v us b h. sequence-same X α σ (f v) k us b h)
     where
       go : (g : Got (Val m)) → Shorter (length ts) g →
-          ((v : Val m) (us : List Lexeme) (b : Book) → length us < l → reads len us (atState (α ++ σ) (feed X σ α (f v) k)) b ≡ follow (sequence d α (f v) us b) (λ v ts b. reads len ts (atState σ (k v)) b)) →
+          ((v : Val m) (us : List Lexeme) (b : Book) → length us < l → reads len us (atState (α ++ σ) (feed X σ α (f v) k)) b
+          ≡ follow (sequence d α (f v) us b) (λ v ts b. reads len ts (atState σ (k v)) b)) →
           follow g (λ v ts b. reads len ts (atState (α ++ σ) (feed X σ α (f v) k)) b) ≡ follow (thenReads g (λ v ts b. sequence d α (f v) ts b)) (λ v ts b. reads len ts (atState σ (k v)) b)
       go (got v us b) i rec = rec v us b (omega arith)
       go (stop n j) i rec = refl
@@ -71,7 +74,8 @@ descend-short len l s m (at i none ∷ ts) b h = pass-short (skips m) (at i none
 descend-short len l s m (at i (some t) ∷ ts) b h = go (find (lines m) t)
   where
     rule : (f : Found m) (o : Option ℕ) → Shorter (suc (length ts)) (ruling i o (sequence (descend len l) (f .next) (f .act) ts (note b (part (f .role) t))))
-    rule f none = longer {k = length ts} {l = suc (length ts)} (omega arith) (sequence (descend len l) (f .next) (f .act) ts (note b (part (f .role) t))) (sequence-short len l (descend len l) s (Val m) (f .next) (f .act) ts (note b (part (f .role) t)) (omega arith))
+    rule f none = longer {k = length ts} {l = suc (length ts)} (omega arith) (sequence (descend len l) (f .next) (f .act) ts (note b (part (f .role) t)))
+        (sequence-short len l (descend len l) s (Val m) (f .next) (f .act) ts (note b (part (f .role) t)) (omega arith))
     rule f (some n) = tt
 
     go : (o : Option (Found m)) → Shorter (suc (length ts)) (taken (descend len l) i o t ts b (pass (skips m) (at i (some t) ∷ ts) b 3 i))

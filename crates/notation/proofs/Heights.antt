@@ -34,7 +34,8 @@ flat andLevel = 2
 flat orLevel = 3
 
 module _ (ws vs : List Word) where
-  expression-low : {m : Mode} {l : Level} {d : ℕ} {ps : List Part} {e : Expr} → ExpressionIs m l d ps e → (k : ℕ) → height (exprOf ws vs e k .is) + 2 * d ≤ 2 * max d depthLimit + 2 * excess ps + flat l
+  expression-low : {m : Mode} {l : Level} {d : ℕ} {ps : List Part} {e : Expr} → ExpressionIs m l d ps e → (k : ℕ)
+      → height (exprOf ws vs e k .is) + 2 * d ≤ 2 * max d depthLimit + 2 * excess ps + flat l
   unfolding view excess exprOf nameOf height
   expression-low isZero k = omega arith
   expression-low isOne k = omega arith

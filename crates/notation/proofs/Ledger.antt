@@ -48,7 +48,17 @@ tallied ps =
 tallied-one : (ps : List Part) (r : Role) (t : Token) → tallied (ps ++ part r t ∷ []) ≡ countedOn (view r) (tallied ps)
 unfolding tally count
 tallied-one ps r t =
-    rw (count-one 0 ps r t, count-one 1 ps r t, count-one 2 ps r t, count-one 3 ps r t, count-one 4 ps r t, count-one 5 ps r t, this-one ps r t, count-one 6 (cond (view r .anew) [] (thisCommand [] ps)) r t)
+    rw (
+      count-one 0 ps r t,
+      count-one 1 ps r t,
+      count-one 2 ps r t,
+      count-one 3 ps r t,
+      count-one 4 ps r t,
+      count-one 5 ps r t,
+      this-one ps r t,
+      count-one 6
+          (cond (view r .anew) [] (thisCommand [] ps)) r t,
+    )
     (go (view r .anew))
   where
     go : (x : Bool) → cond (elem 0 (view r .adds)) (suc (count 0 ps)) (count 0 ps) ∷ cond (elem 1 (view r .adds)) (suc (count 1 ps)) (count 1 ps)
@@ -106,8 +116,10 @@ pub breach-is : (us : List Part) (p : Part) → fault (notes blankBook us) p ≡
 unfolding fault breach
 breach-is us (part r t) =
     ap (λ (b : Book). fault b (part r t)) (book-is us)
-    ∙ ap (λ (x : Bool). judged x (L.unknown (record { names = names us; counts = tallied us }) (view r .kinds) (wordOf t)) (view r .barred) (cond (ltb depthLimit (view r .depth)) true (exceeds (view r .adds) (countedOn (view r) (tallied us))))) (again-is us (view r .declared) (wordOf t))
-    ∙ ap (λ (x : Bool). judged (again us (view r .declared) (wordOf t)) x (view r .barred) (cond (ltb depthLimit (view r .depth)) true (exceeds (view r .adds) (countedOn (view r) (tallied us))))) (unknown-is us (view r .kinds) (wordOf t))
+    ∙ ap (λ (x : Bool). judged x (L.unknown (record { names = names us; counts = tallied us }) (view r .kinds) (wordOf t)) (view r .barred)
+    (cond (ltb depthLimit (view r .depth)) true (exceeds (view r .adds) (countedOn (view r) (tallied us))))) (again-is us (view r .declared) (wordOf t))
+    ∙ ap (λ (x : Bool). judged (again us (view r .declared) (wordOf t)) x (view r .barred)
+    (cond (ltb depthLimit (view r .depth)) true (exceeds (view r .adds) (countedOn (view r) (tallied us))))) (unknown-is us (view r .kinds) (wordOf t))
     ∙ ap (λ (x : Bool). judged (again us (view r .declared) (wordOf t)) (unknown us (view r .kinds) (wordOf t)) (view r .barred) (cond (ltb depthLimit (view r .depth)) true x)) (over-is us r t)
 
 pub notes-one : (b : Book) (us : List Part) (p : Part) → notes b (us ++ p ∷ []) ≡ note (notes b us) p

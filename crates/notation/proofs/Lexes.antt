@@ -20,13 +20,15 @@ any-bound (suc k) zero [] i h j = refl
 any-bound (suc k) (suc l) [] i h j = refl
 any-bound zero l (b ∷ bs) i h j = absurd (not-suc-le-zero h)
 any-bound (suc k) zero (b ∷ bs) i h j = absurd (not-suc-le-zero j)
-any-bound (suc k) (suc l) (b ∷ bs) i h j = go (blankByte b) (any-bound k l bs (suc i) (omega arith) (omega arith)) (any-bound k l (drop m bs) (suc (i + m)) (simp length-drop (omega arith)) (simp length-drop (omega arith)))
+any-bound (suc k) (suc l) (b ∷ bs) i h j = go (blankByte b) (any-bound k l bs (suc i) (omega arith) (omega arith))
+    (any-bound k l (drop m bs) (suc (i + m)) (simp length-drop (omega arith)) (simp length-drop (omega arith)))
   where
     m : ℕ
     m = front i b bs .more
 
     go : (c : Bool) → lexemes k bs (suc i) ≡ lexemes l bs (suc i) → lexemes k (drop m bs) (suc (i + m)) ≡ lexemes l (drop m bs) (suc (i + m)) →
-        choose c (λ u. lexemes k bs (suc i)) (λ u. at i (front i b bs .token) ∷ lexemes k (drop m bs) (suc (i + m))) ≡ choose c (λ u. lexemes l bs (suc i)) (λ u. at i (front i b bs .token) ∷ lexemes l (drop m bs) (suc (i + m)))
+        choose c (λ u. lexemes k bs (suc i)) (λ u. at i (front i b bs .token) ∷ lexemes k (drop m bs) (suc (i + m)))
+        ≡ choose c (λ u. lexemes l bs (suc i)) (λ u. at i (front i b bs .token) ∷ lexemes l (drop m bs) (suc (i + m)))
     go true e f = e
     go false e f = ap (λ (r : List Lexeme). at i (front i b bs .token) ∷ r) f
 

@@ -13,7 +13,8 @@ use Rattle.notation.specs.Notation.{Role, Part, part, Tree}
 use Rattle.notation.specs.working.Table.{Sym, Val, Cont, feed, Line, on, named, lines, skips, more, Found, find, kind, Reads, done, over, takes, State, pick, past, step, ending, isSome, optional, ends, elem, apart, within, kinds, firsts, closed, closedLines, ll1}
 
 -- What a step takes, the symbols stand for.
-pub step-reads : (σ : List Sym) (k : Cont σ Tree) {t : Token} {r : Role} {s : State} {ps : List Part} {x : Tree} → step σ k t ≡ some (r, s) → Reads (s .want) (s .cont) ps x → Reads σ k (part r t ∷ ps) x
+pub step-reads : (σ : List Sym) (k : Cont σ Tree) {t : Token} {r : Role} {s : State} {ps : List Part} {x : Tree} → step σ k t ≡ some (r, s)
+    → Reads (s .want) (s .cont) ps x → Reads σ k (part r t ∷ ps) x
 unfolding step
 step-reads [] k e D = absurd (Option·none-ne-some _ e)
 step-reads (n ∷ σ) k {t} {r} {s} {ps} {x} e D = go (find (lines n) t) refl (skips n) refl (λ v e. step-reads σ (k v) e D) e
@@ -90,7 +91,8 @@ unfolding find kinds
 found-kind [] t e = absurd (Option·none-ne-some _ e)
 found-kind {n} (on k r α f ∷ ls) (sign j) {x} e = go (eqb k j) refl e (λ e. found-kind ls (sign j) e)
   where
-    go : (b : Bool) → eqb k j ≡ b → cond b (some (record { role = r; next = α; act = f })) (find ls (sign j)) ≡ some x → (find ls (sign j) ≡ some x → elem (suc j) (kinds ls) ≡ true) → elem (suc j) (suc k ∷ kinds ls) ≡ true
+    go : (b : Bool) → eqb k j ≡ b → cond b (some (record { role = r; next = α; act = f })) (find ls (sign j)) ≡ some x
+        → (find ls (sign j) ≡ some x → elem (suc j) (kinds ls) ≡ true) → elem (suc j) (suc k ∷ kinds ls) ≡ true
     go true h e rec = elem-here (suc j) (suc k) (kinds ls) (eqb·suc-suc k j ∙ h)
     go false h e rec = elem-there (suc j) (suc k) (kinds ls) (rec e)
 found-kind (on k r α f ∷ ls) (name w) e = elem-there 0 (suc k) (kinds ls) (found-kind ls (name w) e)
@@ -113,7 +115,9 @@ unfolding firsts ends
 firsts-append k [] σ e = inr (refl, e)
 firsts-append k (n ∷ β) σ e = ⊎-elim (λ f. inl (elem-left k (kinds (lines n)) _ f)) (go (optional n) refl (firsts-append k β σ)) (elem-cases k (kinds (lines n)) _ e)
   where
-    go : (b : Bool) → optional n ≡ b → (elem k (firsts (β ++ σ)) ≡ true → (elem k (firsts β) ≡ true) ⊎ ((ends β ≡ true) × (elem k (firsts σ) ≡ true))) → elem k (cond b (firsts (β ++ σ)) []) ≡ true → (elem k (kinds (lines n) ++ cond b (firsts β) []) ≡ true) ⊎ ((b && ends β ≡ true) × (elem k (firsts σ) ≡ true))
+    go : (b : Bool) → optional n ≡ b → (elem k (firsts (β ++ σ)) ≡ true → (elem k (firsts β) ≡ true) ⊎ ((ends β ≡ true) × (elem k (firsts σ) ≡ true)))
+        → elem k (cond b (firsts (β ++ σ)) []) ≡ true → (elem k (kinds (lines n) ++ cond b (firsts β) []) ≡ true)
+        ⊎ ((b && ends β ≡ true) × (elem k (firsts σ) ≡ true))
     go true s rec f = ⊎-elim (λ g. inl (elem-right k (kinds (lines n)) _ g)) inr (rec f)
     go false s rec f = absurd (false≢true f)
 
@@ -126,7 +130,8 @@ good-append n (m ∷ β) σ c g =
     (fits (a .0) (b .0), good-append n β σ (b .1) g)
   where
     fits : apart (firsts β) (more m) ≡ true → not (ends β) || within (more m) (more n) ≡ true → (k : ℕ) → elem k (firsts (β ++ σ)) ≡ true → elem k (more m) ≡ false
-    fits a b k e = ⊎-elim (apart-elem k (firsts β) (more m) a) (λ h. not-eq-not .0 (λ i. false≢true (sym (g .0 k (h .1)) ∙ within-elem k (more m) (more n) (implied (ends β) _ b (h .0)) i))) (firsts-append k β σ e)
+    fits a b k e = ⊎-elim (apart-elem k (firsts β) (more m) a)
+        (λ h. not-eq-not .0 (λ i. false≢true (sym (g .0 k (h .1)) ∙ within-elem k (more m) (more n) (implied (ends β) _ b (h .0)) i))) (firsts-append k β σ e)
 
 -- Each line of an LL(1) symbol is closed.
 line-closed : (n : Sym) (ls : List (Line n)) (t : Token) {x : Found n} → closedLines n ls ≡ true → find ls t ≡ some x → closed n (x .next) ≡ true
@@ -161,4 +166,10 @@ module _ (table : (n : Sym) → ll1 n ≡ true) where
   reads-step {t} g (over {n = n} {σ = σ} s D) =
       let h = reads-step (g .1) D in
       (h .0, rw (no-line n σ t (some-is (skips n) s) g (reads-first D), s) (h .1), h .2, h .3)
-  reads-step {t} g (takes {n = n} {σ = σ} {k = k} f e D) = (record { want = f .next ++ σ; cont = feed (Val n) σ (f .next) (f .act) k }, rw e, D, good-append n (f .next) σ (line-closed n (lines n) t (table-parts n .1) e) g)
+  reads-step {t} g (takes {n = n} {σ = σ} {k = k} f e D) = (
+    record { want = f .next ++ σ; cont = feed (Val n) σ (f .next) (f .act) k },
+    rw e,
+    D,
+    good-append n (f .next) σ
+        (line-closed n (lines n) t (table-parts n .1) e) g,
+  )

@@ -35,7 +35,8 @@ record Along (len : ℕ) (s : State) (b : Book) (us : List Lexeme) (ps qs : List
   good : Good (to .want)
   back : (rs : List Part) (y : Tree) → Stands to rs y → Stands s (ps ++ rs) y
 
-along : (len : ℕ) {us : List Lexeme} {ps : List Part} → Spells us ps → (qs : List Part) (x : Tree) (s : State) (b : Book) → Good (s .want) → Stands s (ps ++ qs) x → Clean b ps → Along len s b us ps qs x
+along : (len : ℕ) {us : List Lexeme} {ps : List Part} → Spells us ps → (qs : List Part) (x : Tree) (s : State) (b : Book) → Good (s .want)
+    → Stands s (ps ++ qs) x → Clean b ps → Along len s b us ps qs x
 unfolding reads
 along len spellsNone qs x s b g D c = record { to = s; runs = λ ts. refl; stands = D; good = g; back = λ rs y E. E }
 along len (spells i r t w) qs x s b g D c =
@@ -81,7 +82,8 @@ refused-reading {len} (atToken us i t ts f no-way) = a .runs (at i (some t) ∷ 
     a : Along len start blankBook us (f .parts) (f .begins .rest) (f .begins .tree)
     a = reaches len f
 
-    go : (o : Option (Role × State)) → step (a .to .want) (a .to .cont) t ≡ o → stepped i (notes blankBook (f .parts)) t o (λ r s. reads len ts s (note (notes blankBook (f .parts)) (part r t))) ≡ refused 3 i
+    go : (o : Option (Role × State)) → step (a .to .want) (a .to .cont) t ≡ o
+        → stepped i (notes blankBook (f .parts)) t o (λ r s. reads len ts s (note (notes blankBook (f .parts)) (part r t))) ≡ refused 3 i
     go none e = refl
     go (some y) e = absurd (no-way (record {
       parts = f .parts ++ part (y .0) t ∷ [];
@@ -184,7 +186,8 @@ next {us} {ps} {s} {b} i y t a e f =
         subst (λ (v : State). Stands v rs z × Good (v .want)) i (h .2, h .3)
 
 -- Where no step takes the token, no roles make it one that a text can begin with.
-blocked : (s : State) (ps : List Part) (t : Token) {us : List Lexeme} {qs : List Part} → step (s .want) (s .cont) t ≡ none → Good (s .want) → ((rs : List Part) (y : Tree) → Stands start (ps ++ rs) y → Stands s rs y) →
+blocked : (s : State) (ps : List Part) (t : Token) {us : List Lexeme} {qs : List Part} → step (s .want) (s .cont) t ≡ none → Good (s .want)
+    → ((rs : List Part) (y : Tree) → Stands start (ps ++ rs) y → Stands s rs y) →
     Last us t qs → Begins qs → Spells us ps → Begins ps → ⊥
 blocked s ps t e g forth l b w c =
     let d : Begins (l .front ++ part (l .role) t ∷ []) = rw l.are at b in
@@ -215,7 +218,8 @@ rightly len (at i (some t) ∷ ts) us ps s b a =
         (sym (breach-is ps (part (y .0) t)) ∙ ap (λ (c : Book). fault c (part (y .0) t)) (a .book) ∙ f)
 
     go : (o : Option (Role × State)) → step (s .want) (s .cont) t ≡ o →
-        ((y : Role × State) → At (us ++ at i (some t) ∷ []) (ps ++ part (y .0) t ∷ []) (y .1) (note b (part (y .0) t)) → Rightly len ((us ++ at i (some t) ∷ []) ++ ts) (reads len ts (y .1) (note b (part (y .0) t)))) →
+        ((y : Role × State) → At (us ++ at i (some t) ∷ []) (ps ++ part (y .0) t ∷ []) (y .1) (note b (part (y .0) t))
+        → Rightly len ((us ++ at i (some t) ∷ []) ++ ts) (reads len ts (y .1) (note b (part (y .0) t)))) →
         Rightly len (us ++ at i (some t) ∷ ts) (stepped i b t o (λ r s. reads len ts s (note b (part r t))))
     go none e rec =
         atToken us i t ts (faultless a) (λ v. blocked s ps t e (a .good) (a .forth) (last-part us i t (v .spelt)) (v .begins) (a .spelt) (begins s ps (a .back)))

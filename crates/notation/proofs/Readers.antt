@@ -40,7 +40,9 @@ any-bound len (suc k) (suc l) m (at j (some t) ∷ ts) b h i = go (find (lines m
     go : (o : Option (Found m)) → ((m : Sym) (us : List Lexeme) (b : Book) → length us < suc (length ts) → descend len k m us b ≡ descend len l m us b) →
         taken (descend len k) j o t ts b (pass (skips m) (at j (some t) ∷ ts) b 3 j) ≡ taken (descend len l) j o t ts b (pass (skips m) (at j (some t) ∷ ts) b 3 j)
     go none rec = refl
-    go (some f) rec = ap (ruling j (fault b (part (f .role) t))) (sequence-agree (Val m) (suc (length ts)) (descend len k) (descend len l) (λ m us b u. serves len k .short m us b (omega arith)) rec (f .next) (f .act) ts (note b (part (f .role) t)) (omega arith))
+    go (some f) rec = ap (ruling j (fault b (part (f .role) t)))
+        (sequence-agree (Val m) (suc (length ts)) (descend len k) (descend len l) (λ m us b u. serves len k .short m us b (omega arith)) rec (f .next)
+        (f .act) ts (note b (part (f .role) t)) (omega arith))
 
 -- At a token: the law of every symbol.
 pub reader-token : (len : ℕ) (n : Sym) (i : ℕ) (t : Token) (ts : List Lexeme) (b : Book) →
@@ -48,10 +50,12 @@ pub reader-token : (len : ℕ) (n : Sym) (i : ℕ) (t : Token) (ts : List Lexeme
 unfolding reader descend
 reader-token len n i t ts b = go (find (lines n) t)
   where
-    go : (o : Option (Found n)) → taken (descend len (suc (length ts))) i o t ts b (pass (skips n) (at i (some t) ∷ ts) b 3 i) ≡ taken (reader len) i o t ts b (pass (skips n) (at i (some t) ∷ ts) b 3 i)
+    go : (o : Option (Found n)) → taken (descend len (suc (length ts))) i o t ts b (pass (skips n) (at i (some t) ∷ ts) b 3 i)
+        ≡ taken (reader len) i o t ts b (pass (skips n) (at i (some t) ∷ ts) b 3 i)
     go none = refl
     go (some f) = ap (ruling i (fault b (part (f .role) t))) (sequence-agree (Val n) (suc (length ts)) (descend len (suc (length ts))) (reader len)
-        (λ m us b u. serves len (suc (length ts)) .short m us b u) (λ m us b u. any-bound len (suc (length ts)) (suc (length us)) m us b u (omega arith)) (f .next) (f .act) ts (note b (part (f .role) t)) (omega arith))
+        (λ m us b u. serves len (suc (length ts)) .short m us b u) (λ m us b u. any-bound len (suc (length ts)) (suc (length us)) m us b u (omega arith))
+        (f .next) (f .act) ts (note b (part (f .role) t)) (omega arith))
 
 -- At the end of the text, and at a faulty byte.
 pub reader-end : (len : ℕ) (n : Sym) (b : Book) → reader len n [] b ≡ pass (skips n) [] b 3 len
@@ -82,12 +86,15 @@ or-level-is len m d ts b = simp then-then
 
 -- A turn of the andLoop.
 pub and-loop-turn : (len : ℕ) (m : Mode) (d : ℕ) (e : Expr) (i : ℕ) (ts : List Lexeme) (b : Book) →
-    andLoop len m d e (at i (some (sign AND)) ∷ ts) b ≡ ruling i (fault b (part joins (sign AND))) (thenReads (reader len (factor m d) ts (note b (part joins (sign AND)))) (λ f ts b. andLoop len m d (and′ e f) ts b))
+    andLoop len m d e (at i (some (sign AND)) ∷ ts) b
+    ≡ ruling i (fault b (part joins (sign AND)))
+    (thenReads (reader len (factor m d) ts (note b (part joins (sign AND)))) (λ f ts b. andLoop len m d (and′ e f) ts b))
 unfolding sequence find lines skips
 and-loop-turn len m d e i ts b = rw (reader-token len (ands m d)) (simp (then-ruling, then-then))
 
 -- A turn of the orLoop.
 pub or-loop-turn : (len : ℕ) (m : Mode) (d : ℕ) (e : Expr) (i : ℕ) (ts : List Lexeme) (b : Book) →
-    orLoop len m d e (at i (some (sign OR)) ∷ ts) b ≡ ruling i (fault b (part joins (sign OR))) (thenReads (andReader len m d ts (note b (part joins (sign OR)))) (λ f ts b. orLoop len m d (or′ e f) ts b))
+    orLoop len m d e (at i (some (sign OR)) ∷ ts) b
+    ≡ ruling i (fault b (part joins (sign OR))) (thenReads (andReader len m d ts (note b (part joins (sign OR)))) (λ f ts b. orLoop len m d (or′ e f) ts b))
 unfolding sequence find lines skips
 or-loop-turn len m d e i ts b = rw (reader-token len (ors m d)) (simp (then-ruling, then-then))

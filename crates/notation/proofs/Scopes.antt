@@ -197,7 +197,8 @@ module _ (ws vs : List Name) where
   joined-scoped Q one many n c s (last x) h k = rw (c, n) (s _ _ x h k, tt)
   joined-scoped Q one many n c s (followed {ps = ps} x y) h k = let g = split ps _ h in rw c (s _ _ x (g .0) k, joined-scoped Q one many n c s y (g .1 .1) _)
 
-  rows-scoped : {ps : List Part} {xs : List T.RowItem} → Joined RowItemIs ps xs → AllKnown ws vs ps → (k : ℕ) → Every (ScopedRow (length ws) (length vs)) (rowItemsOf (wordsOf ws) (wordsOf vs) xs k .is)
+  rows-scoped : {ps : List Part} {xs : List T.RowItem} → Joined RowItemIs ps xs → AllKnown ws vs ps → (k : ℕ)
+      → Every (ScopedRow (length ws) (length vs)) (rowItemsOf (wordsOf ws) (wordsOf vs) xs k .is)
   unfolding rowItemsOf
   rows-scoped = joined-scoped _ (rowItemOf (wordsOf ws) (wordsOf vs)) (rowItemsOf (wordsOf ws) (wordsOf vs)) (λ k. refl) (λ x xs k. refl) (λ ps x. row-scoped)
 

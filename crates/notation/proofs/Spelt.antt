@@ -89,7 +89,9 @@ command-more : {ps : List Part} {y : Command} → CommandIs ps y → (σ : List 
     Reads (commands ∷ σ) (λ ys. k (y ∷ ys)) rest x → Reads (commands ∷ σ) k (ps ++ rest) x
 unfolding find lines
 command-more (isCommand {e = e} {xs = xs} w i is js) σ k rest x D =
-    simp append-assoc (takes _ refl (takes _ refl (takes _ refl (alone i (lit DO ∷ item ∷ items ∷ lit ELSE ∷ item ∷ items ∷ lit DOT ∷ commands ∷ σ) (λ e _ y ys _ z zs _ cs. k (command′ w e (y ∷ ys) (z ∷ zs) ∷ cs)) _ x
+    simp append-assoc (takes _ refl (takes _ refl
+    (takes _ refl (alone i (lit DO ∷ item ∷ items ∷ lit ELSE ∷ item ∷ items ∷ lit DOT ∷ commands ∷ σ)
+    (λ e _ y ys _ z zs _ cs. k (command′ w e (y ∷ ys) (z ∷ zs) ∷ cs)) _ x
     (takes _ refl (items-are is (lit ELSE ∷ item ∷ items ∷ lit DOT ∷ commands ∷ σ) (λ ys _ z zs _ cs. k (command′ w e ys (z ∷ zs) ∷ cs)) _ x
     (takes _ refl (items-are js (lit DOT ∷ commands ∷ σ) (λ zs _ cs. k (command′ w e xs zs ∷ cs)) _ x (takes _ refl D)))))))))
 
@@ -107,7 +109,8 @@ pub at-sign : {n : Sym} (k : ℕ) (r : Role) (α : List Sym) (f : Cont α (Val n
 unfolding find
 at-sign k r α f ls = rw (eq-eqb k k refl)
 
-clause-is : {j : ℕ} {ps : List Part} {y : Clause} → ClauseIs j ps y → (σ : List Sym) (k : Clause → Cont σ Tree) (rest : List Part) (x : Tree) → Reads σ (k y) rest x → Reads (clause j ∷ σ) k (ps ++ rest) x
+clause-is : {j : ℕ} {ps : List Part} {y : Clause} → ClauseIs j ps y → (σ : List Sym) (k : Clause → Cont σ Tree) (rest : List Part) (x : Tree)
+    → Reads σ (k y) rest x → Reads (clause j ∷ σ) k (ps ++ rest) x
 unfolding find lines
 clause-is {j} (isClause {a = a} i i′) σ k rest x D =
     simp append-assoc (takes _ (at-sign {n = clause j} j _ _ _ []) (alone i (lit EACH ∷ sum fixedRow 0 (lit DOT ∷ σ)) (λ e _ f a o _. k (clause′ e (o (a f)))) _ x
@@ -123,4 +126,5 @@ unfolding find lines skips
 text-is (isText {s = s} {k = k} ws vs i j is) =
     takes _ refl (names-are sharedName ws (lit DOT ∷ rows ∷ clause START ∷ clause KEEP ∷ oneCommand ∷ commands ∷ []) (λ ws _ vs s k c cs. tree′ ws vs s k (c ∷ cs)) _ _
     (takes _ refl (takes _ refl (names-are rowName vs (lit DOT ∷ clause START ∷ clause KEEP ∷ oneCommand ∷ commands ∷ []) (λ vs _ s k c cs. tree′ ws vs s k (c ∷ cs)) _ _
-    (takes _ refl (clause-is i (clause KEEP ∷ oneCommand ∷ commands ∷ []) (λ s k c cs. tree′ ws vs s k (c ∷ cs)) _ _ (clause-is j (oneCommand ∷ commands ∷ []) (λ k c cs. tree′ ws vs s k (c ∷ cs)) _ _ (commands-are is (λ cs. tree′ ws vs s k cs)))))))))
+    (takes _ refl (clause-is i (clause KEEP ∷ oneCommand ∷ commands ∷ []) (λ s k c cs. tree′ ws vs s k (c ∷ cs)) _ _
+    (clause-is j (oneCommand ∷ commands ∷ []) (λ k c cs. tree′ ws vs s k (c ∷ cs)) _ _ (commands-are is (λ cs. tree′ ws vs s k cs)))))))))

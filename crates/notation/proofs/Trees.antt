@@ -75,7 +75,8 @@ unfolding find
 at-found P [] t h e = absurd (Option·none-ne-some _ e)
 at-found P {n} (on k r α a ∷ ls) (sign j) {f} h e = go (eqb k j) refl e (λ e. at-found P ls (sign j) (h .1) e)
   where
-    go : (b : Bool) → eqb k j ≡ b → cond b (some (record { role = r; next = α; act = a })) (find ls (sign j)) ≡ some f → (find ls (sign j) ≡ some f → P (sign j) (f .role) (f .next)) → P (sign j) (f .role) (f .next)
+    go : (b : Bool) → eqb k j ≡ b → cond b (some (record { role = r; next = α; act = a })) (find ls (sign j)) ≡ some f
+        → (find ls (sign j) ≡ some f → P (sign j) (f .role) (f .next)) → P (sign j) (f .role) (f .next)
     go true i e rec = subst (λ (x : Found n). P (sign j) (x .role) (x .next)) (Option·some-injective _ _ e) (rw (eqb-true k j i) at (h .0))
     go false i e rec = rec e
 at-found P (on k r α a ∷ ls) (name w) h e = at-found P ls (name w) (h .1) e
@@ -130,7 +131,8 @@ make-command σ ps (cons _ (is-title w) (cons _ is-lit (cons _ f (cons _ a (cons
     simp append-assoc at (cons {n = oneCommand} _ (_, isCommand w (sum-of _ _ _ f a o .1) (xs _ _ (x .1) .1) (ys _ _ (y .1) .1)) rest)
 
 make-commands : Makes commands (sign COMMAND) beginsCommand (commandRest (commands ∷ []))
-make-commands σ ps (cons _ (is-title w) (cons _ is-lit (cons _ f (cons _ a (cons _ o (cons _ is-lit (cons _ x (cons _ xs (cons _ is-lit (cons _ y (cons _ ys (cons _ is-lit (cons cs c rest))))))))))))) =
+make-commands σ ps (cons _ (is-title w) (cons _ is-lit
+    (cons _ f (cons _ a (cons _ o (cons _ is-lit (cons _ x (cons _ xs (cons _ is-lit (cons _ y (cons _ ys (cons _ is-lit (cons cs c rest))))))))))))) =
     simp append-assoc at (cons {n = commands} _ (λ qs z i. (_, andThen i (c _ _ (isCommand w (sum-of _ _ _ f a o .1) (xs _ _ (x .1) .1) (ys _ _ (y .1) .1)) .1))) rest)
 
 make-clause : (k : ℕ) → Makes (clause k) (sign k) quiet (sum fixedShared 0 (lit EACH ∷ sum fixedRow 0 (lit DOT ∷ [])))

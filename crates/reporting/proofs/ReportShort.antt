@@ -85,8 +85,13 @@ steps-short : (called : ℕ → Word) (i : ℕ) (xs : List TraceStep) → i + le
 unfolding stepLines
 steps-short called i [] h f = omega arith
 steps-short called i (x ∷ xs) h f =
-    omega
-    (arith, length-append (stepLine i (called (x .command)) (x .word) (x .after)) (stepLines called (i + 1) xs), step-short i (called (x .command)) (x .word) (x .after) (omega arith) (f .0 .name) (f .0 .word) (f .0 .after), steps-short called (i + 1) xs (omega arith) (f .1))
+    omega (
+      arith,
+      length-append (stepLine i (called (x .command)) (x .word) (x .after)) (stepLines called (i + 1) xs),
+      step-short i (called (x .command)) (x .word)
+          (x .after) (omega arith) (f .0 .name) (f .0 .word) (f .0 .after),
+      steps-short called (i + 1) xs (omega arith) (f .1),
+    )
 
 module _ (text : List ℕ) (x : Tree) (says : TextSaysTree text x) where
   step-small : (y : TraceStep) → StepFits (modelOf x) y → Short (commandName x) y
@@ -101,15 +106,33 @@ module _ (text : List ℕ) (x : Tree) (says : TextSaysTree text x) where
   unfolding reportLines sheetLines
   found-short (safe map) e =
       let g = regular text x says in
-      omega
-      (arith, length-append (countsLine (modelOf x .sharedNames) (modelOf x .rowNames) (length (modelOf x .commands))) safeLine, counts-short (modelOf x .sharedNames) (modelOf x .rowNames) (length (modelOf x .commands)) (omega (arith, g .fewShared)) (omega (arith, g .fewRow)) (omega (arith, g .fewCommands)), safe-short)
+      omega (
+        arith,
+        length-append (countsLine (modelOf x .sharedNames) (modelOf x .rowNames) (length (modelOf x .commands))) safeLine,
+        counts-short
+            (modelOf x .sharedNames) (modelOf x .rowNames) (length (modelOf x .commands)) (omega (arith, g .fewShared)) (omega (arith, g .fewRow))
+            (omega (arith, g .fewCommands)),
+        safe-short,
+      )
   found-short (trace s xs) e =
       let g = regular text x says in
       let p = passes text x says s xs e in
       let n : length xs ≤ 4095 = omega (arith, sheet-short text x says s xs e, trace-sheet-length (systemOf (modelOf x)) s xs, few text x says) in
       let l = stepLines (commandName x) 1 xs in
-      omega
-      (arith, length-append (countsLine (modelOf x .sharedNames) (modelOf x .rowNames) (length (modelOf x .commands))) (unsafeLine (length xs) ++ (startLine s ++ l)), length-append (unsafeLine (length xs)) (startLine s ++ l), length-append (startLine s) l, counts-short (modelOf x .sharedNames) (modelOf x .rowNames) (length (modelOf x .commands)) (omega (arith, g .fewShared)) (omega (arith, g .fewRow)) (omega (arith, g .fewCommands)), unsafe-short (length xs) (omega arith), start-short s (omega (arith, p .startFits, few text x says)), steps-short (commandName x) 1 xs (omega arith) (weaken (StepFits (modelOf x)) (Short (commandName x)) step-small xs (p .stepsFit)))
+      omega (
+        arith,
+        length-append (countsLine (modelOf x .sharedNames) (modelOf x .rowNames) (length (modelOf x .commands)))
+            (unsafeLine (length xs) ++ (startLine s ++ l)),
+        length-append (unsafeLine (length xs)) (startLine s ++ l),
+        length-append (startLine s) l,
+        counts-short
+            (modelOf x .sharedNames) (modelOf x .rowNames) (length (modelOf x .commands)) (omega (arith, g .fewShared)) (omega (arith, g .fewRow))
+            (omega (arith, g .fewCommands)),
+        unsafe-short (length xs) (omega arith),
+        start-short s (omega (arith, p .startFits, few text x says)),
+        steps-short
+            (commandName x) 1 xs (omega arith) (weaken (StepFits (modelOf x)) (Short (commandName x)) step-small xs (p .stepsFit)),
+      )
 
 pub reports-fit : ReportsFit
 reports-fit text = go (answer text) refl

@@ -119,7 +119,8 @@ module _ (text : List ℕ) (x : Tree) (says : TextSaysTree text x) where
           named =
               subst (Every (λ (y : TraceStep). Named text (nameArray (namesOf x)) (m .sharedNames + m .rowNames + y .command)))
               (sym (steps-read (systemOf m) s xs (omega (arith, few)) in-range))
-              (weaken (InRange (systemOf m)) (λ (y : TraceStep). Named text (nameArray (namesOf x)) (m .sharedNames + m .rowNames + y .command)) (λ y k. told text x says regular (y .command) (k .command) .named) xs in-range);
+              (weaken (InRange (systemOf m)) (λ (y : TraceStep). Named text (nameArray (namesOf x)) (m .sharedNames + m .rowNames + y .command))
+              (λ y k. told text x says regular (y .command) (k .command) .named) xs in-range);
         }
 
     abbrev called : ℕ → Word

@@ -93,7 +93,8 @@ module _ (shared row commands : ℕ) (ops ends stars : List ℕ) (states : ℕ) 
     last-within f = let a = last-some f in let d = R .kept .few in let g = R .kept .ready .queue-room in omega arith
 
     pub trace-asked : b ≡ true → Few commands stars → Parted commands ends → (o₀ o₁ : List ℕ) → 7 + 10 * states ≤ length o₀ → o₁ ≡ sets o₀ 0 (countBytes shared row commands)
-        → (shared + row ≤ 12) × Few commands stars × Parted commands ends × (2 ^ (shared + row) ≤ length p) × RecordedTo T (take (2 ^ (shared + row)) p) (getD q (n - 1) 0) × (7 + 10 * 2 ^ (shared + row) ≤ length o₁)
+        → (shared + row ≤ 12) × Few commands stars × Parted commands ends × (2 ^ (shared + row) ≤ length p)
+        × RecordedTo T (take (2 ^ (shared + row)) p) (getD q (n - 1) 0) × (7 + 10 * 2 ^ (shared + row) ≤ length o₁)
     trace-asked f F P o₀ o₁ r h =
         let k : length o₁ ≡ length o₀ = ap length h ∙ length-sets o₀ 0 (countBytes shared row commands) in
         (few, F, P, R .kept .ready .parent-room, ran-recorded law R f, subst (λ (l : ℕ). 7 + 10 * l ≤ length o₁) e (omega arith))
@@ -101,9 +102,11 @@ module _ (shared row commands : ℕ) (ops ends stars : List ℕ) (states : ℕ) 
     sized : (l l₁ : List ℕ) → l₁ ≡ replicate states 0 ++ drop states l → l₁ ≡ replicate (2 ^ (shared + row)) 0 ++ drop (2 ^ (shared + row)) l
     sized l l₁ h = subst (λ (k : ℕ). l₁ ≡ replicate k 0 ++ drop k l) e h
 
-    module _ (o₀ : List ℕ) {o₁ : List ℕ} (h : o₁ ≡ sets o₀ 0 (countBytes shared row commands)) {q₁ p₁ : List ℕ} (eq : q₁ ≡ replicate states 0 ++ drop states q) (ep : p₁ ≡ replicate states 0 ++ drop states p) where
+    module _ (o₀ : List ℕ) {o₁ : List ℕ} (h : o₁ ≡ sets o₀ 0 (countBytes shared row commands)) {q₁ p₁ : List ℕ} (eq : q₁ ≡ replicate states 0 ++ drop states q)
+        (ep : p₁ ≡ replicate states 0 ++ drop states p) where
       pub unsafe-left : b ≡ true → {o : List ℕ} {len : ℕ}
-          → (o ≡ sets o₁ 9 (runBytes T (runTo T (take (2 ^ (shared + row)) p) (2 ^ (shared + row)) (getD q (n - 1) 0)))) × (len ≡ 17 + 10 * steps (runTo T (take (2 ^ (shared + row)) p) (2 ^ (shared + row)) (getD q (n - 1) 0)))
+          → (o ≡ sets o₁ 9 (runBytes T (runTo T (take (2 ^ (shared + row)) p) (2 ^ (shared + row)) (getD q (n - 1) 0))))
+          × (len ≡ 17 + 10 * steps (runTo T (take (2 ^ (shared + row)) p) (2 ^ (shared + row)) (getD q (n - 1) 0)))
           → Ends (leftWith M (foundIn (transitionsOf M)) q₀ p₀ o₀) (Unsafe len) q₁ p₁ o
       unsafe-left f w = left-unsafe M law small o₀ h (answered-unsafe law R f (w .0) refl (w .1) (sized q q₁ eq) (sized p p₁ ep)) f
 
@@ -158,5 +161,7 @@ module _ (M : System) (states : ℕ) (e : states ≡ size M) (q p o : List ℕ) 
       → Ends (leftWith M (foundIn (transitionsOf M)) q p o) r q₁ p₁ o₁ → Ends (searchFor M q p o) r q₁ p₁ o₁
   unfolding searchFor
   room-for a b d r q₁ p₁ o₁ l =
-      let f : searchFor M q p o ≡ leftWith M (foundIn (transitionsOf M)) q p o = ap (λ (t : Bool). cond t (leftWith M (foundIn (transitionsOf M)) q p o) (leftAlone 8 0 q p o)) (subst (λ (k : ℕ). roomy k q p o ≡ true) e (is-roomy a b d)) in
+      let f : searchFor M q p o ≡ leftWith M (foundIn (transitionsOf M)) q p o = ap
+      (λ (t : Bool). cond t (leftWith M (foundIn (transitionsOf M)) q p o) (leftAlone 8 0 q p o))
+      (subst (λ (k : ℕ). roomy k q p o ≡ true) e (is-roomy a b d)) in
       subst (λ (L : Left). Ends L r q₁ p₁ o₁) (sym f) l

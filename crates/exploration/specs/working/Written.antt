@@ -39,7 +39,8 @@ bitAt b s = bit (getD b s false)
 
 abbrev pub mapByte : List Bool → ℕ → ℕ
 mapByte b i =
-    bitAt b (8 * i) + 2 * bitAt b (8 * i + 1) + 4 * bitAt b (8 * i + 2) + 8 * bitAt b (8 * i + 3) + 16 * bitAt b (8 * i + 4) + 32 * bitAt b (8 * i + 5) + 64 * bitAt b (8 * i + 6) + 128 * bitAt b (8 * i + 7)
+    bitAt b (8 * i) + 2 * bitAt b (8 * i + 1) + 4 * bitAt b (8 * i + 2) + 8 * bitAt b (8 * i + 3) + 16 * bitAt b (8 * i + 4) + 32 * bitAt b
+    (8 * i + 5) + 64 * bitAt b (8 * i + 6) + 128 * bitAt b (8 * i + 7)
 
 -- So many bytes of a map, from byte i on.
 unfoldable pub mapFrom : List Bool → ℕ → ℕ → List ℕ

@@ -36,8 +36,11 @@ is-record-requires-2 c κs = search needs
 
 trace-shape-requires : tie.Need-trace-shape-requires
 trace-shape-requires c κs = (
-  omega
-      (arith, record-parts (c .before .before .before .before .before .before .args .b .now) (c .before .before .before .before .before .before .args .p) 3 2 (sym (c .before .is-record2 .ensures) ∙ c .if2 .taken) .0),
+  omega (
+    arith,
+    record-parts (c .before .before .before .before .before .before .args .b .now) (c .before .before .before .before .before .before .args .p) 3 2
+        (sym (c .before .is-record2 .ensures) ∙ c .if2 .taken) .0,
+  ),
   c .before .before .before .before .before .before .pre .0,
   c .before .before .before .before .before .before .pre .3,
 )

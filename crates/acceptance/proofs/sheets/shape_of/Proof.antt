@@ -43,7 +43,8 @@ body-shape-requires : tie.Need-body-shape-requires
 body-shape-requires c κs = (
   c .before .before .before .before .before .if1 .left,
   omega arith,
-  pow-small (c .before .before .before .before .before .before .before .args .shared + c .before .before .before .before .before .before .before .args .row) (c .power .result) (c .before .before .before .before .before .before .before .pre .0) (c .power .ensures),
+  pow-small (c .before .before .before .before .before .before .before .args .shared + c .before .before .before .before .before .before .before .args .row)
+      (c .power .result) (c .before .before .before .before .before .before .before .pre .0) (c .power .ensures),
   c .before .before .before .before .before .before .before .pre .1,
 )
 

@@ -81,8 +81,11 @@ add-step-fits c = omega arith
 
 step-fits-requires : tie.Need-step-fits-requires Inv-loop μ-loop
 step-fits-requires c κs = (
-  omega
-      (arith, record-parts (c .before .before .before .before .before .before .before .args .b .now) (c .before .before .before .loop .at) 4 4 (sym (c .before .is-record .ensures) ∙ not-false _ (c .if2 .left)) .0),
+  omega (
+    arith,
+    record-parts (c .before .before .before .before .before .before .before .args .b .now) (c .before .before .before .loop .at) 4 4
+        (sym (c .before .is-record .ensures) ∙ not-false _ (c .if2 .left)) .0,
+  ),
   c .before .before .before .before .before .before .before .pre .2,
 )
 

@@ -41,7 +41,10 @@ rem-result : tie.Need-rem-result
 rem-result c = rw (one-shl (c .args .j) (c .pre .0)) (pow-pos (c .args .j))
 
 add-result-2 : tie.Need-add-result-2
-add-result-2 c = record { fits = rw (as-put (c .args .s) (c .args .j) (c .args .v) (c .fits .s .fits) (c .pre .0) (c .pre .1)) (put-lt (c .args .s) (c .args .j) (c .args .v) (c .pre .1) 32 (c .pre .0) (c .fits .s .fits)) }
+add-result-2 c = record {
+  fits = rw (as-put (c .args .s) (c .args .j) (c .args .v) (c .fits .s .fits) (c .pre .0) (c .pre .1))
+      (put-lt (c .args .s) (c .args .j) (c .args .v) (c .pre .1) 32 (c .pre .0) (c .fits .s .fits));
+}
 
 returns : tie.Need-returns
 returns c = as-put (c .args .s) (c .args .j) (c .args .v) (c .fits .s .fits) (c .pre .0) (c .pre .1)
