@@ -2,19 +2,19 @@
 -- Assumes nothing.
 use mathlib.Core.Path.{_≡_, refl, sym, ap, _∙_, subst}
 use mathlib.Core.Bool.{Bool, true, false, cond}
-use mathlib.Core.List.{List, [], _∷_}
+use mathlib.Core.List.{List, [], _∷_, map}
 use mathlib.Core.Option.{Option, none, some}
 use Prim.Native.Nat.{ℕ, zero, suc, _+_, _*_, _≤_, _<_, max}
 use native.Mathlib.Nat.{zero-add, suc-add}
 use native.Mathlib.Numerals.{add-one}
 use native.Mathlib.Omega.{arith}
 use lib.Dec.{leb, eqb}
-use lib.ListN.{length, getD, take, drop, drop-of-length-le}
+use lib.ListN.{length, getD, take, drop, drop-of-length-le, List·getD-map}
 use lib.Seq.{slice, drop-cons, getD-drop, getD-take}
 use borrow.Author.Tests.{le-ltb, lt-ltb, le-leb, lt-leb, eq-eqb, ne-eqb}
-use Rattle.notation.specs.Bytes.{letter, wordByte, begins, sameWord}
+use Rattle.notation.specs.Bytes.{bytes, letter, wordByte, begins, sameWord}
 use Rattle.notation.specs.Tokens.{sign, Word, reserved, wordIn, plainWord, signOr, wordToken}
-use Rattle.reader.specs.working.Pieces.{numberOr}
+use Rattle.reader.specs.working.Pieces.{numberOr, Tabled}
 
 -- Bytes.
 
@@ -91,6 +91,14 @@ at-most [] i = omega arith
 at-most (a ∷ l) zero = omega arith
 at-most (a ∷ l) (suc i) = omega (arith, at-most l i)
 
+pub seven : (k : ℕ) → length (getD reserved k []) ≤ 7
+unfolding reserved bytes greatest
+seven k = subst (λ (n : ℕ). n ≤ 7) (List·getD-map length reserved k []) (at-most (map length reserved) k)
+
+-- The tables are those of the reserved words.
+pub tabled : Tabled (rows reserved) (map length reserved)
+tabled = record { letter = λ k j h. letter-at reserved k j h; size = λ k. List·getD-map length reserved k [] }
+
 -- Two words compared, letter by letter.
 
 pub lengths-differ : (v w : Word) → (length v ≡ length w → ⊥) → false ≡ sameWord v w
@@ -160,6 +168,16 @@ module _ (w : Word) (k : ℕ) (rest : wordIn w (drop k reserved) k ≡ wordIn w 
       let l : length reserved ≤ k = omega (arith, fifteen) in
       let f : wordIn w reserved 0 ≡ none = sym rest ∙ rw (drop-of-length-le reserved l) in
       sym (ap numberOr f)
+
+-- A word that is longer than all of them is none.
+longer : (w : Word) (vs : List Word) (i : ℕ) → greatest (map length vs) < length w → wordIn w vs i ≡ none
+unfolding wordIn greatest
+longer w [] i h = refl
+longer w (v ∷ vs) i h = rw (sym (lengths-differ w v (λ e. omega arith))) (longer w vs (suc i) (omega arith))
+
+pub look-long : (w : Word) → 7 < length w → 15 ≡ numberOr (wordIn w reserved 0)
+unfolding reserved bytes greatest
+look-long w h = sym (ap numberOr (longer w reserved 0 h))
 
 -- What was found is the number of a word of the list.
 found-below : (w : Word) (vs : List Word) (i j : ℕ) → wordIn w vs i ≡ some j → j < i + length vs

@@ -6,7 +6,7 @@ ghost use lib.ListN.{length, getD};
 ghost use lib.Seq.{slice};
 ghost use Rattle.notation.specs.Bytes.{sameWord};
 ghost use Rattle.notation.specs.Tokens.{reserved, wordIn};
-ghost use Rattle.reader.specs.working.Pieces.{numberOr};
+ghost use Rattle.reader.specs.working.Pieces.{numberOr, Tabled};
 
 // Seven bytes to a word, in the order of the words' numbers.
 const LETTERS: [u8; 105] =
@@ -15,34 +15,41 @@ const LETTERS: [u8; 105] =
 const LENGTHS: [u8; 15] = [6, 3, 5, 4, 4, 7, 2, 2, 4, 3, 3, 4, 3, 2, 3];
 
 // Letter j of reserved word k.
-pub fn letter_of(k: usize, j: usize) -> u8
-    requires { ⌜ (k < 15) × (j < 7) ⌝ }
+fn letter_of(letters: &[u8; 105], lengths: &[u8; 15], k: usize, j: usize) -> u8
+    requires { ⌜ Tabled (now letters) (now lengths) × ((k < 15) × (j < 7)) ⌝ }
     ensures { λ r. ⌜ r ≡ getD (getD reserved k []) j 0 ⌝ }
 {
-    LETTERS[7 * k + j]
+    letters[7 * k + j]
 }
 
 // The length of reserved word k.
-pub fn length_of(k: usize) -> u8
-    requires { ⌜ k < 15 ⌝ }
+fn length_of(letters: &[u8; 105], lengths: &[u8; 15], k: usize) -> u8
+    requires { ⌜ Tabled (now letters) (now lengths) × (k < 15) ⌝ }
     ensures { λ r. ⌜ (r ≡ length (getD reserved k [])) × (r ≤ 7) ⌝ }
 {
-    LENGTHS[k]
+    lengths[k]
 }
 
 // Whether the word from s to e is reserved word k.
-pub fn matches(text: &[u8], s: usize, e: usize, k: usize) -> bool
-    requires { ⌜ (s ≤ e) × ((e ≤ length (now text)) × (k < 15)) ⌝ }
+fn matches(
+    letters: &[u8; 105],
+    lengths: &[u8; 15],
+    text: &[u8],
+    s: usize,
+    e: usize,
+    k: usize,
+) -> bool
+    requires { ⌜ Tabled (now letters) (now lengths) × ((s ≤ e) × ((e ≤ length (now text)) × (k < 15))) ⌝ }
     ensures { λ r. ⌜ r ≡ sameWord (slice s e (now (text .entry))) (getD reserved k []) ⌝ }
 {
-    let n = length_of(k) as usize;
+    let n = length_of(letters, lengths, k) as usize;
     if e - s != n {
         return false;
     }
     let mut j = 0;
     while j < n {
         let a = text[s + j];
-        let b = letter_of(k, j);
+        let b = letter_of(letters, lengths, k, j);
         if a != b {
             return false;
         }
@@ -51,18 +58,31 @@ pub fn matches(text: &[u8], s: usize, e: usize, k: usize) -> bool
     true
 }
 
-// The number of the reserved word from s to e; 15 for none.
-pub fn reserved_at(text: &[u8], s: usize, e: usize) -> u8
-    requires { ⌜ (s ≤ e) × (e ≤ length (now text)) ⌝ }
+// The number of the reserved word from s to e, looked up in the tables; 15 for none.
+fn number_in(letters: &[u8; 105], lengths: &[u8; 15], text: &[u8], s: usize, e: usize) -> u8
+    requires { ⌜ Tabled (now letters) (now lengths) × ((s ≤ e) × (e ≤ length (now text))) ⌝ }
     ensures { λ r. ⌜ r ≡ numberOr (wordIn (slice s e (now (text .entry))) reserved 0) ⌝ }
 {
     let mut k: usize = 0;
     while k < 15 {
-        let hit = matches(text, s, e, k);
+        let hit = matches(letters, lengths, text, s, e, k);
         if hit {
             return k as u8;
         }
         k += 1;
     }
     15
+}
+
+// The number of the reserved word from s to e; 15 for none. The tables are laid out once for all comparisons.
+pub fn reserved_at(text: &[u8], s: usize, e: usize) -> u8
+    requires { ⌜ (s ≤ e) × (e ≤ length (now text)) ⌝ }
+    ensures { λ r. ⌜ r ≡ numberOr (wordIn (slice s e (now (text .entry))) reserved 0) ⌝ }
+{
+    if 7 < e - s {
+        return 15;
+    }
+    let letters = LETTERS;
+    let lengths = LENGTHS;
+    number_in(&letters, &lengths, text, s, e)
 }

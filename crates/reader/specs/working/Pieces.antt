@@ -4,7 +4,7 @@ use mathlib.Core.Path.{_≡_}
 use mathlib.Core.Bool.{cond}
 use mathlib.Core.List.{List, [], _∷_}
 use mathlib.Core.Option.{Option, none, some}
-use Prim.Native.Nat.{ℕ, suc, _+_, _-_, _≤_}
+use Prim.Native.Nat.{ℕ, suc, _+_, _*_, _-_, _≤_, _<_}
 use lib.Dec.{eqb, ltb, leb}
 use lib.ListN.{length, getD, drop}
 use lib.Seq.{slice}
@@ -17,6 +17,11 @@ use Rattle.reader.specs.declared.pieces.Piece.{Piece}
 abbrev pub numberOr : Option ℕ → ℕ
 numberOr none = 15
 numberOr (some k) = k
+
+-- The tables of the reserved words' letters, seven to a word, and of their lengths.
+pub record Tabled (letters lengths : List ℕ) : Type 0 where
+  pub letter : (k j : ℕ) → j < 7 → getD letters (7 * k + j) 0 ≡ getD (getD reserved k []) j 0
+  pub size : (k : ℕ) → getD lengths k 0 ≡ length (getD reserved k [])
 
 abbrev pub pieceOf : ℕ → ℕ → ℕ → ℕ → Piece
 pieceOf k s e f = record { kind = k; start = s; end = e; fault = f }

@@ -1,20 +1,20 @@
 -- The lengths are those of the reserved words, of which the longest has seven letters.
 -- Assumes nothing.
-use mathlib.Core.List.{[], map}
-use lib.ListN.{length, List·getD-map}
+use mathlib.Core.Path.{_≡_, subst⁻¹}
+use Prim.Native.Nat.{ℕ, _≤_}
 use borrow.Author.Needs.{needs}
-use Rattle.notation.specs.Bytes.{bytes}
-use Rattle.notation.specs.Tokens.{reserved}
-use Rattle.reader.proofs.Spelling.{greatest, at-most}
+use Rattle.reader.proofs.Spelling.{seven}
 use Rattle.reader.proofs.words.length_of.Statement.{statement}
 use Rattle.reader.proofs.words.length_of.Tie as tie
 
-array-read-result : tie.Need-array-read-result
-array-read-result c = search needs
+element-copy-out-result : tie.Need-element-copy-out-result
+element-copy-out-result c = search needs
 
 returns : tie.Need-returns
-unfolding reserved bytes greatest
-returns c = (List·getD-map length reserved (c .args .k) [], at-most (map length reserved) (c .args .k))
+returns c =
+    let start : tie.Start = search in
+    let e = start .pre .0 .size (start .args .k) in
+    (e, subst⁻¹ (λ (n : ℕ). n ≤ 7) e (seven (start .args .k)))
 
 pub length-of-spec : {M : Type 1} → statement M
-length-of-spec = tie.close (tie.spec array-read-result returns)
+length-of-spec = tie.close (tie.spec element-copy-out-result returns)

@@ -1,9 +1,6 @@
 -- The letters are the rows of the reserved words.
 -- Assumes nothing.
 use borrow.Author.Needs.{needs}
-use Rattle.notation.specs.Bytes.{bytes}
-use Rattle.notation.specs.Tokens.{reserved}
-use Rattle.reader.proofs.Spelling.{row, rows, letter-at}
 use Rattle.reader.proofs.words.letter_of.Statement.{statement}
 use Rattle.reader.proofs.words.letter_of.Tie as tie
 
@@ -13,12 +10,13 @@ mul-result c = search needs
 add-result : tie.Need-add-result
 add-result c = search needs
 
-array-read-result : tie.Need-array-read-result
-array-read-result c = search needs
+element-copy-out-result : tie.Need-element-copy-out-result
+element-copy-out-result c = search needs
 
 returns : tie.Need-returns
-unfolding row rows reserved bytes
-returns c = letter-at reserved (c .args .k) (c .args .j) (c .pre .1)
+returns c =
+    let start : tie.Start = search in
+    start .pre .0 .letter (start .args .k) (start .args .j) (start .pre .1 .1)
 
 pub letter-of-spec : {M : Type 1} → statement M
-letter-of-spec = tie.close (tie.spec mul-result add-result array-read-result returns)
+letter-of-spec = tie.close (tie.spec mul-result add-result element-copy-out-result returns)

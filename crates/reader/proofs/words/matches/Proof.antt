@@ -12,10 +12,10 @@ use Rattle.reader.proofs.words.matches.Statement.{statement}
 use Rattle.reader.proofs.words.matches.Tie as tie
 
 abbrev Inv-loop : tie.InvT-loop
-Inv-loop text s e k n j₀ j = Same (slice s e text) (getD reserved k []) n j
+Inv-loop letters lengths text s e k n j₀ j = Same (slice s e text) (getD reserved k []) n j
 
 abbrev μ-loop : tie.MeasureT-loop
-μ-loop text s e k n j₀ j = n - j
+μ-loop letters lengths text s e k n j₀ j = n - j
 
 -- The places that the answers name.
 abbrev Start : Type 0
@@ -28,7 +28,7 @@ abbrev At-loop : Type 0
 At-loop = tie.At-loop Inv-loop μ-loop
 
 length-of-requires : tie.Need-length-of-requires Inv-loop μ-loop
-length-of-requires c κs = c .before .pre .1 .1
+length-of-requires c κs = (c .before .pre .0, c .before .pre .1 .1 .1)
 
 cast-n : tie.Need-cast-n Inv-loop μ-loop
 cast-n c = omega arith
@@ -40,13 +40,13 @@ returns : tie.Need-returns Inv-loop μ-loop
 returns c =
     let start : Start = search in
     lengths-differ _ _
-    (λ z. c .if1 .taken (sym (length-slice _ _ _ (start .pre .1 .0)) ∙ z ∙ sym (c .before .length-of .ensures .0)))
+    (λ z. c .if1 .taken (sym (length-slice _ _ _ (start .pre .1 .1 .0)) ∙ z ∙ sym (c .before .length-of .ensures .0)))
 
 loop-holds : tie.Need-loop-holds Inv-loop μ-loop
 loop-holds c =
     let start : Start = search in
     record {
-      left = length-slice _ _ _ (start .pre .1 .0) ∙ c .if1 .left;
+      left = length-slice _ _ _ (start .pre .1 .1 .0) ∙ c .if1 .left;
       right = sym (c .before .length-of .ensures .0);
       within
           = omega arith;
@@ -60,7 +60,9 @@ shared-slice-read-a : tie.Need-shared-slice-read-a Inv-loop μ-loop
 shared-slice-read-a c = omega arith
 
 letter-of-requires : tie.Need-letter-of-requires Inv-loop μ-loop
-letter-of-requires c κs = omega arith
+letter-of-requires c κs =
+    let start : Start = search in
+    (start .pre .0, (omega arith, omega arith))
 
 -- The letter of the text, at its place in the word.
 letter : (c : In-loop) →

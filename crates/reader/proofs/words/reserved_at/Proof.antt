@@ -1,77 +1,31 @@
--- The invariant: the word's number among all the reserved words is its number among those from k on.
+-- A word that is longer than seven letters is none; any other is looked up in the tables.
 -- Assumes nothing.
-use mathlib.Core.Path.{_≡_, refl, sym, _∙_}
-use Prim.Native.Nat.{_-_, _≤_}
-use native.Mathlib.Omega.{arith}
-use lib.ListN.{drop}
-use lib.Seq.{slice}
-use Rattle.notation.specs.Tokens.{reserved, wordIn}
-use Rattle.reader.proofs.Spelling.{look-hit, look-on, look-none}
+use mathlib.Core.Path.{sym, subst⁻¹}
+use Prim.Native.Nat.{ℕ, _<_}
+use borrow.Author.Needs.{needs}
+use lib.Seq.{length-slice}
+use Rattle.notation.specs.Bytes.{bytes}
+use Rattle.notation.specs.Tokens.{reserved}
+use Rattle.reader.proofs.Spelling.{row, rows, tabled, look-long}
 use Rattle.reader.proofs.words.reserved_at.Statement.{statement}
 use Rattle.reader.proofs.words.reserved_at.Tie as tie
 
-abbrev Inv-loop : tie.InvT-loop
-Inv-loop text s e k₀ k = (k ≤ 15) × (wordIn (slice s e text) (drop k reserved) k ≡ wordIn (slice s e text) reserved 0)
+sub-if1 : tie.Need-sub-if1
+sub-if1 c = search needs
 
-abbrev μ-loop : tie.MeasureT-loop
-μ-loop text s e k₀ k = 15 - k
-
--- The places that the answers name.
-abbrev Start : Type 0
-Start = tie.Start Inv-loop μ-loop
-
-abbrev In-loop : Type 0
-In-loop = tie.In-loop Inv-loop μ-loop
-
-abbrev At-loop : Type 0
-At-loop = tie.At-loop Inv-loop μ-loop
-
-loop-holds : tie.Need-loop-holds Inv-loop μ-loop
-loop-holds c = (omega arith, refl)
-
-matches-requires : tie.Need-matches-requires Inv-loop μ-loop
-matches-requires c κs =
-    let start : Start = search in
-    (start .pre .0, (start .pre .1, c .loop-test .taken))
-
-cast-result : tie.Need-cast-result Inv-loop μ-loop
-cast-result c = omega arith
-
-returns : tie.Need-returns Inv-loop μ-loop
+returns : tie.Need-returns
 returns c =
-    let in-loop : In-loop = search in
-    let at-loop : At-loop = search in
-    look-hit _ _ (at-loop .loop .inv .1) (in-loop .loop-test .taken) (sym (c .before .matches .ensures) ∙ c .if1 .taken)
+    let start : tie.Start = search in
+    look-long _ (subst⁻¹ (λ (n : ℕ). 7 < n) (length-slice _ _ _ (start .pre .1)) (c .if1 .taken))
 
-add-k : tie.Need-add-k Inv-loop μ-loop
-add-k c = omega arith
+number-in-requires : tie.Need-number-in-requires
+unfolding row rows reserved bytes
+number-in-requires c κs =
+    let start : tie.Start = search in
+    (tabled, start .pre)
 
-loop-less : tie.Need-loop-less Inv-loop μ-loop
-loop-less c = omega arith
-
-loop-again : tie.Need-loop-again Inv-loop μ-loop
-loop-again c =
-    let in-loop : In-loop = search in
-    let at-loop : At-loop = search in (
-      omega arith,
-      look-on _ _ (at-loop .loop .inv .1) (in-loop .loop-test .taken)
-          (sym (c .before .matches .ensures) ∙ c .if1 .left),
-    )
-
-returns-2 : tie.Need-returns-2 Inv-loop μ-loop
-returns-2 c = look-none _ _ (c .before .loop .inv .1) (c .loop-test .left)
+returns-2 : tie.Need-returns-2
+returns-2 c = search needs
 
 pub reserved-at-spec : {M : Type 1} → statement M
-reserved-at-spec =
-    tie.close
-    (tie.spec
-    Inv-loop
-    μ-loop
-    loop-holds
-    matches-requires
-    cast-result
-    returns
-    add-k
-    loop-less
-    loop-again
-    returns-2)
+reserved-at-spec = tie.close (tie.spec sub-if1 returns number-in-requires returns-2)
