@@ -1,16 +1,16 @@
--- Looking a word up among the declared names, byte by byte, finds its place among their words, which says whether it is a name and of which kind.
+-- Looking a word up among the declared names, byte by byte or eight bytes at a time, finds its place among their words, which says whether it is a name and of which kind.
 -- Assumes nothing.
 use mathlib.Core.Path.{_≡_, refl, sym, ap, _∙_}
 use mathlib.Core.Bool.{Bool, true, false, cond}
 use mathlib.Core.List.{List, [], _∷_, _++_}
-use Prim.Native.Nat.{ℕ, zero, suc, _+_, _-_, _≤_, _<_}
+use Prim.Native.Nat.{ℕ, zero, suc, _+_, _*_, _-_, _≤_, _<_}
 use native.Mathlib.Nat.{add-zero, zero-add, suc-add, sub-zero}
-use native.Mathlib.Numerals.{add-one}
+use native.Mathlib.Numerals.{add-one, towards-suc}
 use native.Mathlib.Omega.{arith}
 use lib.Dec.{eqb, ltb, leb·suc-suc}
 use lib.ListN.{length, getD, set, length-set}
 use lib.Seq.{slice, slice-cons, slice-empty, length-slice, getD-set-same, getD-set-other}
-use borrow.Author.Tests.{ltb-true, ltb-false, lt-ltb, le-ltb, eq-eqb, ne-eqb}
+use borrow.Author.Tests.{ltb-true, ltb-false, lt-ltb, le-ltb, eq-eqb, ne-eqb, eqb-true, eqb-false}
 use Rattle.notation.specs.Bytes.{sameWord}
 use Rattle.notation.specs.Tokens.{Word}
 use Rattle.notation.specs.Notation.{Kind, sharedName, rowName, commandName}
@@ -18,8 +18,8 @@ use Rattle.notation.specs.Rules.{has}
 use Rattle.notation.specs.Texts.{among, placeOf}
 use Rattle.notation.proofs.Scopes.{or-false}
 use Rattle.reader.specs.declared.cursor.Ledger.{Ledger}
-use Rattle.reader.specs.working.Names.{window, wordAt, wordsIn, sharedWords, rowWords, commandWords, kinded, namesKept}
-use Rattle.reader.proofs.Spelling.{lengths-differ}
+use Rattle.reader.specs.working.Names.{Packed, window, wordAt, wordsIn, sharedWords, rowWords, commandWords, kinded, namesKept}
+use Rattle.reader.proofs.Spelling.{itself, lengths-differ}
 
 -- ---- windows of the text
 
@@ -73,6 +73,65 @@ module _ (text : List ℕ) (a b n : ℕ) where
   pub same-end : (j : ℕ) → n ≤ j → true ≡ sameFrom j
   unfolding sameWord window
   same-end j h = let e : n - j ≡ 0 = omega arith in rw e
+
+-- ---- eight bytes at once
+
+-- The lowest digits of two numbers, and what is above them.
+peel : (x y p q : ℕ) → x < 256 → y < 256 → eqb (x + 256 * p) (y + 256 * q) ≡ cond (eqb x y) (eqb p q) false
+peel x y p q h k = go (eqb x y) refl (eqb p q) refl
+  where
+    go : (s : Bool) → eqb x y ≡ s → (t : Bool) → eqb p q ≡ t → eqb (x + 256 * p) (y + 256 * q) ≡ cond s t false
+    go true e true f = eq-eqb (x + 256 * p) (y + 256 * q) (omega (arith, eqb-true x y e, eqb-true p q f))
+    go true e false f = ne-eqb (x + 256 * p) (y + 256 * q) (λ z. eqb-false p q f (omega (arith, eqb-true x y e, z)))
+    go false e t f = ne-eqb (x + 256 * p) (y + 256 * q) (λ z. eqb-false x y e (omega (arith, z)))
+
+and-and : (x y z : Bool) → cond x (cond y z false) false ≡ cond (cond x y false) z false
+and-and true y z = refl
+and-and false y z = refl
+
+window-eight : (text : List ℕ) (a : ℕ) → window text a 8 ≡
+    getD text a 0 ∷ getD text (a + 1) 0 ∷ getD text (a + 2) 0 ∷ getD text (a + 3) 0 ∷ getD text (a + 4) 0 ∷ getD text (a + 5) 0 ∷ getD text (a + 6) 0 ∷ getD text (a + 7) 0 ∷ []
+unfolding window
+window-eight text a = simp towards-suc
+
+packs-same : (text : List ℕ) (a b x y : ℕ) → Packed text b x → Packed text a y → eqb x y ≡ sameWord (window text b 8) (window text a 8)
+unfolding sameWord
+packs-same text a b x y p q =
+    rw (p .number, q .number, window-eight text a, window-eight text b)
+    (rw (
+      peel _ _ _ _ (p .d0) (q .d0),
+      peel _ _ _ _ (p .d1) (q .d1),
+      peel _ _ _ _ (p .d2) (q .d2),
+      peel _ _ _ _ (p .d3) (q .d3),
+      peel _ _ _ _ (p .d4) (q .d4),
+      peel _ _ _ _ (p .d5) (q .d5),
+      peel _ _ _ _ (p .d6) (q .d6),
+      sym (itself (eqb (getD text (b + 7) 0) (getD text (a + 7) 0))),
+    ))
+
+module _ (text : List ℕ) (a b n : ℕ) where
+  same-run : (m j : ℕ) → j + m ≤ n →
+      sameFrom text a b n j ≡ cond (sameWord (window text (b + j) m) (window text (a + j) m)) (sameFrom text a b n (j + m)) false
+  unfolding sameWord window
+  same-run zero j h = rw (add-zero j)
+  same-run (suc m) j h =
+      let e : j + suc m ≡ j + 1 + m = omega arith in
+      let f : b + (j + 1) ≡ suc (b + j) = omega arith in
+      let g : a + (j + 1) ≡ suc (a + j) = omega arith in
+      same-turn text a b n j (omega arith) ∙
+      rw (same-run m (j + 1) (omega arith), e)
+      (and-and (eqb (getD text (b + j) 0) (getD text (a + j) 0)) (sameWord (window text (b + (j + 1)) m) (window text (a + (j + 1)) m)) (sameFrom text a b n (j + 1 + m)) ∙
+      rw (f, g))
+
+  module _ (j x y : ℕ) (h : j + 8 ≤ n) (p : Packed text (b + j) x) (q : Packed text (a + j) y) where
+    same-eight : sameFrom text a b n j ≡ cond (eqb x y) (sameFrom text a b n (j + 8)) false
+    same-eight = same-run 8 j h ∙ rw (packs-same text (a + j) (b + j) x y p q)
+
+    pub eight-no : (x ≡ y → ⊥) → false ≡ sameFrom text a b n j
+    eight-no d = sym (same-eight ∙ rw (ne-eqb x y d))
+
+    pub eight-more : x ≡ y → sameFrom text a b n (j + 8) ≡ sameFrom text a b n j
+    eight-more d = sym (same-eight ∙ rw (eq-eqb x y d))
 
 -- ---- the place of a word among words
 

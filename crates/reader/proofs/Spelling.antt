@@ -18,7 +18,7 @@ use Rattle.reader.specs.working.Pieces.{numberOr, Tabled}
 
 -- Bytes.
 
-itself : (x : Bool) → x ≡ cond x true false
+pub itself : (x : Bool) → x ≡ cond x true false
 itself true = refl
 itself false = refl
 

@@ -2,14 +2,37 @@
 ghost use mathlib.Core.Path.{_≡_};
 ghost use mathlib.Core.Bool.{cond};
 ghost use Prim.Native.Nat.{_+_, _-_, _≤_, _<_, _^_};
-ghost use lib.ListN.{set};
+ghost use lib.ListN.{length, set};
 ghost use Rattle.notation.specs.Bytes.{sameWord};
 ghost use Rattle.notation.specs.Texts.{placeOf};
 ghost use Rattle.reader.specs.working.Pieces.{nameIn, Fresh};
-ghost use Rattle.reader.specs.working.Names.{window, wordAt, wordsIn};
+ghost use Rattle.reader.specs.working.Names.{Packed, window, wordAt, wordsIn};
 use crate::bytes::byte_at;
 use crate::cursor::Ledger;
 use crate::pieces::Piece;
+
+// A byte as a u64.
+fn lane(x: u8) -> u64
+    ensures { λ r. ⌜ (r ≡ x) × (r < 256) ⌝ }
+{
+    x as u64
+}
+
+// The eight bytes from i on as one number, the first lowest.
+pub fn eight(text: &[u8], i: usize) -> u64
+    requires { ⌜ i + 8 ≤ length (now text) ⌝ }
+    ensures { λ r. ⌜ Packed (now (text .entry)) i r ⌝ }
+{
+    let b0 = lane(text[i]);
+    let b1 = lane(text[i + 1]);
+    let b2 = lane(text[i + 2]);
+    let b3 = lane(text[i + 3]);
+    let b4 = lane(text[i + 4]);
+    let b5 = lane(text[i + 5]);
+    let b6 = lane(text[i + 6]);
+    let b7 = lane(text[i + 7]);
+    b0 + 256 * (b1 + 256 * (b2 + 256 * (b3 + 256 * (b4 + 256 * (b5 + 256 * (b6 + 256 * b7))))))
+}
 
 // Whether the n bytes from b on are those from a on.
 pub fn same_bytes(text: &[u8], a: usize, b: usize, n: usize) -> bool
@@ -26,6 +49,43 @@ pub fn same_bytes(text: &[u8], a: usize, b: usize, n: usize) -> bool
         j += 1;
     }
     true
+}
+
+// The same inside the text.
+pub fn same_inside(text: &[u8], a: usize, b: usize, n: usize) -> bool
+    requires { ⌜ (a + n ≤ length (now text)) × (b + n ≤ length (now text)) ⌝ }
+    ensures { λ r. ⌜ r ≡ sameWord (window (now (text .entry)) b n) (window (now (text .entry)) a n) ⌝ }
+{
+    let mut j: usize = 0;
+    while j < n {
+        let x = text[b + j];
+        let y = text[a + j];
+        if x != y {
+            return false;
+        }
+        j += 1;
+    }
+    true
+}
+
+// The same for a word of the text from b on, eight bytes at a time while there are as many. A name stands before where it is used; what does not is compared byte by byte.
+pub fn same_by_eights(text: &[u8], a: usize, b: usize, n: usize) -> bool
+    requires { ⌜ (a + n < 2 ^ 64) × (b + n ≤ length (now text)) ⌝ }
+    ensures { λ r. ⌜ r ≡ sameWord (window (now (text .entry)) b n) (window (now (text .entry)) a n) ⌝ }
+{
+    if b < a {
+        return same_bytes(text, a, b, n);
+    }
+    let mut j: usize = 0;
+    while 8 <= n - j {
+        let x = eight(text, b + j);
+        let y = eight(text, a + j);
+        if x != y {
+            return false;
+        }
+        j += 8;
+    }
+    same_inside(text, a + j, b + j, n - j)
 }
 
 // An entry of the names, as a usize.
@@ -47,7 +107,7 @@ pub fn is_name(text: &[u8], names: &[u16; 56], i: usize, t: Piece) -> bool
     if e - s != n {
         return false;
     }
-    same_bytes(text, a, s, n)
+    same_by_eights(text, a, s, n)
 }
 
 // The first of the names from..to that the piece t is; `to` where it is none.

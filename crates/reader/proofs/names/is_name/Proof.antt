@@ -1,6 +1,7 @@
 -- `is_name` meets its contract: words of other lengths differ, and one of the same length is a window of the text.
 -- Assumes nothing.
 use mathlib.Core.Path.{_∙_}
+use native.Mathlib.Omega.{arith}
 use borrow.Author.Needs.{needs}
 use Rattle.reader.proofs.Lookup.{other-name, this-name}
 use Rattle.reader.proofs.names.is_name.Statement.{statement}
@@ -38,8 +39,8 @@ returns c =
     other-name _ _ _ _ _ _ _ (p .ordered) (p .inside) (after-wide .wide .ensures .0) (c .before .wide2 .ensures .0)
     (c .if1 .taken)
 
-same-bytes-requires : tie.Need-same-bytes-requires
-same-bytes-requires c κs = search needs
+same-by-eights-requires : tie.Need-same-by-eights-requires
+same-by-eights-requires c κs = omega arith
 
 returns-2 : tie.Need-returns-2
 returns-2 c =
@@ -47,7 +48,7 @@ returns-2 c =
     let after-wide : tie.After-wide = search in
     let start : tie.Start = search in
     let p = start .pre .1 in
-    c .same-bytes .ensures ∙ this-name _ _ _ _ _ _ _ (p .ordered) (p .inside) (after-wide .wide .ensures .0)
+    c .same-by-eights .ensures ∙ this-name _ _ _ _ _ _ _ (p .ordered) (p .inside) (after-wide .wide .ensures .0)
     (after-wide2 .wide2 .ensures .0) (c .before .if1 .left)
 
 pub is-name-spec : {M : Type 1} → statement M
@@ -63,5 +64,5 @@ is-name-spec =
     wide-requires-2
     sub-if1
     returns
-    same-bytes-requires
+    same-by-eights-requires
     returns-2)
