@@ -34,17 +34,29 @@ letter-between b h k = rw (lt-leb 97 b k, le-leb 65 b (omega arith), lt-leb b 90
 pub letter-lower : (b : ℕ) → 97 ≤ b → leb b 122 ≡ letter b
 letter-lower b h = rw (le-leb 97 b h, le-leb 65 b (omega arith), lt-leb b 90 (omega arith)) (itself (leb b 122))
 
-pub word-letter : (b : ℕ) → letter b ≡ true → true ≡ wordByte b
-word-letter b e = rw e
-
 pub word-underscore : (b : ℕ) → b ≡ 95 → true ≡ wordByte b
 word-underscore b e = subst (λ (x : ℕ). true ≡ wordByte x) (sym e) refl
 
-pub word-low : (b : ℕ) → letter b ≡ false → (b ≡ 95 → ⊥) → b < 48 → false ≡ wordByte b
-word-low b e n h = rw (e, lt-leb 48 b h, ne-eqb b 95 n)
+twice : (x : Bool) → x ≡ cond (cond x true false) true false
+twice true = refl
+twice false = refl
 
-pub word-digit : (b : ℕ) → letter b ≡ false → (b ≡ 95 → ⊥) → 48 ≤ b → leb b 57 ≡ wordByte b
-word-digit b e n h = rw (e, le-leb 48 b h, ne-eqb b 95 n) (itself (leb b 57))
+pub word-small : (b : ℕ) → 97 ≤ b → leb b 122 ≡ wordByte b
+word-small b h =
+    let n : b ≡ 95 → ⊥ = λ z. omega arith in
+    rw (le-leb 97 b h, le-leb 65 b (omega arith), lt-leb b 90 (omega arith), le-leb 48 b (omega arith), lt-leb b 57 (omega arith), ne-eqb b 95 n) (twice (leb b 122))
+
+pub word-low : (b : ℕ) → (b ≡ 95 → ⊥) → b < 48 → false ≡ wordByte b
+word-low b n h = rw (lt-leb 97 b (omega arith), lt-leb 65 b (omega arith), lt-leb 48 b h, ne-eqb b 95 n)
+
+pub word-digit : (b : ℕ) → 48 ≤ b → b ≤ 57 → true ≡ wordByte b
+word-digit b h k = rw (lt-leb 97 b (omega arith), lt-leb 65 b (omega arith), le-leb 48 b h, le-leb b 57 k)
+
+pub word-gap : (b : ℕ) → (b ≡ 95 → ⊥) → 57 < b → b < 65 → false ≡ wordByte b
+word-gap b n h k = rw (lt-leb 97 b (omega arith), lt-leb 65 b k, le-leb 48 b (omega arith), lt-leb b 57 h, ne-eqb b 95 n)
+
+pub word-large : (b : ℕ) → (b ≡ 95 → ⊥) → 65 ≤ b → b < 97 → leb b 90 ≡ wordByte b
+word-large b n h k = rw (lt-leb 97 b k, le-leb 65 b h, le-leb 48 b (omega arith), lt-leb b 57 (omega arith), ne-eqb b 95 n) (itself (leb b 90))
 
 -- The tables of letters and lengths.
 

@@ -25,13 +25,12 @@ pub fn is_letter(b: u8) -> bool
     b <= b'z'
 }
 
-// A letter, a digit or an underscore.
+// A letter, a digit or an underscore; most are small letters.
 pub fn is_word(b: u8) -> bool
     ensures { λ r. ⌜ r ≡ wordByte b ⌝ }
 {
-    let named = is_letter(b);
-    if named {
-        return true;
+    if b'a' <= b {
+        return b <= b'z';
     }
     if b == b'_' {
         return true;
@@ -39,7 +38,13 @@ pub fn is_word(b: u8) -> bool
     if b < b'0' {
         return false;
     }
-    b <= b'9'
+    if b <= b'9' {
+        return true;
+    }
+    if b < b'A' {
+        return false;
+    }
+    b <= b'Z'
 }
 
 // The byte at i, or 0 past the end.
