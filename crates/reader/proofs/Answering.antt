@@ -41,7 +41,19 @@ module _ (text : List ℕ) where
     read-model : {s : Arrays} (l : Ledger) → Modelled text zeros s l → _≡_ {A = Reading} (record { answer = Read; code = code s l }) (readingOf text)
     unfolding readingIn codeOf
     read-model l m =
-        (λ t. record { answer = Read; code = record { ops = m .ops t; ends = m .ends t; stars = m .stars t; names = m .names t; shared = m .ledger t .shared; row = m .ledger t .row; commands = m .ledger t .commands } })
+        (λ t. record {
+          answer = Read;
+          code = record {
+            ops = m .ops t;
+            ends = m .ends t;
+            stars = m .stars t;
+            names = m .names t;
+            shared = m .ledger t .shared;
+            row = m .ledger t .row;
+            commands = m .ledger
+                t .commands;
+          };
+        })
         ∙ ap readingIn (sym (fits ∙ m .says))
 
     module _ (s : Arrays) (said : Declared) (k : ModelSays text zeros s said) where

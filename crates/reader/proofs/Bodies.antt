@@ -41,7 +41,9 @@ module _ (text names : List ℕ) (l : Ledger) (c : Cursor) (r : Ready text l 3 c
     pub body-ready : Ready text l 3 d
     body-ready = sign-ready text names l 3 6 c d (Ok d) r e refl
 
-    pub body-says : (p a : List ℕ) (y : Parsed) → Says text names l (testedWords text names l (itemsWords text names l)) 3 d p (tested (length text) (allItems (length text)) 18 (orAt text names inTable l 16 d)) a y → BodySays text names l c p a y
+    pub body-says : (p a : List ℕ) (y : Parsed)
+        → Says text names l (testedWords text names l (itemsWords text names l)) 3 d p
+        (tested (length text) (allItems (length text)) 18 (orAt text names inTable l 16 d)) a y → BodySays text names l c p a y
     unfolding Expected
     body-says p a y h =
         says-from text names l (testedWords text names l (itemsWords text names l)) 3 3 c d (c .items) (c .nodes) p G a y (is-past (e .1)) (omega arith) (omega arith) (omega arith)

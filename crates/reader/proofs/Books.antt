@@ -145,7 +145,8 @@ module _ (text names : List ℕ) (l : Ledger) (c : Cursor) where
         go true k = rw (h, lt-ltb 10 (suc (l .row)) (omega arith))
         go false k = rw (h, lt-ltb 8 (suc (l .shared)) (omega arith))
 
-    pub declares-fits : has (namesKept text names l) (λ s. true) (w .word) ≡ false → l .shared + l .row < 12 → cond rows (l .row) (l .shared) < cond rows 10 8 → fault B (part (declares (kindOf rows)) (name w)) ≡ none
+    pub declares-fits : has (namesKept text names l) (λ s. true) (w .word) ≡ false → l .shared + l .row < 12 → cond rows (l .row) (l .shared) < cond rows 10 8
+        → fault B (part (declares (kindOf rows)) (name w)) ≡ none
     unfolding fault view tally elem exceeds nameCounts
     declares-fits h k f = go rows f
       where

@@ -81,7 +81,8 @@ module _ (text names : List ℕ) (l : Ledger) (c : Cursor) (r : Ready text l 0 c
   abbrev rest : List Lexeme
   rest = tokensFrom text (t .end)
 
-  pub skip-says : {A : Type 0} (code : ℕ → A → Numbered (List ℕ)) (v : A) (G : Got A) (p a : List ℕ) (y : Parsed) → G ≡ ruling (t .start) (fault B (part beginsItem (sign 11))) (got v rest (note B (part beginsItem (sign 11)))) →
+  pub skip-says : {A : Type 0} (code : ℕ → A → Numbered (List ℕ)) (v : A) (G : Got A) (p a : List ℕ) (y : Parsed) → G
+      ≡ ruling (t .start) (fault B (part beginsItem (sign 11))) (got v rest (note B (part beginsItem (sign 11)))) →
       code (c .stars) v ≡ numbered (320 ∷ []) (c .stars) → Skipped text c p a y → Says text names l code 0 c p G a y
   unfolding Says Skipped
   skip-says code v G p a (Refused n i) g one h = (
@@ -94,7 +95,8 @@ module _ (text names : List ℕ) (l : Ledger) (c : Cursor) (r : Ready text l 0 c
       let k = tokened text (t .end) in
       subst (λ (z : Cursor). Done text names l code 0 c p G a z) (sym (h .1 .0)) (record {
         tree = v;
-        says = g ∙ ap (λ (o : Option ℕ). ruling (t .start) o (got v rest (note B (part beginsItem (sign 11))))) (item-fits text names l c (sign 11) (h .0)) ∙ ap (λ (b : Book). got v rest b) (note-item text names l c u (sign 11))
+        says = g ∙ ap (λ (o : Option ℕ). ruling (t .start) o (got v rest (note B (part beginsItem (sign 11))))) (item-fits text names l c (sign 11) (h .0))
+            ∙ ap (λ (b : Book). got v rest b) (note-item text names l c u (sign 11))
             ∙ ap (λ (ts : List Lexeme). got v ts (bookOf text names l (moved u c (c .items + 1) (c .nodes) (c .stars)))) (k .tokens);
         stored = h .1 .1 ∙ ap (λ (z : Numbered (List ℕ)). sets p (c .emitted) (z .is)) (sym one);
         long = ap (λ (z : Numbered (List ℕ)). c .emitted + length (z .is)) (sym one);
@@ -110,7 +112,8 @@ module _ (text names : List ℕ) (l : Ledger) (c : Cursor) (r : Ready text l 0 c
 
   pub row-skip : t .kind ≡ 11 → (p a : List ℕ) (y : Parsed) → Skipped text c p a y → SaysRowItem text names l c p (rowItemAt text names l c) a y
   unfolding sequence find lines skips rowItemWords rowItemOf rowItemCode
-  row-skip u p a y h = skip-says (rowItemWords text names l) RowItem.skip′ (rowItemAt text names l c) p a y (rw (listed-sign text t 11 u (omega arith), reader-token (length text) T.rowItem) refl) refl h
+  row-skip u p a y h = skip-says (rowItemWords text names l) RowItem.skip′ (rowItemAt text names l c) p a y
+      (rw (listed-sign text t 11 u (omega arith), reader-token (length text) T.rowItem) refl) refl h
 
   pub item-skip : t .kind ≡ 11 → (p a : List ℕ) (y : Parsed) → Skipped text c p a y → SaysItem text names l c p (itemAt text names l c) a y
   unfolding sequence find lines skips itemWords itemOf itemCode
@@ -139,12 +142,14 @@ module _ (text names : List ℕ) (l : Ledger) (c : Cursor) (r : Ready text l 0 c
   pub row-assign : t .kind ≡ 24 → (p a : List ℕ) (y : Parsed) → SaysAssign text names l true c p a y → SaysRowItem text names l c p (rowItemAt text names l c) a y
   unfolding rowItemWords rowItemOf rowItemCode exprWords
   row-assign u p a y h =
-      says-map text names l (withWord (exprWords text names l) (192 + bitIn text names l true c)) (rowItemWords text names l) 0 c p (assignAt text names l true c) (rowItemAt text names l c) (λ e. RowItem.set′ (nameIn text t) e) a y (row-assign-is u) (λ e. refl) h
+      says-map text names l (withWord (exprWords text names l) (192 + bitIn text names l true c)) (rowItemWords text names l) 0 c p
+      (assignAt text names l true c) (rowItemAt text names l c) (λ e. RowItem.set′ (nameIn text t) e) a y (row-assign-is u) (λ e. refl) h
 
   pub item-assign : t .kind ≡ 24 → (p a : List ℕ) (y : Parsed) → SaysAssign text names l false c p a y → SaysItem text names l c p (itemAt text names l c) a y
   unfolding itemWords itemOf itemCode exprWords
   item-assign u p a y h =
-      says-map text names l (withWord (exprWords text names l) (192 + bitIn text names l false c)) (itemWords text names l) 0 c p (assignAt text names l false c) (itemAt text names l c) (λ e. Item.set′ (nameIn text t) e) a y (item-assign-is u) (λ e. refl) h
+      says-map text names l (withWord (exprWords text names l) (192 + bitIn text names l false c)) (itemWords text names l) 0 c p
+      (assignAt text names l false c) (itemAt text names l c) (λ e. Item.set′ (nameIn text t) e) a y (item-assign-is u) (λ e. refl) h
 
   -- ---- an assignment: its name, `:=` and its expression
 
@@ -207,7 +212,8 @@ module _ (text names : List ℕ) (l : Ledger) (c : Cursor) (r : Ready text l 0 c
 
     pub assign-unknown : i ≡ to → assignAt text names l rows c ≡ stop 5 (t .start)
     unfolding assignAt
-    assign-unknown z = ap (λ (o : Option ℕ). ruling (t .start) o (valued (note B role))) (target-unknown text names l c (nameIn text t) (kindOf rows) (seen ∙ found-out w words (to - from) (i - from) many found (omega (arith, ordered))))
+    assign-unknown z = ap (λ (o : Option ℕ). ruling (t .start) o (valued (note B role)))
+        (target-unknown text names l c (nameIn text t) (kindOf rows) (seen ∙ found-out w words (to - from) (i - from) many found (omega (arith, ordered))))
 
     module _ (z : i ≡ to → ⊥) where
       known : has (namesKept text names l) (sameKind (kindOf rows)) w ≡ true
@@ -239,7 +245,9 @@ module _ (text names : List ℕ) (l : Ledger) (c : Cursor) (r : Ready text l 0 c
               go false = refl
 
           assign-value : assignAt text names l rows c ≡ orAt text names sc l 16 v
-          assign-value = assign-goes ∙ ap (λ (o : Got (Unit {0})). thenReads o (λ u ts b. orReader (length text) (modeIn rows) 0 ts b)) (expected-ok text names l d 20 v (omega arith) e) ∙ ap (λ (m : Mode). orReader (length text) m 0 (listed text (v .next)) (bookOf text names l v)) mode-is
+          assign-value = assign-goes ∙ ap (λ (o : Got (Unit {0})). thenReads o (λ u ts b. orReader (length text) (modeIn rows) 0 ts b))
+              (expected-ok text names l d 20 v (omega arith) e)
+              ∙ ap (λ (m : Mode). orReader (length text) m 0 (listed text (v .next)) (bookOf text names l v)) mode-is
 
           pub value-ready : Ready text l 1 v
           value-ready =
@@ -288,7 +296,11 @@ module _ (text names : List ℕ) (l : Ledger) (c : Cursor) (r : Ready text l 0 c
       unfolding itemWords itemOf itemCode exprWords rowItemsWords
       for-words v = simp append-assoc
 
-      pub for-says : (p a : List ℕ) (y : Parsed) → Says text names l forWords 3 d p (tested (length text) (allRows (length text)) 10 (orAt text names inRow l 16 d)) a y → SaysItem text names l c p (itemAt text names l c) a y
+      pub for-says : (p a : List ℕ) (y : Parsed)
+          → Says text names l forWords 3 d p (tested (length text) (allRows (length text)) 10 (orAt text names inRow l 16 d)) a y
+          → SaysItem text names l c p (itemAt text names l c) a y
       for-says p a y s =
-          says-map text names l forWords (itemWords text names l) 0 c p (tested (length text) (allRows (length text)) 10 (orAt text names inRow l 16 d)) (itemAt text names l c) made a y for-goes for-words
-          (says-from text names l forWords 3 0 c d (c .items + 1) (c .nodes) p (tested (length text) (allRows (length text)) 10 (orAt text names inRow l 16 d)) a y q (omega arith) (omega arith) (omega arith) s)
+          says-map text names l forWords (itemWords text names l) 0 c p (tested (length text) (allRows (length text)) 10 (orAt text names inRow l 16 d))
+          (itemAt text names l c) made a y for-goes for-words
+          (says-from text names l forWords 3 0 c d (c .items + 1) (c .nodes) p
+          (tested (length text) (allRows (length text)) 10 (orAt text names inRow l 16 d)) a y q (omega arith) (omega arith) (omega arith) s)

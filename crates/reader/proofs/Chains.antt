@@ -37,7 +37,8 @@ pub record Chain (text names : List ℕ) (l : Ledger) : Type 0 where
   pub operand : List Lexeme → Book → Got Expr
   pub loop : Expr → List Lexeme → Book → Got Expr
   pub small : op < 24
-  pub turn : (e : Expr) (i : ℕ) (ts : List Lexeme) (b : Book) → loop e (at i (some (sign op)) ∷ ts) b ≡ ruling i (fault b (part joins (sign op))) (thenReads (operand ts (note b (part joins (sign op)))) (λ f ts b. loop (join e f) ts b))
+  pub turn : (e : Expr) (i : ℕ) (ts : List Lexeme) (b : Book) → loop e (at i (some (sign op)) ∷ ts) b
+      ≡ ruling i (fault b (part joins (sign op))) (thenReads (operand ts (note b (part joins (sign op)))) (λ f ts b. loop (join e f) ts b))
   pub stops : (t : Piece) (e : Expr) (b : Book) → (t .kind ≡ op → ⊥) → loop e (listed text t) b ≡ got e (listed text t) b
   pub words : (k : ℕ) (x y : Expr) → exprWords text names l k (join x y) .is ≡ exprWords text names l k x .is ++ (exprWords text names l (exprWords text names l k x .next) y .is ++ word ∷ [])
   pub next : (k : ℕ) (x y : Expr) → exprWords text names l k (join x y) .next ≡ exprWords text names l (exprWords text names l k x .next) y .next
@@ -135,7 +136,8 @@ module _ (text names : List ℕ) (l : Ledger) where
         after = thenReads (K .operand (tokensFrom text (c .next .end)) (note (bookOf text names l c) (part joins (sign (K .op))))) (λ y ts b. K .loop (K .join (h .done .tree) y) ts b)
 
         turned : g ≡ ruling (c .next .start) (fault (bookOf text names l c) (part joins (sign (K .op)))) after
-        turned = h .says ∙ ap (λ (ts : List Lexeme). K .loop (h .done .tree) ts (bookOf text names l c)) (listed-sign text (c .next) (K .op) u (K .small)) ∙ K .turn (h .done .tree) (c .next .start) (tokensFrom text (c .next .end)) (bookOf text names l c)
+        turned = h .says ∙ ap (λ (ts : List Lexeme). K .loop (h .done .tree) ts (bookOf text names l c)) (listed-sign text (c .next) (K .op) u (K .small))
+            ∙ K .turn (h .done .tree) (c .next .start) (tokensFrom text (c .next .end)) (bookOf text names l c)
 
         pub rest-full : 1024 ≤ c .nodes → SaysExpr text names l s p g b (Refused 7 (c .next .start))
         rest-full x =
@@ -149,7 +151,8 @@ module _ (text names : List ℕ) (l : Ledger) where
 
           goes : g ≡ thenReads right (λ y ts b. K .loop (K .join (h .done .tree) y) ts b)
           goes = turned ∙ ap (λ (o : Option ℕ). ruling (c .next .start) o after) (joins-fits text names l c (sign (K .op)) x)
-              ∙ ap (λ (v : Book). thenReads (K .operand (tokensFrom text (c .next .end)) v) (λ y ts b. K .loop (K .join (h .done .tree) y) ts b)) (note-joins text names l c (d .next) (sign (K .op)) ∙ ap (bookOf text names l) (sym (q .is)))
+              ∙ ap (λ (v : Book). thenReads (K .operand (tokensFrom text (c .next .end)) v) (λ y ts b. K .loop (K .join (h .done .tree) y) ts b))
+              (note-joins text names l c (d .next) (sign (K .op)) ∙ ap (bookOf text names l) (sym (q .is)))
               ∙ ap (λ (ts : List Lexeme). thenReads (K .operand ts (bookOf text names l d)) (λ y ts b. K .loop (K .join (h .done .tree) y) ts b)) (q .next .tokens)
 
           pub rest-bad : (m : List ℕ) (r : Parsed) (n i : ℕ) → SaysExpr text names l d b right m r → r ≡ Refused n i → SaysExpr text names l s p g m r
@@ -200,7 +203,8 @@ module _ (text names : List ℕ) (l : Ledger) where
                     ap length whole ∙ length-append first (second ++ K .word ∷ []) ∙ ap (λ (i : ℕ). length first + i) (length-append second (K .word ∷ [])) in
                     omega (arith, a, long-second, h .done .long);
                 numbered = e .numbered ∙ ap (λ (k : ℕ). exprWords text names l k (e .tree) .next) same-stars ∙ sym (K .next (s .stars) (h .done .tree) (e .tree));
-                level = let n : d .nodes ≡ c .nodes + 1 = ap (λ (z : Cursor). z .nodes) (q .is) in let i : d .items ≡ c .items = ap (λ (z : Cursor). z .items) (q .is) in omega (arith, e .level, h .done .level, same-place);
+                level = let n : d .nodes ≡ c .nodes + 1 = ap (λ (z : Cursor). z .nodes) (q .is) in let i : d .items
+                    ≡ c .items = ap (λ (z : Cursor). z .items) (q .is) in omega (arith, e .level, h .done .level, same-place);
                 moreNodes = let n : d .nodes ≡ c .nodes + 1 = ap (λ (z : Cursor). z .nodes) (q .is) in omega (arith, e .moreNodes, h .done .moreNodes);
                 moreItems = let i : d .items ≡ c .items = ap (λ (z : Cursor). z .items) (q .is) in omega (arith, e .moreItems, h .done .moreItems);
                 nodes = e .nodes;

@@ -57,16 +57,21 @@ module _ (ws vs : List Word) (l : Ledger) (i : ℕ) (xs ys : List Command) (s : 
   pub stored-append : storedIn ws vs (withCommands (length xs) l) (i + length (joined (codes xs))) ys (storedIn ws vs l i xs s) ≡ storedIn ws vs l i (xs ++ ys) s
   stored-append = λ t. record { names = names t; ops = ops t; ends = ends t; stars = stars t }
     where
-      names : placed (placed (s .names) (l .shared + l .row + l .commands) (map titleOf xs)) (l .shared + l .row + (l .commands + length xs)) (map titleOf ys) ≡ placed (s .names) (l .shared + l .row + l .commands) (map titleOf (xs ++ ys))
+      names : placed (placed (s .names) (l .shared + l .row + l .commands) (map titleOf xs)) (l .shared + l .row + (l .commands + length xs)) (map titleOf ys)
+          ≡ placed (s .names) (l .shared + l .row + l .commands) (map titleOf (xs ++ ys))
       names =
           let z : l .shared + l .row + (l .commands + length xs) ≡ l .shared + l .row + l .commands + length (map titleOf xs) = omega (arith, length-map xs titleOf) in
           ap (λ (k : ℕ). placed (placed (s .names) (l .shared + l .row + l .commands) (map titleOf xs)) k (map titleOf ys)) z
-          ∙ sym (placed-append (map titleOf xs) (map titleOf ys) (s .names) (l .shared + l .row + l .commands)) ∙ ap (λ (ns : List Name). placed (s .names) (l .shared + l .row + l .commands) ns) (sym (map-append (titleOf) xs ys))
+          ∙ sym (placed-append (map titleOf xs) (map titleOf ys) (s .names) (l .shared + l .row + l .commands))
+          ∙ ap (λ (ns : List Name). placed (s .names) (l .shared + l .row + l .commands) ns) (sym (map-append (titleOf) xs ys))
 
       ops : sets (sets (s .ops) i (joined (codes xs))) (i + length (joined (codes xs))) (joined (codes ys)) ≡ sets (s .ops) i (joined (codes (xs ++ ys)))
-      ops = sym (sets-append (joined (codes xs)) (joined (codes ys)) (s .ops) i) ∙ ap (λ (z : List ℕ). sets (s .ops) i z) (sym (joined-append (codes xs) (codes ys)) ∙ ap joined (sym (map-append (commandWords ws vs (l .shared)) xs ys)))
+      ops = sym (sets-append (joined (codes xs)) (joined (codes ys)) (s .ops) i)
+          ∙ ap (λ (z : List ℕ). sets (s .ops) i z)
+          (sym (joined-append (codes xs) (codes ys)) ∙ ap joined (sym (map-append (commandWords ws vs (l .shared)) xs ys)))
 
-      ends : sets (sets (s .ends) (4 + l .commands) (endsFrom i (codes xs))) (4 + (l .commands + length xs)) (endsFrom (i + length (joined (codes xs))) (codes ys)) ≡ sets (s .ends) (4 + l .commands) (endsFrom i (codes (xs ++ ys)))
+      ends : sets (sets (s .ends) (4 + l .commands) (endsFrom i (codes xs))) (4 + (l .commands + length xs))
+          (endsFrom (i + length (joined (codes xs))) (codes ys)) ≡ sets (s .ends) (4 + l .commands) (endsFrom i (codes (xs ++ ys)))
       ends =
           let z : 4 + (l .commands + length xs) ≡ 4 + l .commands + length (endsFrom i (codes xs)) = omega (arith, ends-length i (codes xs), length-map xs (commandWords ws vs (l .shared))) in
           ap (λ (k : ℕ). sets (sets (s .ends) (4 + l .commands) (endsFrom i (codes xs))) k (endsFrom (i + length (joined (codes xs))) (codes ys))) z
@@ -169,7 +174,8 @@ module _ (text : List ℕ) where
     goes : commandsAt text (s .names) l c ≡ rest (oneAt text (s′ .names) l′ c′)
     goes = h .says ∙ ap (λ (o : Got (List Command)). thenReads o (λ ys ts b. got (h .tree ++ ys) ts b)) (commands-is text (s′ .names) l′ c′ (h .kind))
 
-    pub going-bad : (r : Declared) (n i : ℕ) (t : Arrays) → CommandsSay text l′ c′ s′ (oneAt text (s′ .names) l′ c′) t r → r ≡ D.Refused n i → CommandsSay text l c s (commandsAt text (s .names) l c) t r
+    pub going-bad : (r : Declared) (n i : ℕ) (t : Arrays) → CommandsSay text l′ c′ s′ (oneAt text (s′ .names) l′ c′) t r → r ≡ D.Refused n i
+        → CommandsSay text l c s (commandsAt text (s .names) l c) t r
     unfolding CommandsSay
     going-bad r n i t d e =
         let k : CommandsSay text l′ c′ s′ (oneAt text (s′ .names) l′ c′) t (D.Refused n i) = subst (λ (z : Declared). CommandsSay text l′ c′ s′ (oneAt text (s′ .names) l′ c′) t z) e d in
@@ -206,7 +212,8 @@ module _ (text : List ℕ) where
 
       -- the second list is stored where the first ends
       placed-is : t ≡ storedIn ws vs l′ (c′ .emitted) (one .tree) s′
-      placed-is = one .stored ∙ ap (λ (z : List Word). storedIn z (rowWords text (s′ .names) l′) l′ (c′ .emitted) (one .tree) s′) (h .shared) ∙ ap (λ (z : List Word). storedIn ws z l′ (c′ .emitted) (one .tree) s′) (h .row)
+      placed-is = one .stored ∙ ap (λ (z : List Word). storedIn z (rowWords text (s′ .names) l′) l′ (c′ .emitted) (one .tree) s′) (h .shared)
+          ∙ ap (λ (z : List Word). storedIn ws z l′ (c′ .emitted) (one .tree) s′) (h .row)
 
       stored-is : t ≡ storedIn ws vs l (c .emitted) xs s
       stored-is =
@@ -225,7 +232,8 @@ module _ (text : List ℕ) where
           ∙ ap (λ (z : List Word). c′ .emitted + length (joined (map (commandWords ws z (l′ .shared)) (one .tree)))) (h .row)
           ∙ ap (λ (z : Ledger). c′ .emitted + length (joined (map (commandWords ws vs (z .shared)) (one .tree)))) (h .ledger) in
           let b : length (codes′ xs) ≡ length (codes′ (h .tree)) + length (codes′ (one .tree)) =
-          ap (λ (z : List (List ℕ)). length (joined z)) (map-append (commandWords ws vs (l .shared)) (h .tree) (one .tree)) ∙ ap length (joined-append (map (commandWords ws vs (l .shared)) (h .tree)) (map (commandWords ws vs (l .shared)) (one .tree)))
+          ap (λ (z : List (List ℕ)). length (joined z)) (map-append (commandWords ws vs (l .shared)) (h .tree) (one .tree))
+          ∙ ap length (joined-append (map (commandWords ws vs (l .shared)) (h .tree)) (map (commandWords ws vs (l .shared)) (one .tree)))
           ∙ length-append (codes′ (h .tree)) (codes′ (one .tree)) in
           omega (arith, a, b, h .place)
 
@@ -256,7 +264,8 @@ module _ (text : List ℕ) where
       going-stop u = record {
         tree = xs;
         some = omega (arith, one .some, length-append (h .tree) (one .tree));
-        says = says-is ∙ ap (λ (o : Got (List Command)). thenReads o (λ ys ts b. got (xs ++ ys) ts b)) (commands-end text (t .names) k d u) ∙ ap (λ (z : List Command). got z (listed text (d .next)) (bookOf text (t .names) k d)) (append-nil xs);
+        says = says-is ∙ ap (λ (o : Got (List Command)). thenReads o (λ ys ts b. got (xs ++ ys) ts b)) (commands-end text (t .names) k d u)
+            ∙ ap (λ (z : List Command). got z (listed text (d .next)) (bookOf text (t .names) k d)) (append-nil xs);
         stored = stored-is;
         place = place-is;
         ledger = ledger-is;

@@ -132,10 +132,12 @@ module _ (text names ops ends stars : List ℕ) (l : Ledger) (c : Cursor) (g : N
       code = commandWords (sharedWords text names l) (rowWords text names l) (l .shared) x
 
       shared-same : sharedWords text names′ l′ ≡ sharedWords text names l
-      shared-same = ap (λ (z : Ledger). sharedWords text names′ z) (T .ledger) ∙ ap (λ (z : List ℕ). sharedWords text z (withCommands 1 l)) (T .stored) ∙ kept-shared text names j (T .tree) (omega (arith, g .ready .names, T .few)) (withCommands 1 l) (omega arith)
+      shared-same = ap (λ (z : Ledger). sharedWords text names′ z) (T .ledger) ∙ ap (λ (z : List ℕ). sharedWords text z (withCommands 1 l)) (T .stored)
+          ∙ kept-shared text names j (T .tree) (omega (arith, g .ready .names, T .few)) (withCommands 1 l) (omega arith)
 
       row-same : rowWords text names′ l′ ≡ rowWords text names l
-      row-same = ap (λ (z : Ledger). rowWords text names′ z) (T .ledger) ∙ ap (λ (z : List ℕ). rowWords text z (withCommands 1 l)) (T .stored) ∙ kept-row text names j (T .tree) (omega (arith, g .ready .names, T .few)) (withCommands 1 l) (omega arith)
+      row-same = ap (λ (z : Ledger). rowWords text names′ z) (T .ledger) ∙ ap (λ (z : List ℕ). rowWords text z (withCommands 1 l)) (T .stored)
+          ∙ kept-row text names j (T .tree) (omega (arith, g .ready .names, T .few)) (withCommands 1 l) (omega arith)
 
       from-zero : d .stars ≡ 0
       from-zero = ap (λ (z : Cursor). z .stars) same
@@ -164,7 +166,8 @@ module _ (text names ops ends stars : List ℕ) (l : Ledger) (c : Cursor) (g : N
         tree = x ∷ [];
         some = omega arith;
         says = titled-is ∙ ap (λ (o : Got (Tested Item)). thenReads (thenReads o (λ v ts b. got (made (T .tree) v) ts b)) (λ x ts b. got (x ∷ []) ts b)) (done .says);
-        stored = λ t. arrays (T .stored t) ((ops-are ∙ ap (λ (z : List ℕ). sets ops (c .emitted) z) (sym (append-nil code))) t) (set ends (4 + l .commands) (place-is t)) (set stars (l .commands) (stars-are t));
+        stored = λ t. arrays (T .stored t) ((ops-are ∙ ap (λ (z : List ℕ). sets ops (c .emitted) z) (sym (append-nil code))) t)
+            (set ends (4 + l .commands) (place-is t)) (set stars (l .commands) (stars-are t));
         place = place-is ∙ ap (λ (z : List ℕ). c .emitted + length z) (sym (append-nil code));
         ledger = T .ledger;
         naming = record { ready = done-ready text names′ l′ W 3 d ops body ops′ 0 v title-ready done; long = ap length (T .stored) ∙ placed-length names j (T .tree) ∙ g .long };

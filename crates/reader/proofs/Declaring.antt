@@ -107,7 +107,9 @@ module _ (text names : List ℕ) (l : Ledger) (rows : Bool) (c : Cursor) (g : Li
   unfolding namesKept wordsIn
   named-more = rw (g .commands, shared-one, row-one) (go rows (g .order))
     where
-      go : (x : Bool) → (x ≡ false → l .row ≡ 0) → kinded sharedName (sharedWords text names l ++ cond x [] (w .word ∷ [])) ++ (kinded rowName (rowWords text names l ++ cond x (w .word ∷ []) []) ++ [])
+      go : (x : Bool) → (x ≡ false → l .row ≡ 0)
+          → kinded sharedName (sharedWords text names l ++ cond x [] (w .word ∷ [])) ++
+          (kinded rowName (rowWords text names l ++ cond x (w .word ∷ []) []) ++ [])
           ≡ kinded sharedName (sharedWords text names l) ++ (kinded rowName (rowWords text names l) ++ []) ++ (w .word, kindOf x) ∷ []
       go true o = rw (append-nil (sharedWords text names l)) (row-kinds (sharedWords text names l) (rowWords text names l) (w .word))
       go false o = rw (o refl) (shared-kinds (sharedWords text names l) (w .word))

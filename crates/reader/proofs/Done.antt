@@ -75,7 +75,17 @@ module _ {A : Type 0} (text names : List ℕ) (l : Ledger) (code : ℕ → A →
 
   -- What follows may be read where this was.
   pub done-ready : (spare : ℕ) (c : Cursor) → Ready text l (extra + spare) s → Done text names l code extra s p g b c → Ready text l spare c
-  done-ready spare c r d = record { fits = r .fits; fresh = d .fresh; names = r .names; commands = r .commands; items = d .items; nodes = d .nodes; stars = d .stars; room = omega (arith, r .room, d .level) }
+  done-ready spare c r d = record {
+    fits = r .fits;
+    fresh = d .fresh;
+    names = r .names;
+    commands = r .commands;
+    items = d .items;
+    nodes = d .nodes;
+    stars =
+        d .stars;
+    room = omega (arith, r .room, d .level);
+  }
 
 -- ---- one after the other
 

@@ -72,8 +72,10 @@ module _ (text names : List ℕ) (sc : Scope) (l : Ledger) (depth : ℕ) (c : Cu
 
   -- One token that is a node: what its role asks, what it leaves in the book, and its code word.
   pub leaf-says : (role : Role) (tok : Token) (e : Expr) (code stars : ℕ) (p a : List ℕ) (y : Parsed) →
-      G ≡ ruling (t .start) (fault B (part role tok)) (got e rest (note B (part role tok))) → (1024 ≤ c .nodes → fault B (part role tok) ≡ some 7) → (c .nodes < 1024 → fault B (part role tok) ≡ none) →
-      ((u : Piece) → note B (part role tok) ≡ bookOf text names l (moved u c (c .items) (c .nodes + 1) stars)) → exprWords text names l (c .stars) e .is ≡ code ∷ [] → exprWords text names l (c .stars) e .next ≡ stars → stars ≤ 8 →
+      G ≡ ruling (t .start) (fault B (part role tok)) (got e rest (note B (part role tok))) → (1024 ≤ c .nodes → fault B (part role tok) ≡ some 7)
+      → (c .nodes < 1024 → fault B (part role tok) ≡ none) →
+      ((u : Piece) → note B (part role tok) ≡ bookOf text names l (moved u c (c .items) (c .nodes + 1) stars)) → exprWords text names l (c .stars) e .is
+      ≡ code ∷ [] → exprWords text names l (c .stars) e .next ≡ stars → stars ≤ 8 →
       Leaf text c code stars p a y → SaysOperand text names l c p G a y
   unfolding Leaf Says Kept
   leaf-says role tok e code stars p a (Refused n i) g full fits noted one next few h = (
@@ -119,8 +121,10 @@ module _ (text names : List ℕ) (sc : Scope) (l : Ledger) (depth : ℕ) (c : Cu
       open-goes =
           let x : suc (16 - depth) ≡ 16 - (depth - 1) = omega arith in
           open-is text t len m (16 - depth) B h ∙ ap (λ (o : Option ℕ). ruling (t .start) o inside) (opens-fits text names l c (sign 21) (suc (16 - depth)) (omega arith))
-          ∙ ap (λ (b : Book). thenReads (orReader len m (suc (16 - depth)) rest b) (λ e ts b. thenReads (reader len (lit 22) ts b) (λ u ts b. got e ts b))) (note-opens text names l c (d .next) (suc (16 - depth)) (sign 21) ∙ ap (bookOf text names l) (sym (q .is)))
-          ∙ ap (λ (ts : List Lexeme). thenReads (orReader len m (suc (16 - depth)) ts (bookOf text names l d)) (λ e ts b. thenReads (reader len (lit 22) ts b) (λ u ts b. got e ts b))) (q .next .tokens)
+          ∙ ap (λ (b : Book). thenReads (orReader len m (suc (16 - depth)) rest b) (λ e ts b. thenReads (reader len (lit 22) ts b) (λ u ts b. got e ts b)))
+          (note-opens text names l c (d .next) (suc (16 - depth)) (sign 21) ∙ ap (bookOf text names l) (sym (q .is)))
+          ∙ ap (λ (ts : List Lexeme). thenReads (orReader len m (suc (16 - depth)) ts (bookOf text names l d))
+          (λ e ts b. thenReads (reader len (lit 22) ts b) (λ u ts b. got e ts b))) (q .next .tokens)
           ∙ ap (λ (n : ℕ). thenReads (orReader len m n (listed text (d .next)) (bookOf text names l d)) (λ e ts b. thenReads (reader len (lit 22) ts b) (λ u ts b. got e ts b))) x
 
       pub open-ready : Ready text l 0 d
@@ -136,7 +140,8 @@ module _ (text names : List ℕ) (sc : Scope) (l : Ledger) (depth : ℕ) (c : Cu
       }
 
       -- what was read in the parentheses, and the closing one
-      closes : (p a : List ℕ) (v w : Cursor) (s : Done text names l (exprWords text names l) 0 d p (orAt text names sc l (depth - 1) d) a v) → Expected text v 22 (Ok w) → Done text names l (exprWords text names l) 0 c p G a w
+      closes : (p a : List ℕ) (v w : Cursor) (s : Done text names l (exprWords text names l) 0 d p (orAt text names sc l (depth - 1) d) a v)
+          → Expected text v 22 (Ok w) → Done text names l (exprWords text names l) 0 c p G a w
       unfolding Expected
       closes p a v w s e =
           let z : Past text v (v .items) (v .nodes) (v .stars) w = is-past (e .1) in
@@ -153,7 +158,8 @@ module _ (text names : List ℕ) (sc : Scope) (l : Ledger) (depth : ℕ) (c : Cu
             says = open-goes ∙ ap (λ (o : Got Expr). thenReads o (λ e ts b. thenReads (reader len (lit 22) ts b) (λ u ts b. got e ts b))) (s .says)
                 ∙ ap (λ (o : Got (Unit {0})). thenReads o (λ u ts b. got (s .tree) ts b)) (expected-ok text names l v 22 w (omega arith) e);
             stored = s .stored ∙ ap (λ (i : ℕ). sets p i (exprWords text names l (d .stars) (s .tree) .is)) same ∙ ap (λ (k : ℕ). sets p (c .emitted) (exprWords text names l k (s .tree) .is)) from;
-            long = same′ ∙ s .long ∙ ap (λ (i : ℕ). i + length (exprWords text names l (d .stars) (s .tree) .is)) same ∙ ap (λ (k : ℕ). c .emitted + length (exprWords text names l k (s .tree) .is)) from;
+            long = same′ ∙ s .long ∙ ap (λ (i : ℕ). i + length (exprWords text names l (d .stars) (s .tree) .is)) same
+                ∙ ap (λ (k : ℕ). c .emitted + length (exprWords text names l k (s .tree) .is)) from;
             numbered = from′ ∙ s .numbered ∙ ap (λ (k : ℕ). exprWords text names l k (s .tree) .next) from;
             level = omega (arith, s .level);
             moreNodes = omega (arith, s .moreNodes);
@@ -196,7 +202,8 @@ module _ (text names : List ℕ) (sc : Scope) (l : Ledger) (depth : ℕ) (c : Cu
         not-goes =
             let y : suc (16 - depth) ≡ 16 - (depth - 1) = omega arith in
             not-is text t len m (16 - depth) B h ∙ ap (λ (o : Option ℕ). ruling (t .start) o below) (negates-fits text names l c (sign 14) (suc (16 - depth)) (omega arith) x)
-            ∙ ap (λ (b : Book). thenReads (reader len (factor m (suc (16 - depth))) rest b) (λ e ts b. got (not′ e) ts b)) (note-negates text names l c (d .next) (suc (16 - depth)) (sign 14) ∙ ap (bookOf text names l) (sym (q .is)))
+            ∙ ap (λ (b : Book). thenReads (reader len (factor m (suc (16 - depth))) rest b) (λ e ts b. got (not′ e) ts b))
+            (note-negates text names l c (d .next) (suc (16 - depth)) (sign 14) ∙ ap (bookOf text names l) (sym (q .is)))
             ∙ ap (λ (ts : List Lexeme). thenReads (reader len (factor m (suc (16 - depth))) ts (bookOf text names l d)) (λ e ts b. got (not′ e) ts b)) (q .next .tokens)
             ∙ ap (λ (n : ℕ). thenReads (reader len (factor m n) (listed text (d .next)) (bookOf text names l d)) (λ e ts b. got (not′ e) ts b)) y
 

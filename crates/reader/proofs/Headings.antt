@@ -165,7 +165,8 @@ module _ (text names : List ℕ) (first : Piece) (t : Tokened text 0 first) wher
       unfolding wordsIn
       both m′ d l′ r =
           let vs = r .tree in
-          let ledger : l′ ≡ record { shared = length ws; row = length vs; commands = 0 } = r .ledger ∙ ap (grown true (length vs)) (noted-shared .ledger) ∙ rw (zero-add (length ws), zero-add (length vs)) in
+          let ledger : l′ ≡ record { shared = length ws; row = length vs; commands = 0 } = r .ledger ∙ ap (grown true (length vs)) (noted-shared .ledger)
+          ∙ rw (zero-add (length ws), zero-add (length vs)) in
           let same : d ≡ record { next = d .next; emitted = 0; items = 0; nodes = 0; stars = 0 } = r .same ∙ ap (onto d) (noted-shared .same) in
           record {
             tree = pairOf ws vs;

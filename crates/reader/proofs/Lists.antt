@@ -40,7 +40,8 @@ module _ (text names : List ℕ) (l : Ledger) where
   row-nil k = refl
 
   pub row-cons : (k : ℕ) (x : RowItem) (xs : List RowItem) → rowItemsWords text names l k (x ∷ xs) ≡
-      numbered (rowItemWords text names l k x .is ++ rowItemsWords text names l (rowItemWords text names l k x .next) xs .is) (rowItemsWords text names l (rowItemWords text names l k x .next) xs .next)
+      numbered (rowItemWords text names l k x .is ++ rowItemsWords text names l (rowItemWords text names l k x .next) xs .is)
+      (rowItemsWords text names l (rowItemWords text names l k x .next) xs .next)
   unfolding rowItemWords rowItemsWords rowItemsOf rowItemsCode
   row-cons k x xs = refl
 

@@ -177,7 +177,8 @@ module _ (w : Word) where
   place-append [] vs h = sym (zero-add (placeOf w vs))
   place-append (v ∷ ws) vs h = go (sameWord w v) h (place-append ws vs)
     where
-      go : (x : Bool) → cond x true (among w ws) ≡ false → (among w ws ≡ false → placeOf w (ws ++ vs) ≡ length ws + placeOf w vs) → cond x 0 (suc (placeOf w (ws ++ vs))) ≡ suc (length ws) + placeOf w vs
+      go : (x : Bool) → cond x true (among w ws) ≡ false → (among w ws ≡ false → placeOf w (ws ++ vs) ≡ length ws + placeOf w vs)
+          → cond x 0 (suc (placeOf w (ws ++ vs))) ≡ suc (length ws) + placeOf w vs
       go true h f = cc
       go false h f = omega (arith, f h)
 

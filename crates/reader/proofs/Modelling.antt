@@ -78,9 +78,14 @@ module _ (text names : List ℕ) (l : Ledger) (c : Cursor) (p e a e′ : List �
       ends =
           q .ends ∙ ap (λ (z : List ℕ). sets z 2 (clauseEnds text names l (d .stars) (d .emitted) (q .done .tree))) (first .ends)
           ∙ ap (λ (k : ℕ). sets (sets e 0 (clauseEnds text names l (c .stars) (c .emitted) (first .done .tree))) 2 (clauseEnds text names l k (d .emitted) (q .done .tree))) (first .done .numbered)
-          ∙ ap (λ (i : ℕ). sets (sets e 0 (clauseEnds text names l (c .stars) (c .emitted) (first .done .tree))) 2 (clauseEnds text names l (words (c .stars) (first .done .tree) .next) i (q .done .tree))) (first .done .long)
-          ∙ ap (λ (i : ℕ). sets (sets e 0 (clauseEnds text names l (c .stars) (c .emitted) (first .done .tree))) i (clauseEnds text names l (words (c .stars) (first .done .tree) .next) (c .emitted + length (words (c .stars) (first .done .tree) .is)) (q .done .tree))) (sym (two-ends text names l (c .stars) (c .emitted) (first .done .tree)) ∙ sym (zero-add _))
-          ∙ sym (sets-append (clauseEnds text names l (c .stars) (c .emitted) (first .done .tree)) (clauseEnds text names l (words (c .stars) (first .done .tree) .next) (c .emitted + length (words (c .stars) (first .done .tree) .is)) (q .done .tree)) e 0);
+          ∙ ap (λ (i : ℕ). sets (sets e 0 (clauseEnds text names l (c .stars) (c .emitted) (first .done .tree))) 2
+          (clauseEnds text names l (words (c .stars) (first .done .tree) .next) i (q .done .tree))) (first .done .long)
+          ∙ ap (λ (i : ℕ). sets (sets e 0 (clauseEnds text names l (c .stars) (c .emitted) (first .done .tree))) i
+          (clauseEnds text names l (words (c .stars) (first .done .tree) .next) (c .emitted + length (words (c .stars) (first .done .tree) .is))
+          (q .done .tree))) (sym (two-ends text names l (c .stars) (c .emitted) (first .done .tree)) ∙ sym (zero-add _))
+          ∙ sym (sets-append (clauseEnds text names l (c .stars) (c .emitted) (first .done .tree))
+          (clauseEnds text names l (words (c .stars) (first .done .tree) .next) (c .emitted + length (words (c .stars) (first .done .tree) .is))
+          (q .done .tree)) e 0);
     }
 
 -- ---- the whole
@@ -172,7 +177,11 @@ module _ (text : List ℕ) (s : Arrays) (head : Declared) (names′ : List ℕ) 
         )
 
         pub both-naming : Naming text names′ l d
-        both-naming = record { ready = done-ready text names′ l (paired (clauseWords text names′ l) (clauseWords text names′ l)) 0 c (s .ops) (clausesAt text names′ l c) ops′ 0 d head-ready (claused .done); long = headed .naming .long }
+        both-naming = record {
+          ready = done-ready text names′ l (paired (clauseWords text names′ l) (clauseWords text names′ l)) 0 c (s .ops)
+              (clausesAt text names′ l c) ops′ 0 d head-ready (claused .done);
+          long = headed .naming .long;
+        }
 
         module _ (u : d .next .kind ≡ 5) (all : Declared) (t : Arrays) (k : CommandsSay text l d (arrays names′ ops′ ends′ (s .stars)) (commandsAt text names′ l d) t all) where
           pub all-refused : (n i : ℕ) → all ≡ D.Refused n i → ModelSays text s t all

@@ -175,7 +175,8 @@ module _ (text : List ℕ) (rows : Bool) where
               noted = record {
                 tree = ws ++ w ∷ [];
                 says = refl;
-                stored = stored ∙ ap (λ (x : List ℕ). placed x n (w ∷ [])) (h .noted .stored) ∙ ap (λ (k : ℕ). placed (placed names₀ n₀ ws) k (w ∷ [])) many ∙ sym (placed-append ws (w ∷ []) names₀ n₀);
+                stored = stored ∙ ap (λ (x : List ℕ). placed x n (w ∷ [])) (h .noted .stored) ∙ ap (λ (k : ℕ). placed (placed names₀ n₀ ws) k (w ∷ [])) many
+                    ∙ sym (placed-append ws (w ∷ []) names₀ n₀);
                 ledger = ledger ∙ ap (grown rows 1) (h .noted .ledger) ∙ grown-more rows (length ws) l₀ ∙ ap (λ (k : ℕ). grown rows k l₀) (sym (length-append ws (w ∷ [])));
                 sharedAre = shared-more text names l rows c g m l′ stored ledger ∙ ap (λ (v : List Word). v ++ cond rows [] (w .word ∷ [])) (h .noted .sharedAre)
                     ∙ more-words rows (sharedWords text names₀ l₀) [] (wordsOf ws) [] (w .word ∷ []) ∙ ap (λ (v : List Word). sharedWords text names₀ l₀ ++ cond rows [] v) wordsAre;

@@ -81,7 +81,8 @@ module _ (text names : List ℕ) (l : Ledger) (w : Word) where
   both-words = words-append text names 0 (l .shared) (l .row) ∙ ap (λ (k : ℕ). ws ++ wordsIn text names k (l .row)) (zero-add (l .shared))
 
   -- The code word of a name that stands among the first n names, n being those that an expression of this kind sees.
-  pub name-word : (rows : Bool) (n i : ℕ) → n ≡ cond rows (l .shared + l .row) (l .shared) → i ≡ placeOf w (wordsIn text names 0 n) → among w (wordsIn text names 0 n) ≡ true → exprCode (l .shared) (nameOf ws vs w) ≡ (32 + i) ∷ []
+  pub name-word : (rows : Bool) (n i : ℕ) → n ≡ cond rows (l .shared + l .row) (l .shared) → i ≡ placeOf w (wordsIn text names 0 n)
+      → among w (wordsIn text names 0 n) ≡ true → exprCode (l .shared) (nameOf ws vs w) ≡ (32 + i) ∷ []
   unfolding nameOf exprCode
   name-word false n i e h a =
       let q : among w ws ≡ true = subst (λ (k : ℕ). among w (wordsIn text names 0 k) ≡ true) e a in
@@ -141,17 +142,24 @@ module _ (text names : List ℕ) (sc : Scope) (l : Ledger) (depth : ℕ) (c : Cu
   operand-bad p n i e = (says-bad text names l (exprWords text names l) 0 c p G p n i e wrote-none, refl)
 
   pub star-barred : t .kind ≡ 17 → sc .stars ≡ false → G ≡ stop 6 (t .start)
-  star-barred u s = star-is text t (length text) m (16 - depth) (bookOf text names l c) u ∙ ap (λ (o : Option ℕ). ruling (t .start) o (got star′ (tokensFrom text (t .end)) (note (bookOf text names l c) (part (chance m) (sign 17))))) (chance-barred text names l c (sign 17) m s)
+  star-barred u s = star-is text t (length text) m (16 - depth) (bookOf text names l c) u
+      ∙ ap (λ (o : Option ℕ). ruling (t .start) o (got star′ (tokensFrom text (t .end)) (note (bookOf text names l c) (part (chance m) (sign 17)))))
+      (chance-barred text names l c (sign 17) m s)
 
   pub star-many : t .kind ≡ 17 → sc .stars ≡ true → 8 ≤ c .stars → G ≡ stop 7 (t .start)
-  star-many u s k = star-is text t (length text) m (16 - depth) (bookOf text names l c) u ∙ ap (λ (o : Option ℕ). ruling (t .start) o (got star′ (tokensFrom text (t .end)) (note (bookOf text names l c) (part (chance m) (sign 17))))) (chance-many text names l c (sign 17) m s k)
+  star-many u s k = star-is text t (length text) m (16 - depth) (bookOf text names l c) u
+      ∙ ap (λ (o : Option ℕ). ruling (t .start) o (got star′ (tokensFrom text (t .end)) (note (bookOf text names l c) (part (chance m) (sign 17)))))
+      (chance-many text names l c (sign 17) m s k)
 
   -- a name, and where the look-up of it ended
   module _ (u : t .kind ≡ 24) (n i : ℕ) (e : n ≡ cond (sc .rows) (l .shared + l .row) (l .shared)) (h : i ≡ placeOf (nameIn text t .word) (wordsIn text names 0 n)) where
     pub name-unknown : i ≡ n → G ≡ stop 5 (t .start)
     name-unknown z =
         name-is text t (length text) m (16 - depth) (bookOf text names l c) u
-        ∙ ap (λ (o : Option ℕ). ruling (t .start) o (got (name′ (nameIn text t)) (tokensFrom text (t .end)) (note (bookOf text names l c) (part (uses m) (name (nameIn text t)))))) (uses-unknown text names l c (nameIn text t) m (seen text names l (nameIn text t .word) sc n e ∙ found-out (nameIn text t .word) (wordsIn text names 0 n) n i (words-length text names 0 n) h z))
+        ∙ ap (λ (o : Option ℕ). ruling (t .start) o
+        (got (name′ (nameIn text t)) (tokensFrom text (t .end)) (note (bookOf text names l c) (part (uses m) (name (nameIn text t))))))
+        (uses-unknown text names l c (nameIn text t) m
+        (seen text names l (nameIn text t .word) sc n e ∙ found-out (nameIn text t .word) (wordsIn text names 0 n) n i (words-length text names 0 n) h z))
 
     pub name-says : (p a : List ℕ) (y : Parsed) → (i ≡ n → ⊥) → Leaf text c (32 + i) (c .stars) p a y → SaysOperand text names l c p G a y
     unfolding exprWords exprOf

@@ -145,11 +145,18 @@ module _ (text names : List ℕ) (l : Ledger) (kind i : ℕ) (c : Cursor) (r : R
   clause-is = go (eqb (c .next .kind) kind) refl
     where
       go : (x : Bool) → eqb (c .next .kind) kind ≡ x → clauseAt text names l kind c ≡ ended both
-      go true u = rw (listed-sign text (c .next) kind (eqb-true (c .next .kind) kind u) small, reader-token (length text) (T.clause kind), reader-token (length text) (T.lit kind), eq-eqb kind kind refl) (simp (then-ruling, then-then))
+      go true u = rw (
+        listed-sign text (c .next) kind (eqb-true (c .next .kind) kind u) small,
+        reader-token (length text) (T.clause kind),
+        reader-token
+            (length text) (T.lit kind),
+        eq-eqb kind kind refl,
+      ) (simp (then-ruling, then-then))
       go false u =
           let k : (c .next .kind ≡ kind → ⊥) = eqb-false (c .next .kind) kind u in
           missing text (c .next) (T.clause kind) (bookOf text names l c) (r .fresh) refl (rw (ne-eqb kind (c .next .kind) (λ z. k (sym z))) refl) (λ z. refl)
-          ∙ ap (λ (o : Got (Unit {0})). ended (pairing (thenReads o (λ u ts b. orReader (length text) fixedShared 0 ts b)) each)) (sym (lit-missing text (c .next) kind (bookOf text names l c) (r .fresh) k))
+          ∙ ap (λ (o : Got (Unit {0})). ended (pairing (thenReads o (λ u ts b. orReader (length text) fixedShared 0 ts b)) each))
+          (sym (lit-missing text (c .next) kind (bookOf text names l c) (r .fresh) k))
 
   clause-stops : (p e a e′ : List ℕ) (y : Parsed) (n j : ℕ) → y ≡ Refused n j → both ≡ stop n j → Wrote (c .emitted) p a → Wrote i e e′ →
       ClauseSays text names l kind i c p e a e′ y
@@ -198,7 +205,8 @@ module _ (text names : List ℕ) (l : Ledger) (kind i : ℕ) (c : Cursor) (r : R
           tree-is : (v : Cursor) → Expected text d 18 (Ok v) → clauseAt text names l kind c ≡ got tree (listed text (v .next)) (bookOf text names l v)
           tree-is v h =
               clause-is ∙ ap (λ (o : Got Expr). ended (pairing o each)) (first .0 .says) ∙ ap (λ (o : Got Expr). ended (thenReads o (λ x ts b. got (pairOf (first .0 .tree) x) ts b))) (second .0 .says)
-              ∙ ap (λ (o : Got (Unit {0})). thenReads (thenReads o (λ u ts b. got (pairOf (first .0 .tree) (second .0 .tree)) ts b)) (λ v ts b. got (made v) ts b)) (expected-ok text names l d 18 v (omega arith) h)
+              ∙ ap (λ (o : Got (Unit {0})). thenReads (thenReads o (λ u ts b. got (pairOf (first .0 .tree) (second .0 .tree)) ts b))
+              (λ v ts b. got (made v) ts b)) (expected-ok text names l d 18 v (omega arith) h)
 
           -- The stored ends.
           ends-are : e₂ ≡ sets e i (clauseEnds text names l (c .stars) (c .emitted) tree)

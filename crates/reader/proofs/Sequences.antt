@@ -24,8 +24,10 @@ use Rattle.reader.proofs.Answers.{Past, expected-said, is-past}
 use Rattle.reader.proofs.Factors.{expected-ok, expected-bad}
 
 module _ (text names : List ℕ) (l : Ledger) where
-  module _ {A B : Type 0} (code : ℕ → A → Numbered (List ℕ)) (more : ℕ → B → Numbered (List ℕ)) (x y : ℕ) (s c : Cursor) (p b : List ℕ) (g : Got A) (h : List Lexeme → Book → Got B) (d : Done text names l code x s p g b c) where
-    unfoldable pub pair-done : (a : List ℕ) (e : Cursor) → Done text names l more y c b (h (listed text (c .next)) (bookOf text names l c)) a e → Done text names l (paired code more) (x + y) s p (pairing g h) a e
+  module _ {A B : Type 0} (code : ℕ → A → Numbered (List ℕ)) (more : ℕ → B → Numbered (List ℕ)) (x y : ℕ) (s c : Cursor) (p b : List ℕ) (g : Got A)
+      (h : List Lexeme → Book → Got B) (d : Done text names l code x s p g b c) where
+    unfoldable pub pair-done : (a : List ℕ) (e : Cursor) → Done text names l more y c b (h (listed text (c .next)) (bookOf text names l c)) a e
+        → Done text names l (paired code more) (x + y) s p (pairing g h) a e
     pair-done a e q =
         let same : more (c .stars) (q .tree) ≡ more (code (s .stars) (d .tree) .next) (q .tree) = ap (λ (k : ℕ). more k (q .tree)) (d .numbered) in
         let stored : a ≡ sets p (s .emitted) (code (s .stars) (d .tree) .is ++ more (c .stars) (q .tree) .is) =
@@ -48,7 +50,8 @@ module _ (text names : List ℕ) (l : Ledger) where
         }
 
     -- The second after the first.
-    pub says-pair : (a : List ℕ) (r : Parsed) → Says text names l more y c b (h (listed text (c .next)) (bookOf text names l c)) a r → Says text names l (paired code more) (x + y) s p (pairing g h) a r
+    pub says-pair : (a : List ℕ) (r : Parsed) → Says text names l more y c b (h (listed text (c .next)) (bookOf text names l c)) a r
+        → Says text names l (paired code more) (x + y) s p (pairing g h) a r
     unfolding Says
     says-pair a (Ok e) q = pair-done a e q
     says-pair a (Refused n i) q =
@@ -130,17 +133,20 @@ module _ (text names : List ℕ) (l : Ledger) where
 
   -- A sign and a code word after what was read.
   module _ {A : Type 0} (code : ℕ → A → Numbered (List ℕ)) (x : ℕ) (s : Cursor) (p : List ℕ) (g : Got A) (b : List ℕ) (kind word : ℕ) (small : kind < 24) where
-    pub says-mark : (a : List ℕ) (q r : Parsed) → Says text names l code x s p g b q → Marked text kind word q b a r → Says text names l (withWord code word) (x + 1) s p (signedBy (length text) kind g) a r
+    pub says-mark : (a : List ℕ) (q r : Parsed) → Says text names l code x s p g b q → Marked text kind word q b a r
+        → Says text names l (withWord code word) (x + 1) s p (signedBy (length text) kind g) a r
     unfolding Says Marked
     says-mark a (Refused n i) r h e = subst (λ (z : Parsed). Says text names l (withWord code word) (x + 1) s p (signedBy (length text) kind g) a z) (sym (e .0))
         (ap (λ (o : Got A). signedBy (length text) kind o) (h .0), wrote-same (e .1) (h .1))
     says-mark a (Ok c) (Refused n i) h e = (sign-stops code x s p g b kind c n i h (e .0), wrote-same (e .1) (done-wrote text names l code x s p g b c h))
     says-mark a (Ok c) (Ok d) h e =
         subst (λ (z : List ℕ). Done text names l (withWord code word) (x + 1) s p (signedBy (length text) kind g) z d) (sym (e .1 .1 .1))
-        (subst (λ (z : Cursor). Done text names l (withWord code word) (x + 1) s p (signedBy (length text) kind g) (set b (e .0 .emitted) word) z) (sym (e .1 .1 .0)) (word-done code x s p (signedBy (length text) kind g) b word (e .0) (sign-done code x s p g b kind small c (e .0) h (e .1 .0))))
+        (subst (λ (z : Cursor). Done text names l (withWord code word) (x + 1) s p (signedBy (length text) kind g) (set b (e .0 .emitted) word) z)
+        (sym (e .1 .1 .0)) (word-done code x s p (signedBy (length text) kind g) b word (e .0) (sign-done code x s p g b kind small c (e .0) h (e .1 .0))))
 
   -- There is room for one code word more.
-  pub says-roomed : {A : Type 0} (code : ℕ → A → Numbered (List ℕ)) (x : ℕ) (s : Cursor) (p : List ℕ) (g : Got A) (b : List ℕ) (spare : ℕ) (q : Parsed) → Ready text l (x + suc spare) s → Says text names l code x s p g b q → roomed q
+  pub says-roomed : {A : Type 0} (code : ℕ → A → Numbered (List ℕ)) (x : ℕ) (s : Cursor) (p : List ℕ) (g : Got A) (b : List ℕ) (spare : ℕ) (q : Parsed)
+      → Ready text l (x + suc spare) s → Says text names l code x s p g b q → roomed q
   unfolding Says
   says-roomed code x s p g b spare (Refused n i) r h = tt
   says-roomed code x s p g b spare (Ok c) r h = omega (arith, r .room, h .level, h .nodes, h .items, r .commands)
@@ -173,7 +179,16 @@ module _ (text names : List ℕ) (l : Ledger) where
 
   -- Less spare room will do.
   pub ready-less : (spare spare′ : ℕ) (c : Cursor) → spare′ ≤ spare → Ready text l spare c → Ready text l spare′ c
-  ready-less spare spare′ c h r = record { fits = r .fits; fresh = r .fresh; names = r .names; commands = r .commands; items = r .items; nodes = r .nodes; stars = r .stars; room = omega (arith, r .room) }
+  ready-less spare spare′ c h r = record {
+    fits = r .fits;
+    fresh = r .fresh;
+    names = r .names;
+    commands = r .commands;
+    items = r .items;
+    nodes = r .nodes;
+    stars = r .stars;
+    room = omega (arith, r .room);
+  }
 
   -- A reader may be called past a piece.
   pub past-ready : (spare spare′ : ℕ) (c d : Cursor) (items nodes stars : ℕ) → Ready text l spare c → Past text c items nodes stars d → items ≤ 256 → nodes ≤ 1024 → stars ≤ 8 →

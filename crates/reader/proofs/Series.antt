@@ -32,7 +32,9 @@ pub record Series (A : Type 0) (text names : List ℕ) (l : Ledger) : Type 0 whe
   pub more : List Lexeme → Book → Got (List A)
   pub word : ℕ → A → Numbered (List ℕ)
   pub words : ℕ → List A → Numbered (List ℕ)
-  pub turn : (i : ℕ) (ts : List Lexeme) (b : Book) → more (at i (some (sign 19)) ∷ ts) b ≡ ruling i (fault b (part quiet (sign 19))) (thenReads (one ts (note b (part quiet (sign 19)))) (λ x ts b. thenReads (more ts b) (λ xs ts b. got (x ∷ xs) ts b)))
+  pub turn : (i : ℕ) (ts : List Lexeme) (b : Book) → more (at i (some (sign 19)) ∷ ts) b
+      ≡ ruling i (fault b (part quiet (sign 19)))
+      (thenReads (one ts (note b (part quiet (sign 19)))) (λ x ts b. thenReads (more ts b) (λ xs ts b. got (x ∷ xs) ts b)))
   pub stops : (t : Piece) (b : Book) → (t .kind ≡ 19 → ⊥) → more (listed text t) b ≡ got [] (listed text t) b
   pub nil : (k : ℕ) → words k [] ≡ numbered [] k
   pub cons : (k : ℕ) (x : A) (xs : List A) → words k (x ∷ xs) ≡ numbered (word k x .is ++ words (word k x .next) xs .is) (words (word k x .next) xs .next)
@@ -52,7 +54,8 @@ module _ {A : Type 0} (text names : List ℕ) (l : Ledger) (K : Series A text na
   append k [] x = single k x ∙ ap (λ (z : Numbered (List ℕ)). after z (K .word (z .next) x)) (sym (K .nil k))
   append k (y ∷ xs) x =
       K .cons k y (xs ++ x ∷ []) ∙ ap (after (K .word k y)) (append (K .word k y .next) xs x)
-      ∙ ap (λ (z : List ℕ). numbered z (K .word (K .words (K .word k y .next) xs .next) x .next)) (sym (append-assoc (K .word k y .is) (K .words (K .word k y .next) xs .is) (K .word (K .words (K .word k y .next) xs .next) x .is)))
+      ∙ ap (λ (z : List ℕ). numbered z (K .word (K .words (K .word k y .next) xs .next) x .next))
+      (sym (append-assoc (K .word k y .is) (K .words (K .word k y .next) xs .is) (K .word (K .words (K .word k y .next) xs .next) x .is)))
       ∙ ap (λ (z : Numbered (List ℕ)). after z (K .word (z .next) x)) (sym (K .cons k y xs))
 
   abbrev Read : Cursor → List ℕ → Got (List A) → List ℕ → Cursor → Type 0
@@ -110,7 +113,8 @@ module _ {A : Type 0} (text names : List ℕ) (l : Ledger) (K : Series A text na
     pub rest-stop : (c .next .kind ≡ 19 → ⊥) → Read s p g b c
     rest-stop u = record {
       tree = h .done .tree;
-      says = h .says ∙ ap (λ (o : Got (List A)). thenReads o (λ ys ts b. got (h .done .tree ++ ys) ts b)) (K .stops (c .next) (bookOf text names l c) u) ∙ ap (λ (xs : List A). got xs (listed text (c .next)) (bookOf text names l c)) (append-nil (h .done .tree));
+      says = h .says ∙ ap (λ (o : Got (List A)). thenReads o (λ ys ts b. got (h .done .tree ++ ys) ts b)) (K .stops (c .next) (bookOf text names l c) u)
+          ∙ ap (λ (xs : List A). got xs (listed text (c .next)) (bookOf text names l c)) (append-nil (h .done .tree));
       stored = h .done .stored;
       long = h .done .long;
       numbered = h .done .numbered;
@@ -134,7 +138,8 @@ module _ {A : Type 0} (text names : List ℕ) (l : Ledger) (K : Series A text na
       goes = h .says
           ∙ ap (λ (ts : List Lexeme). thenReads (K .more ts (bookOf text names l c)) (λ ys ts b. got (h .done .tree ++ ys) ts b)) (listed-sign text (c .next) 19 u (omega arith))
           ∙ ap (λ (o : Got (List A)). thenReads o (λ ys ts b. got (h .done .tree ++ ys) ts b)) (K .turn (c .next .start) (tokensFrom text (c .next .end)) (bookOf text names l c)
-          ∙ ap (λ (o : Option ℕ). ruling (c .next .start) o (all (K .one (tokensFrom text (c .next .end)) (note (bookOf text names l c) (part quiet (sign 19)))))) (quiet-fits text names l c (sign 19)))
+          ∙ ap (λ (o : Option ℕ). ruling (c .next .start) o
+          (all (K .one (tokensFrom text (c .next .end)) (note (bookOf text names l c) (part quiet (sign 19)))))) (quiet-fits text names l c (sign 19)))
           ∙ ap (λ (v : Book). then (K .one (tokensFrom text (c .next .end)) v)) (note-quiet text names l c (d .next) (sign 19) ∙ ap (bookOf text names l) (sym (q .is)))
           ∙ ap (λ (ts : List Lexeme). then (K .one ts (bookOf text names l d))) (q .next .tokens)
 
@@ -153,8 +158,10 @@ module _ {A : Type 0} (text names : List ℕ) (l : Ledger) (K : Series A text na
           let first : List ℕ = K .words (s .stars) (h .done .tree) .is in
           let new : Numbered (List ℕ) = K .word (K .words (s .stars) (h .done .tree) .next) (e .tree) in
           let one : K .word (d .stars) (e .tree) ≡ new = ap (λ (k : ℕ). K .word k (e .tree)) from in
-          let stored : m ≡ sets b (c .emitted) (new .is) = e .stored ∙ ap (λ (i : ℕ). sets b i (K .word (d .stars) (e .tree) .is)) same ∙ ap (λ (z : Numbered (List ℕ)). sets b (c .emitted) (z .is)) one in
-          let long : v .emitted ≡ c .emitted + length (new .is) = e .long ∙ ap (λ (i : ℕ). i + length (K .word (d .stars) (e .tree) .is)) same ∙ ap (λ (z : Numbered (List ℕ)). c .emitted + length (z .is)) one in
+          let stored : m ≡ sets b (c .emitted) (new .is) = e .stored ∙ ap (λ (i : ℕ). sets b i (K .word (d .stars) (e .tree) .is)) same
+          ∙ ap (λ (z : Numbered (List ℕ)). sets b (c .emitted) (z .is)) one in
+          let long : v .emitted ≡ c .emitted + length (new .is) = e .long ∙ ap (λ (i : ℕ). i + length (K .word (d .stars) (e .tree) .is)) same
+          ∙ ap (λ (z : Numbered (List ℕ)). c .emitted + length (z .is)) one in
           let whole = append (s .stars) (h .done .tree) (e .tree) in
           let total : v .emitted ≡ s .emitted + length (first ++ new .is) = omega (arith, long, h .done .long, length-append first (new .is)) in
           record {
@@ -176,7 +183,8 @@ module _ {A : Type 0} (text names : List ℕ) (l : Ledger) (K : Series A text na
             says = goes ∙ ap then (e .says) ∙ go (K .more (listed text (v .next)) (bookOf text names l v));
           }
         where
-          go : (o : Got (List A)) → thenReads (thenReads o (λ xs ts b. got (e .tree ∷ xs) ts b)) (λ ys ts b. got (h .done .tree ++ ys) ts b) ≡ thenReads o (λ ys ts b. got ((h .done .tree ++ e .tree ∷ []) ++ ys) ts b)
+          go : (o : Got (List A)) → thenReads (thenReads o (λ xs ts b. got (e .tree ∷ xs) ts b)) (λ ys ts b. got (h .done .tree ++ ys) ts b)
+              ≡ thenReads o (λ ys ts b. got ((h .done .tree ++ e .tree ∷ []) ++ ys) ts b)
           go (got xs ts b) = ap (λ (z : List A). got z ts b) (sym (append-assoc (h .done .tree) (e .tree ∷ []) xs))
           go (stop n i) = refl
 

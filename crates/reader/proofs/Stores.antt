@@ -54,7 +54,8 @@ module _ (text names : List ℕ) (l : Ledger) (ws vs : List Word) (es : sharedWo
 
     clause-ends : (i : ℕ) → clauseEnds text names l 0 i (clause′ a b) ≡ endsFrom i (code a ∷ code b ∷ [])
     unfolding endsFrom
-    clause-ends i = ap (λ (z : List ℕ). (i + length z) ∷ (i + length z + length (exprWords text names l (exprWords text names l 0 a .next) b .is)) ∷ []) (words-is a) ∙ ap (λ (z : List ℕ). (i + length (code a)) ∷ (i + length (code a) + length z) ∷ []) second-is
+    clause-ends i = ap (λ (z : List ℕ). (i + length z) ∷ (i + length z + length (exprWords text names l (exprWords text names l 0 a .next) b .is)) ∷ [])
+        (words-is a) ∙ ap (λ (z : List ℕ). (i + length (code a)) ∷ (i + length (code a) + length z) ∷ []) second-is
 
   both-joined : (a b : Expr) → code a ++ code b ≡ joined (code a ∷ code b ∷ [])
   unfolding joined
@@ -72,10 +73,12 @@ module _ (text names : List ℕ) (l : Ledger) (ws vs : List Word) (es : sharedWo
         ∙ ap (λ (k : ℕ). (code a ++ code b) ++ clauseWords text names l k (clause′ c d) .is) (clause-next a b ha hb)
         ∙ ap (λ (z : List ℕ). (code a ++ code b) ++ z) (clause-code c d hc hd) ∙ simp (append-assoc, append-nil)
 
-    pub clauses-ends : clauseEnds text names l 0 0 (clause′ a b) ++ clauseEnds text names l (clauseWords text names l 0 (clause′ a b) .next) (0 + length (clauseWords text names l 0 (clause′ a b) .is)) (clause′ c d) ≡ endsFrom 0 four
+    pub clauses-ends : clauseEnds text names l 0 0 (clause′ a b) ++ clauseEnds text names l (clauseWords text names l 0 (clause′ a b) .next)
+        (0 + length (clauseWords text names l 0 (clause′ a b) .is)) (clause′ c d) ≡ endsFrom 0 four
     clauses-ends =
         let e : 0 + length (clauseWords text names l 0 (clause′ a b) .is) ≡ 0 + length (joined (code a ∷ code b ∷ [])) = ap (λ (z : List ℕ). 0 + length z) (clause-code a b ha hb ∙ both-joined a b) in
-        ap (λ (z : List ℕ). z ++ clauseEnds text names l (clauseWords text names l 0 (clause′ a b) .next) (0 + length (clauseWords text names l 0 (clause′ a b) .is)) (clause′ c d)) (clause-ends a b ha hb 0)
+        ap (λ (z : List ℕ). z ++ clauseEnds text names l (clauseWords text names l 0 (clause′ a b) .next)
+        (0 + length (clauseWords text names l 0 (clause′ a b) .is)) (clause′ c d)) (clause-ends a b ha hb 0)
         ∙ ap (λ (k : ℕ). endsFrom 0 (code a ∷ code b ∷ []) ++ clauseEnds text names l k (0 + length (clauseWords text names l 0 (clause′ a b) .is)) (clause′ c d)) (clause-next a b ha hb)
         ∙ ap (λ (i : ℕ). endsFrom 0 (code a ∷ code b ∷ []) ++ clauseEnds text names l 0 i (clause′ c d)) e
         ∙ ap (λ (z : List ℕ). endsFrom 0 (code a ∷ code b ∷ []) ++ z) (clause-ends c d hc hd (0 + length (joined (code a ∷ code b ∷ []))))
@@ -83,7 +86,8 @@ module _ (text names : List ℕ) (l : Ledger) (ws vs : List Word) (es : sharedWo
 
 -- ---- the whole model
 
-module _ (text names : List ℕ) (l : Ledger) (ws vs : List Name) (es : sharedWords text names l ≡ wordsOf ws) (ev : rowWords text names l ≡ wordsOf vs) (el : l .shared ≡ length ws) (xs : List Command) where
+module _ (text names : List ℕ) (l : Ledger) (ws vs : List Name) (es : sharedWords text names l ≡ wordsOf ws) (ev : rowWords text names l ≡ wordsOf vs)
+    (el : l .shared ≡ length ws) (xs : List Command) where
   abbrev shareds : List Word
   shareds = wordsOf ws
 
@@ -129,8 +133,10 @@ module _ (text names : List ℕ) (l : Ledger) (ws vs : List Name) (es : sharedWo
   unfolding layoutOf modelOf clauseOf four-of
   ends-layout (clause′ a b) (clause′ c d) r =
       let f = four-of a b c d (λ e. exprCode (l .shared) (exprOf shareds rows e 0 .is)) in
-      ap (λ (z : List ℕ). z ++ endsFrom (0 + length (paired (clauseWords text names l) (clauseWords text names l) 0 (pairOf (clause′ a b) (clause′ c d)) .is)) (parts (l .shared))) (clauses-ends text names l shareds rows es ev a b c d (r .startWhole) (r .startEach) (r .keepWhole) (r .keepEach))
-      ∙ ap (λ (z : List ℕ). endsFrom 0 f ++ endsFrom (0 + length z) (parts (l .shared))) (clauses-code text names l shareds rows es ev a b c d (r .startWhole) (r .startEach) (r .keepWhole) (r .keepEach))
+      ap (λ (z : List ℕ). z ++ endsFrom (0 + length (paired (clauseWords text names l) (clauseWords text names l) 0 (pairOf (clause′ a b) (clause′ c d)) .is))
+      (parts (l .shared))) (clauses-ends text names l shareds rows es ev a b c d (r .startWhole) (r .startEach) (r .keepWhole) (r .keepEach))
+      ∙ ap (λ (z : List ℕ). endsFrom 0 f ++ endsFrom (0 + length z) (parts (l .shared)))
+      (clauses-code text names l shareds rows es ev a b c d (r .startWhole) (r .startEach) (r .keepWhole) (r .keepEach))
       ∙ sym (ends-append 0 f (parts (l .shared))) ∙ ap (endsFrom 0) (segments-are a b c d)
 
   pub names-are : (p q : Clause) → (ws ++ vs) ++ map titleOf xs ≡ namesOf (tree′ ws vs p q xs)

@@ -55,12 +55,14 @@ module _ (text : List ℕ) (t : Piece) where
           reader (length text) n (cond x [] (at (t .start) (cond y none (some (cond z (name (nameIn text t)) (sign (t .kind))))) ∷ tokensFrom text (t .end))) b ≡ stop (t .fault) (t .start)
       go true y z h e u = let q : t .kind ≡ 26 = h refl in let v : t .fault ≡ 3 = k .fault ∙ rw q refl in rw (reader-end (length text) n b, s, v, k .last q)
       go false true z h e u = let v : t .fault ≡ 2 = k .fault ∙ rw e refl in rw (reader-byte (length text) n (t .start) (tokensFrom text (t .end)) b, s, v)
-      go false false true h e u = let v : t .fault ≡ 3 = k .fault ∙ rw e refl in rw (reader-token (length text) n (t .start) (name (nameIn text t)) (tokensFrom text (t .end)) b, g (eqb-true (t .kind) 24 u), s, v)
+      go false false true h e u = let v : t .fault ≡ 3 = k .fault
+          ∙ rw e refl in rw (reader-token (length text) n (t .start) (name (nameIn text t)) (tokensFrom text (t .end)) b, g (eqb-true (t .kind) 24 u), s, v)
       go false false false h e u = let v : t .fault ≡ 3 = k .fault ∙ rw e refl in rw (reader-token (length text) n (t .start) (sign (t .kind)) (tokensFrom text (t .end)) b, f, s, v)
 
   -- ---- signs
 
-  pub lit-is : (len k : ℕ) (b : Book) → t .kind ≡ k → k < 24 → reader len (lit k) (listed text t) b ≡ ruling (t .start) (fault b (part quiet (sign k))) (got tt (tokensFrom text (t .end)) (note b (part quiet (sign k))))
+  pub lit-is : (len k : ℕ) (b : Book) → t .kind ≡ k → k < 24 → reader len (lit k) (listed text t) b
+      ≡ ruling (t .start) (fault b (part quiet (sign k))) (got tt (tokensFrom text (t .end)) (note b (part quiet (sign k))))
   unfolding sequence find lines skips
   lit-is len k b e h = rw (listed-sign k e h, reader-token len (lit k), eq-eqb k k refl) refl
 
@@ -75,7 +77,9 @@ module _ (text : List ℕ) (t : Piece) where
     rest = tokensFrom text (t .end)
 
     pub open-is : t .kind ≡ 21 → reader len (factor m d) (listed text t) b ≡
-        ruling (t .start) (fault b (part (opens (suc d)) (sign 21))) (thenReads (orReader len m (suc d) rest (note b (part (opens (suc d)) (sign 21)))) (λ e ts b. thenReads (reader len (lit 22) ts b) (λ u ts b. got e ts b)))
+        ruling (t .start) (fault b (part (opens (suc d)) (sign 21)))
+        (thenReads (orReader len m (suc d) rest (note b (part (opens (suc d)) (sign 21))))
+        (λ e ts b. thenReads (reader len (lit 22) ts b) (λ u ts b. got e ts b)))
     unfolding sequence find lines skips
     open-is h = rw (listed-sign 21 h (omega arith), reader-token len (factor m d)) (simp then-then)
 
@@ -96,7 +100,8 @@ module _ (text : List ℕ) (t : Piece) where
     unfolding sequence find lines skips
     star-is h = rw (listed-sign 17 h (omega arith), reader-token len (factor m d)) refl
 
-    pub name-is : t .kind ≡ 24 → reader len (factor m d) (listed text t) b ≡ ruling (t .start) (fault b (part (uses m) (name (nameIn text t)))) (got (name′ (nameIn text t)) rest (note b (part (uses m) (name (nameIn text t)))))
+    pub name-is : t .kind ≡ 24 → reader len (factor m d) (listed text t) b
+        ≡ ruling (t .start) (fault b (part (uses m) (name (nameIn text t)))) (got (name′ (nameIn text t)) rest (note b (part (uses m) (name (nameIn text t)))))
     unfolding sequence find lines skips
     name-is h = rw (listed-name h, reader-token len (factor m d)) refl
 
@@ -105,7 +110,14 @@ module _ (text : List ℕ) (t : Piece) where
   unfolding skips find lines
   factor-missing m d b k h1 h2 h3 h4 h5 h6 =
       missing (factor m d) b k refl
-      (rw (ne-eqb 15 (t .kind) (λ z. h1 (sym z)), ne-eqb 16 (t .kind) (λ z. h2 (sym z)), ne-eqb 17 (t .kind) (λ z. h3 (sym z)), ne-eqb 14 (t .kind) (λ z. h5 (sym z)), ne-eqb 21 (t .kind) (λ z. h6 (sym z))) refl)
+      (rw (
+        ne-eqb 15 (t .kind) (λ z. h1 (sym z)),
+        ne-eqb 16 (t .kind) (λ z. h2 (sym z)),
+        ne-eqb 17 (t .kind) (λ z. h3 (sym z)),
+        ne-eqb 14 (t .kind)
+            (λ z. h5 (sym z)),
+        ne-eqb 21 (t .kind) (λ z. h6 (sym z)),
+      ) refl)
       (λ x. absurd (h4 x))
 
   -- ---- where the loops end

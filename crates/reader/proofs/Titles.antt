@@ -104,7 +104,9 @@ module _ (text names : List ℕ) (l : Ledger) (c : Cursor) where
   unfolding note view tally elem nameCounts
   note-title n = refl
 
-  title-is : (t : Piece) (b : Book) → t .kind ≡ 24 → reader (length text) title (listed text t) b ≡ ruling (t .start) (fault b (part (declares commandName) (name (nameIn text t)))) (got (nameIn text t) (tokensFrom text (t .end)) (note b (part (declares commandName) (name (nameIn text t)))))
+  title-is : (t : Piece) (b : Book) → t .kind ≡ 24 → reader (length text) title (listed text t) b
+      ≡ ruling (t .start) (fault b (part (declares commandName) (name (nameIn text t))))
+      (got (nameIn text t) (tokensFrom text (t .end)) (note b (part (declares commandName) (name (nameIn text t)))))
   unfolding sequence find lines skips
   title-is t b u = rw (listed-name text t u, reader-token (length text) title) refl
 
@@ -138,7 +140,8 @@ module _ (text names : List ℕ) (l : Ledger) (c : Cursor) where
       title-twice x = title-goes ∙ title-is (d .next) begun u ∙ ap (λ (o : Option ℕ). ruling (d .next .start) o named) (title-again N (declared-before ∙ lt-ltb i n x))
 
       pub title-says : n ≤ i → length names ≡ 56 → l .shared + l .row ≤ 12 → (v : Cursor) → Past text d (d .items) (d .nodes) (d .stars) v → (names′ : List ℕ) →
-          names′ ≡ set (set names n (d .next .start)) (28 + n) (d .next .end - d .next .start) → TitleSays text names l c names′ (D.Ok v (record { shared = l .shared; row = l .row; commands = l .commands + 1 }))
+          names′ ≡ set (set names n (d .next .start)) (28 + n) (d .next .end - d .next .start)
+          → TitleSays text names l c names′ (D.Ok v (record { shared = l .shared; row = l .row; commands = l .commands + 1 }))
       unfolding TitleSays
       title-says x long few v p names′ s =
           let stored : names′ ≡ placed names n (N ∷ []) = s ∙ place-one text names (d .next) (q .next .fresh) long n in

@@ -33,7 +33,8 @@ use Rattle.reader.proofs.Symbols.{listed-sign, missing}
 
 -- Such a symbol is its sign and what follows it, whatever stands there.
 first-sign : (len : ℕ) (n : T.Sym) (k : ℕ) (α : List T.Sym) (f : T.Cont α (T.Val n)) → ((j : ℕ) → find (lines n) (sign j) ≡ cond (eqb k j) (some (record { role = quiet; next = α; act = f })) none) →
-    ((w : Name) → find (lines n) (name w) ≡ none) → skips n ≡ none → (ts : List Lexeme) (b : Book) → reader len n ts b ≡ thenReads (reader len (T.lit k) ts b) (λ u ts b. sequence (reader len) α f ts b)
+    ((w : Name) → find (lines n) (name w) ≡ none) → skips n ≡ none → (ts : List Lexeme) (b : Book) → reader len n ts b
+    ≡ thenReads (reader len (T.lit k) ts b) (λ u ts b. sequence (reader len) α f ts b)
 unfolding find lines skips sequence
 first-sign len n k α f hs hn out [] b = rw (reader-end len n b, reader-end len (T.lit k) b, out)
 first-sign len n k α f hs hn out (at i none ∷ ts) b = rw (reader-byte len n i ts b, reader-byte len (T.lit k) i ts b, out)
@@ -61,7 +62,8 @@ module _ (len : ℕ) where
   whole-is : (ts : List Lexeme) (b : Book) → reader len T.whole ts b ≡ thenReads (headsReader len ts b) (λ v ts b. clausesRest (v .one) (v .two) ts b)
   unfolding find lines skips sequence
   whole-is ts b =
-      first-sign len T.whole 0 (T.names sharedName ∷ T.lit 18 ∷ T.rows ∷ T.clause 2 ∷ T.clause 3 ∷ T.oneCommand ∷ T.commands ∷ []) (λ ws _ vs s k c cs. tree′ ws vs s k (c ∷ cs)) (λ j. refl) (λ w. refl) refl ts b
+      first-sign len T.whole 0 (T.names sharedName ∷ T.lit 18 ∷ T.rows ∷ T.clause 2 ∷ T.clause 3 ∷ T.oneCommand ∷ T.commands ∷ [])
+      (λ ws _ vs s k c cs. tree′ ws vs s k (c ∷ cs)) (λ j. refl) (λ w. refl) refl ts b
       ∙ simp (rows-is, then-then)
 
 -- ---- the chain of a text
@@ -122,6 +124,8 @@ module _ (text : List ℕ) where
           unfolding listed tokenOf
           text-goes-on r z = after-commands ∙ rw (ne-eqb (t .kind) 26 z) (go (eqb (t .kind) 25) (r .fault))
             where
-              go : (x : Bool) → t .fault ≡ cond x 2 3 → atClose len (made xs) (at (t .start) (cond x none (some (cond (eqb (t .kind) 24) (name (nameIn text t)) (sign (t .kind))))) ∷ tokensFrom text (t .end)) ≡ refused (t .fault) (t .start)
+              go : (x : Bool) → t .fault ≡ cond x 2 3 → atClose len (made xs)
+                  (at (t .start) (cond x none (some (cond (eqb (t .kind) 24) (name (nameIn text t)) (sign (t .kind))))) ∷ tokensFrom text (t .end))
+                  ≡ refused (t .fault) (t .start)
               go true e = ap (λ (n : ℕ). refused n (t .start)) (sym e)
               go false e = ap (λ (n : ℕ). refused n (t .start)) (sym e)

@@ -15,7 +15,9 @@ window text a (suc n) = getD text a 0 ∷ window text (suc a) n
 
 -- The eight bytes from place i on are the digits of r, the first lowest.
 pub record Packed (text : List ℕ) (i r : ℕ) : Type 0 where
-  pub number : r ≡ getD text i 0 + 256 * (getD text (i + 1) 0 + 256 * (getD text (i + 2) 0 + 256 * (getD text (i + 3) 0 + 256 * (getD text (i + 4) 0 + 256 * (getD text (i + 5) 0 + 256 * (getD text (i + 6) 0 + 256 * getD text (i + 7) 0))))))
+  pub number : r ≡ getD text i 0 + 256 * (getD text (i + 1) 0 + 256 *
+      (getD text (i + 2) 0 + 256 * (getD text (i + 3) 0 + 256 *
+      (getD text (i + 4) 0 + 256 * (getD text (i + 5) 0 + 256 * (getD text (i + 6) 0 + 256 * getD text (i + 7) 0))))))
   pub d0 : getD text i 0 < 256
   pub d1 : getD text (i + 1) 0 < 256
   pub d2 : getD text (i + 2) 0 < 256
