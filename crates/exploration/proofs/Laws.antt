@@ -1,7 +1,7 @@
 -- What one turn of the search's loops does to the tables and to what they say.
 -- Assumes nothing.
 use Prim.Native.Nat.{ℕ, suc, zero, _+_, _-_, _<_, _≤_}
-use mathlib.Core.Path.{_≡_, refl, sym, ap, _∙_, fun-ext}
+use mathlib.Core.Path.{_≡_, refl, sym, ap, _∙_, fun-ext, subst}
 use mathlib.Core.Bool.{Bool, true, false, cond}
 use mathlib.Core.List.{List, [], _∷_, _++_}
 use native.Mathlib.Omega.{arith}
@@ -190,34 +190,43 @@ unfolding explore
 explore-end M zero head x h = refl
 explore-end M (suc f) head x h = rw (le-ltb head (length (x .queue)) h)
 
-pub record Gone (M : Transitions) (q₀ : List ℕ) (n₀ : ℕ) (p₀ : List ℕ) (head : ℕ) (q : List ℕ) (n : ℕ) (p : List ℕ) : Type 0 where
+pub record Gone (M : Transitions) (from most : ℕ) (q₀ : List ℕ) (n₀ : ℕ) (p₀ : List ℕ) (head left : ℕ) (q : List ℕ) (n : ℕ) (p : List ℕ) : Type 0 where
   pub kept : Kept M q₀ p₀ q n p
-  pub same : explore M (M .size - head) head (seen M q n p) ≡ explore M (M .size) 0 (seen M q₀ n₀ p₀)
+  pub same : explore M left head (seen M q n p) ≡ explore M most from (seen M q₀ n₀ p₀)
 
-pub gone-refl : (M : Transitions) (q : List ℕ) (n : ℕ) (p : List ℕ) → Ready M q n p → Gone M q n p 0 q n p
-gone-refl M q n p R = record { kept = kept-refl M q n p R; same = let e : M .size - 0 ≡ M .size = omega arith in rw e }
+pub gone-refl : (M : Transitions) (from most : ℕ) (q : List ℕ) (n : ℕ) (p : List ℕ) → Ready M q n p → Gone M from most q n p from most q n p
+gone-refl M from most q n p R = record { kept = kept-refl M q n p R; same = refl }
 
-module _ {M : Transitions} {q₀ : List ℕ} {n₀ : ℕ} {p₀ : List ℕ} {head : ℕ} {q : List ℕ} {n : ℕ} {p : List ℕ} (G : Gone M q₀ n₀ p₀ head q n p) where
-  queue-count : length (take n q) ≡ n
-  queue-count = length-take-le n q (omega (arith, count-le M q n p (G .kept .ready), G .kept .ready .queue-room))
+module _ {M : Transitions} {from most : ℕ} {q₀ : List ℕ} {n₀ : ℕ} {p₀ : List ℕ} {head left : ℕ} {q : List ℕ} {n : ℕ} {p : List ℕ}
+    (G : Gone M from most q₀ n₀ p₀ head left q n p)
+  where
+    queue-count : length (take n q) ≡ n
+    queue-count = length-take-le n q (omega (arith, count-le M q n p (G .kept .ready), G .kept .ready .queue-room))
 
-  module _ (h : head < n) where
-    -- What the search does with the state at `head`.
-    expanded : andThen (tryMoves M (getD q head 0) (moves M) (seen M q n p)) (explore M (M .size - (head + 1)) (head + 1)) ≡ explore M (M .size) 0 (seen M q₀ n₀ p₀)
+    module _ (some : 0 < left) (h : head < n) where
+      -- What the search does with the state at `head`.
+      expanded : andThen (tryMoves M (getD q head 0) (moves M) (seen M q n p)) (explore M (left - 1) (head + 1)) ≡ explore M most from (seen M q₀ n₀ p₀)
+      unfolding explore
+      expanded =
+          let e : left ≡ suc (left - 1) = omega arith in
+          rw (queue-count, lt-ltb head n h, getD-take n q head 0 h) at (subst (λ (k : ℕ). explore M k head (seen M q n p) ≡ explore M most from (seen M q₀ n₀ p₀)) e (G .same))
+
+      pub gone-next : {q₁ : List ℕ} {n₁ : ℕ} {p₁ : List ℕ} → Tried M (getD q head 0) (moves M) q n p [] q₁ n₁ p₁
+          → Gone M from most q₀ n₀ p₀ (head + 1) (left - 1) q₁ n₁ p₁
+      unfolding tryMoves
+      gone-next U = record { kept = kept-trans (G .kept) (U .kept); same = rw (← U .same) at expanded }
+
+      pub gone-broke : {q₁ : List ℕ} {n₁ : ℕ} {p₁ : List ℕ} → Broke M (getD q head 0) (moves M) q n p q₁ n₁ p₁
+          → Explored M from most q₀ n₀ p₀ q₁ n₁ p₁ true
+      gone-broke U = record { kept = kept-trans (G .kept) (U .kept); what = rw (← U .same) at expanded }
+
+    -- The queue is at its end, or no state is left to go through.
+    pub gone-end : n ≤ head → Explored M from most q₀ n₀ p₀ q n p false
+    gone-end h = record { kept = G .kept; what = sym (explore-end M left head (seen M q n p) (rw queue-count h)) ∙ G .same }
+
+    pub gone-enough : left ≡ 0 → Explored M from most q₀ n₀ p₀ q n p false
     unfolding explore
-    expanded =
-        let e : M .size - head ≡ suc (M .size - (head + 1)) = omega (arith, count-le M q n p (G .kept .ready)) in
-        rw (e, queue-count, lt-ltb head n h, getD-take n q head 0 h) at (G .same)
-
-    pub gone-next : {q₁ : List ℕ} {n₁ : ℕ} {p₁ : List ℕ} → Tried M (getD q head 0) (moves M) q n p [] q₁ n₁ p₁ → Gone M q₀ n₀ p₀ (head + 1) q₁ n₁ p₁
-    unfolding tryMoves
-    gone-next U = record { kept = kept-trans (G .kept) (U .kept); same = rw (← U .same) at expanded }
-
-    pub gone-broke : {q₁ : List ℕ} {n₁ : ℕ} {p₁ : List ℕ} → Broke M (getD q head 0) (moves M) q n p q₁ n₁ p₁ → Explored M q₀ n₀ p₀ q₁ n₁ p₁ true
-    gone-broke U = record { kept = kept-trans (G .kept) (U .kept); what = rw (← U .same) at expanded }
-
-  pub gone-end : n ≤ head → Explored M q₀ n₀ p₀ q n p false
-  gone-end h = record { kept = G .kept; what = sym (explore-end M (M .size - head) head (seen M q n p) (rw queue-count h)) ∙ G .same }
+    gone-enough e = record { kept = G .kept; what = rw e at (G .same) }
 
 -- The loops' own steps.
 
@@ -315,7 +324,7 @@ module _ (M : Transitions) (q p₀ p : List ℕ) (e : p ≡ replicate (M .size) 
   ran-broke T f = record { kept = kept-trans cleared (T .kept); what = rw f (rw f at (taken-in T)) }
 
   pub ran-on : {q₁ : List ℕ} {n₁ : ℕ} {p₁ : List ℕ} {b : Bool} → Took M q p q₁ n₁ p₁ b → b ≡ false → {q₂ : List ℕ} {n₂ : ℕ} {p₂ : List ℕ} {d : Bool}
-      → Explored M q₁ n₁ p₁ q₂ n₂ p₂ d → Ran M q p₀ q₂ n₂ p₂ d
+      → Explored M 0 (M .size) q₁ n₁ p₁ q₂ n₂ p₂ d → Ran M q p₀ q₂ n₂ p₂ d
   ran-on T f E = record { kept = kept-trans (kept-trans cleared (T .kept)) (E .kept); what = E .what ∙ (rw f at (taken-in T)) }
 
 -- The first move from s to t.

@@ -65,5 +65,6 @@ module _ (T : Transitions) (states : ℕ) (e : states ≡ T .size) (q p₀ p : L
     pub ready-taken : Ready T q₁ n₁ p₁
     ready-taken = took .kept .ready
 
-    pub run-on : b ≡ false → {q₂ : List ℕ} {n₂ : ℕ} {p₂ : List ℕ} {d : Bool} → Explored T q₁ n₁ p₁ q₂ n₂ p₂ d → Ran T q p₀ q₂ n₂ p₂ d
-    run-on h X = ran-on T q p₀ p sized queue-room parent-room took h X
+    pub run-on : b ≡ false → {q₂ : List ℕ} {n₂ : ℕ} {p₂ : List ℕ} {d : Bool} → Explored T 0 states q₁ n₁ p₁ q₂ n₂ p₂ d → Ran T q p₀ q₂ n₂ p₂ d
+    run-on h {q₂} {n₂} {p₂} {d} X =
+        ran-on T q p₀ p sized queue-room parent-room took h (subst (λ (k : ℕ). Explored T 0 k q₁ n₁ p₁ q₂ n₂ p₂ d) e X)

@@ -65,7 +65,7 @@ fn renew(rows: &mut [u64; 16], ops: &[u16], from: usize, to: usize, state: u32, 
     }
 }
 
-// Goes through the queue: every command under every word, 64 words at a time, from each of its states in turn.
+// Goes through the queue from a place on, for so many states at most: every command under every word, 64 words at a time, from each state in turn.
 // A state that is met for the first time goes to the queue's end; the first that violates `keep` ends the search.
 fn explore(
     ops: &[u16; 2048],
@@ -76,14 +76,20 @@ fn explore(
     queue: &mut [u16],
     parent: &mut [u16],
     taken: usize,
+    start: usize,
+    most: usize,
 ) -> Reach
     requires { ⌜ (bits ≤ 12) × Few commands (now stars) × Parted commands (now ends) × Ready (transitionsIn bits commands (now ops) (now ends) (now stars)) (now queue) taken (now parent) ⌝ }
-    ensures { λ r. ⌜ Explored (transitionsIn bits commands (now (ops .entry)) (now (ends .entry)) (now (stars .entry))) (now (queue .entry)) taken (now (parent .entry)) (now (queue .exit)) (r .count) (now (parent .exit)) (r .found) ⌝ }
+    ensures { λ r. ⌜ Explored (transitionsIn bits commands (now (ops .entry)) (now (ends .entry)) (now (stars .entry))) start most (now (queue .entry)) taken (now (parent .entry)) (now (queue .exit)) (r .count) (now (parent .exit)) (r .found) ⌝ }
 {
     let mut count = taken;
     let mut found = false;
-    let mut head: usize = 0;
-    'search: while head < count {
+    let mut head = start;
+    let mut left = most;
+    'search: while 0 < left {
+        if count <= head {
+            break 'search;
+        }
         let s = queue[head];
         let state = s as u32;
         'commands: for k in 0..commands {
@@ -108,6 +114,7 @@ fn explore(
             }
         }
         head += 1;
+        left -= 1;
     }
     Reach {
         count: count,
@@ -134,5 +141,16 @@ pub fn run(
     if x.found {
         return x;
     }
-    explore(ops, ends, stars, commands, bits, queue, parent, x.count)
+    explore(
+        ops,
+        ends,
+        stars,
+        commands,
+        bits,
+        queue,
+        parent,
+        x.count,
+        0,
+        states,
+    )
 }

@@ -34,10 +34,10 @@ pub record Kept (M : Transitions) (q₀ p₀ q : List ℕ) (n : ℕ) (p : List �
   pub queue-length : length q ≡ length q₀
   pub parent-length : length p ≡ length p₀
 
--- After the queue was gone through from (q₀, n₀, p₀).
-pub record Explored (M : Transitions) (q₀ : List ℕ) (n₀ : ℕ) (p₀ q : List ℕ) (n : ℕ) (p : List ℕ) (found : Bool) : Type 0 where
+-- After at most `most` states of the queue were gone through, from place `from` on, where the tables held (q₀, n₀, p₀).
+pub record Explored (M : Transitions) (from most : ℕ) (q₀ : List ℕ) (n₀ : ℕ) (p₀ q : List ℕ) (n : ℕ) (p : List ℕ) (found : Bool) : Type 0 where
   pub kept : Kept M q₀ p₀ q n p
-  pub what : progress found (seen M q n p) ≡ explore M (M .size) 0 (seen M q₀ n₀ p₀)
+  pub what : progress found (seen M q n p) ≡ explore M most from (seen M q₀ n₀ p₀)
 
 -- After t was met from s.
 pub record Meets (M : Transitions) (s t : ℕ) (q₀ : List ℕ) (n₀ : ℕ) (p₀ q : List ℕ) (n : ℕ) (p : List ℕ) (found : Bool) : Type 0 where

@@ -16,38 +16,39 @@ use Rattle.acceptance.proofs.SheetLaws.{stars-word, words-few}
 use Rattle.search.specs.working.CodeTransitions.{transitionsIn}
 use Rattle.exploration.specs.working.Transitions.{wordsFrom, movesFrom, moves}
 use Rattle.search.proofs.CodeSteps.{step-picked, step-below, commands-start}
-use Rattle.exploration.proofs.Laws.{Tried, Broke, Gone, gone-refl, gone-next, gone-broke, gone-end, tried-old}
+use Rattle.exploration.proofs.Laws.{Tried, Broke, Gone, gone-refl, gone-next, gone-broke, gone-end, gone-enough, tried-old}
 use Rattle.exploration.proofs.Laws.{tried-new, tried-broke, words-start, command-done, command-broke, commands-done}
 use Rattle.exploration.proofs.Laws.{room}
 use Rattle.search.proofs.exploring.explore.Statement.{statement}
 use Rattle.search.proofs.exploring.explore.Tie as tie
 
 abbrev Inv-words : tie.InvT-words
-Inv-words ops ends stars commands bits queue₀ parent₀ taken count₀ found₀ head s state k from to words rows₀ w₀ queue parent count found rows w =
+Inv-words ops ends stars commands bits queue₀ parent₀ taken start most count₀ found₀ head left s state k from to words rows₀ w₀ queue parent count found rows w =
     (w ≤ words) × (found ≡ found₀) × Tried (transitionsIn bits commands ops ends stars) s (wordsFrom k 0 words) queue₀
     count₀ parent₀ (wordsFrom k w (words - w)) queue count parent × B.Ready (slice from to ops) s bits w rows
 
 abbrev μ-words : tie.MeasureT-words
-μ-words ops ends stars commands bits queue₀ parent₀ taken count₀ found₀ head s state k from to words rows₀ w₀ queue parent count found rows w =
+μ-words ops ends stars commands bits queue₀ parent₀ taken start most count₀ found₀ head left s state k from to words rows₀ w₀ queue parent count found rows w =
     words - w
 
 abbrev Inv-commands : tie.InvT-commands
-Inv-commands ops ends stars commands bits queue₀ parent₀ taken count₀ found₀ head s state k₀ queue parent count found k =
+Inv-commands ops ends stars commands bits queue₀ parent₀ taken start most count₀ found₀ head left s state k₀ queue parent count found k =
     (k ≤ commands) × (found ≡ found₀) × Tried (transitionsIn bits commands ops ends stars) s
     (moves (transitionsIn bits commands ops ends stars)) queue₀ count₀ parent₀
     (movesFrom (transitionsIn bits commands ops ends stars) k (commands - k)) queue count parent
 
 abbrev μ-commands : tie.MeasureT-commands
-μ-commands ops ends stars commands bits queue₀ parent₀ taken count₀ found₀ head s state k₀ queue parent count found k =
+μ-commands ops ends stars commands bits queue₀ parent₀ taken start most count₀ found₀ head left s state k₀ queue parent count found k =
     commands - k
 
 abbrev Inv-search : tie.InvT-search
-Inv-search ops ends stars commands bits queue₀ parent₀ taken count₀ found₀ head₀ queue parent count found head =
-    (found ≡ false) × Gone (transitionsIn bits commands ops ends stars) queue₀ count₀ parent₀ head queue count parent
+Inv-search ops ends stars commands bits queue₀ parent₀ taken start most count₀ found₀ head₀ left₀ queue parent count found head left =
+    (found ≡ false)
+    × Gone (transitionsIn bits commands ops ends stars) head₀ left₀ queue₀ count₀ parent₀ head left queue count parent
 
 abbrev μ-search : tie.MeasureT-search
-μ-search ops ends stars commands bits queue₀ parent₀ taken count₀ found₀ head₀ queue parent count found head =
-    2 ^ bits - head
+μ-search ops ends stars commands bits queue₀ parent₀ taken start most count₀ found₀ head₀ left₀ queue parent count found head left =
+    left
 
 -- The places that the answers name.
 abbrev After-slice-known3 : Type 0
@@ -77,11 +78,11 @@ After-count = tie.After-count Inv-words μ-words Inv-commands μ-commands Inv-se
 abbrev After-begin : Type 0
 After-begin = tie.After-begin Inv-words μ-words Inv-commands μ-commands Inv-search μ-search
 
+abbrev Then3 : Type 0
+Then3 = tie.Then3 Inv-words μ-words Inv-commands μ-commands Inv-search μ-search
+
 abbrev Then2 : Type 0
 Then2 = tie.Then2 Inv-words μ-words Inv-commands μ-commands Inv-search μ-search
-
-abbrev Then1 : Type 0
-Then1 = tie.Then1 Inv-words μ-words Inv-commands μ-commands Inv-search μ-search
 
 abbrev In-words : Type 0
 In-words = tie.In-words Inv-words μ-words Inv-commands μ-commands Inv-search μ-search
@@ -95,6 +96,9 @@ After-count2 = tie.After-count2 Inv-words μ-words Inv-commands μ-commands Inv-
 abbrev In-commands : Type 0
 In-commands = tie.In-commands Inv-words μ-words Inv-commands μ-commands Inv-search μ-search
 
+abbrev Else1 : Type 0
+Else1 = tie.Else1 Inv-words μ-words Inv-commands μ-commands Inv-search μ-search
+
 abbrev In-search : Type 0
 In-search = tie.In-search Inv-words μ-words Inv-commands μ-commands Inv-search μ-search
 
@@ -105,7 +109,7 @@ s-below : (c : After-slice-known3) →
     getD (at-search .search .queue) (at-search .search .head) 0 < 2 ^ start .args .bits
 s-below c =
     let at-search : At-search = search in
-    at-search .search .inv .1 .kept .ready .below (at-search .search .head) (c .before .search-test .taken)
+    at-search .search .inv .1 .kept .ready .below (at-search .search .head) (c .before .if1 .left)
 
 reached : (c : After-pick) →
     let at-words : At-words = search in
@@ -133,9 +137,10 @@ t-below : (c : After-pick) →
 t-below c = step-below _ _ _ _ _ _ _ (reached c)
 
 -- Where the search breaks off, three loops deep.
-broken : (c : Then2) →
+broken : (c : Then3) →
     let after-pick : After-pick = search in
     let at-words : At-words = search in
+    let at-commands : At-commands = search in
     let at-search : At-search = search in
     let start : Start = search in
     let M = transitionsIn (start .args .bits) (start .args .commands) (start .args .ops .now) (start .args .ends .now)
@@ -147,7 +152,7 @@ broken : (c : Then2) →
     Broke M s (moves M) (old .queue) (old .count) (old .parent) (set (new .queue) (new .count) t) (new .count + 1)
     (set (new .parent) t (s + 1))
 broken c =
-    let then1 : Then1 = search in
+    let then2 : Then2 = search in
     let after-pick : After-pick = search in
     let in-words : In-words = search in
     let at-words : At-words = search in
@@ -158,12 +163,12 @@ broken c =
     command-broke _ _ _ (stars-word _ _ _ _ (after-count2 .count2 .ensures) (after-power .power .ensures))
     (in-commands .commands-test .taken) (at-commands .commands .inv .2)
     (tried-broke _ _ _ (at-words .words .inv .2) (in-words .words-test .taken) _ (reached after-pick)
-    (t-below after-pick) (then1 .if1 .taken) (sym (c .before .breaks .ensures) ∙ c .if2 .taken))
+    (t-below after-pick) (then2 .if2 .taken) (sym (c .before .breaks .ensures) ∙ c .if3 .taken))
 
 search-holds : tie.Need-search-holds Inv-words μ-words Inv-commands μ-commands Inv-search μ-search
 search-holds c =
     let start : Start = search in
-    (refl, gone-refl _ _ _ _ (start .pre .3))
+    (refl, gone-refl _ _ _ _ _ _ (start .pre .3))
 
 mul-s : tie.Need-mul-s Inv-words μ-words Inv-commands μ-commands Inv-search μ-search
 mul-s c = omega arith
@@ -288,12 +293,12 @@ cast-t c =
 cast-at : tie.Need-cast-at Inv-words μ-words Inv-commands μ-commands Inv-search μ-search
 cast-at c = omega arith
 
-mul-if1 : tie.Need-mul-if1 Inv-words μ-words Inv-commands μ-commands Inv-search μ-search
-mul-if1 c = omega arith
+mul-if2 : tie.Need-mul-if2 Inv-words μ-words Inv-commands μ-commands Inv-search μ-search
+mul-if2 c = omega arith
 
-slice-read-if1 :
-    tie.Need-slice-read-if1 Inv-words μ-words Inv-commands μ-commands Inv-search μ-search
-slice-read-if1 c =
+slice-read-if2 :
+    tie.Need-slice-read-if2 Inv-words μ-words Inv-commands μ-commands Inv-search μ-search
+slice-read-if2 c =
     let at-words : At-words = search in
     omega (arith, t-below (c .before), at-words .words .inv .2 .kept .ready .parent-room)
 
@@ -316,7 +321,14 @@ slice-write-parent c =
     omega (arith, t-below after-pick, at-words .words .inv .2 .kept .ready .parent-room)
 
 mul-queue : tie.Need-mul-queue Inv-words μ-words Inv-commands μ-commands Inv-search μ-search
-mul-queue c = omega arith
+mul-queue c =
+    let after-pick : After-pick = search in
+    let at-words : At-words = search in
+    let at-commands : At-commands = search in
+    let start : Start = search in
+    let bits = start .args .bits in
+    let K = at-words .words .inv .2 .kept in
+    omega (arith, room _ _ _ _ (K .ready) 0 _ (t-below after-pick) (c .if2 .taken), pow-small bits (2 ^ bits) (start .pre .0) refl)
 
 slice-write-queue :
     tie.Need-slice-write-queue Inv-words μ-words Inv-commands μ-commands Inv-search μ-search
@@ -324,7 +336,7 @@ slice-write-queue c =
     let after-pick : After-pick = search in
     let at-words : At-words = search in
     let K = at-words .words .inv .2 .kept in
-    omega (arith, room _ _ _ _ (K .ready) 0 _ (t-below after-pick) (c .if1 .taken), K .ready .queue-room)
+    omega (arith, room _ _ _ _ (K .ready) 0 _ (t-below after-pick) (c .if2 .taken), K .ready .queue-room)
 
 add-count-2 : tie.Need-add-count-2 Inv-words μ-words Inv-commands μ-commands Inv-search μ-search
 add-count-2 c =
@@ -339,6 +351,7 @@ breaks-requires :
 breaks-requires c κs =
     let after-pick : After-pick = search in
     let at-words : At-words = search in
+    let at-commands : At-commands = search in
     let at-search : At-search = search in
     let start : Start = search in
     let bits = start .args .bits in (
@@ -368,7 +381,7 @@ words-again c =
           (λ w. rw (w .1, w .2, w .3)
           (tried-old _ _ _ (at-words .words .inv .2) (in-words .words-test .taken) _ (reached after-pick)
           (t-below after-pick) (w .0 .left)))
-          (c .if1 .came),
+          (c .if2 .came),
       B.ready-next _ _ _ _ _ _ (after-renew .renew .ensures) (at-words .words .inv .3),
     )
 
@@ -396,56 +409,78 @@ commands-again c =
 
 add-head : tie.Need-add-head Inv-words μ-words Inv-commands μ-commands Inv-search μ-search
 add-head c =
+    let else1 : Else1 = search in
     let at-search : At-search = search in
     let start : Start = search in
     let bits = start .args .bits in
-    omega (arith, at-search .search .inv .1 .kept .few, pow-small bits (2 ^ bits) (start .pre .0) refl)
+    omega (arith, else1 .if1 .left, at-search .search .inv .1 .kept .few, pow-small bits (2 ^ bits) (start .pre .0) refl)
+
+sub-left : tie.Need-sub-left Inv-words μ-words Inv-commands μ-commands Inv-search μ-search
+sub-left c =
+    let in-search : In-search = search in
+    omega (arith, in-search .search-test .taken)
 
 search-less : tie.Need-search-less Inv-words μ-words Inv-commands μ-commands Inv-search μ-search
 search-less c =
-    let at-search : At-search = search in
-    omega (arith, at-search .search .inv .1 .kept .few)
+    let in-search : In-search = search in
+    omega (arith, in-search .search-test .taken)
 
 search-again : tie.Need-search-again Inv-words μ-words Inv-commands μ-commands Inv-search μ-search
 search-again c =
+    let else1 : Else1 = search in
     let in-search : In-search = search in
     let at-search : At-search = search in (
       c .before .commands .inv .1 ∙ at-search .search .inv .0,
-      gone-next (at-search .search .inv .1)
-          (in-search .search-test .taken)
+      gone-next (at-search .search .inv .1) (in-search .search-test .taken) (else1 .if1 .left)
           (commands-done _ _ (c .before .commands .inv .0) (c .commands-test .left) (c .before .commands .inv .2)),
     )
 
 same-length : tie.Need-same-length Inv-words μ-words Inv-commands μ-commands Inv-search μ-search
 same-length c = c .before .search .inv .1 .kept .queue-length
 
-same-length-2 :
-    tie.Need-same-length-2 Inv-words μ-words Inv-commands μ-commands Inv-search μ-search
+same-length-2 : tie.Need-same-length-2 Inv-words μ-words Inv-commands μ-commands Inv-search μ-search
 same-length-2 c = c .before .search .inv .1 .kept .parent-length
 
 returns : tie.Need-returns Inv-words μ-words Inv-commands μ-commands Inv-search μ-search
-returns c = rw (c .before .search .inv .0) (gone-end (c .before .search .inv .1) (c .search-test .left))
+returns c = rw (c .before .search .inv .0) (gone-enough (c .before .search .inv .1) (omega (arith, c .search-test .left)))
 
-same-length-3 :
-    tie.Need-same-length-3 Inv-words μ-words Inv-commands μ-commands Inv-search μ-search
+same-length-3 : tie.Need-same-length-3 Inv-words μ-words Inv-commands μ-commands Inv-search μ-search
 same-length-3 c =
-    let at-words : At-words = search in
     let at-search : At-search = search in
-    broken c .kept .queue-length ∙ at-search .search .inv .1 .kept .queue-length
+    at-search .search .inv .1 .kept .queue-length
 
-same-length-4 :
-    tie.Need-same-length-4 Inv-words μ-words Inv-commands μ-commands Inv-search μ-search
+same-length-4 : tie.Need-same-length-4 Inv-words μ-words Inv-commands μ-commands Inv-search μ-search
 same-length-4 c =
-    let at-words : At-words = search in
     let at-search : At-search = search in
-    broken c .kept .parent-length ∙ at-search .search .inv .1 .kept .parent-length
+    at-search .search .inv .1 .kept .parent-length
 
 returns-2 : tie.Need-returns-2 Inv-words μ-words Inv-commands μ-commands Inv-search μ-search
 returns-2 c =
-    let at-words : At-words = search in
-    let in-search : In-search = search in
     let at-search : At-search = search in
-    gone-broke (at-search .search .inv .1) (in-search .search-test .taken) (broken c)
+    rw (at-search .search .inv .0) (gone-end (at-search .search .inv .1) (c .if1 .taken))
+
+same-length-5 : tie.Need-same-length-5 Inv-words μ-words Inv-commands μ-commands Inv-search μ-search
+same-length-5 c =
+    let at-words : At-words = search in
+    let at-commands : At-commands = search in
+    let at-search : At-search = search in
+    broken c .kept .queue-length ∙ at-search .search .inv .1 .kept .queue-length
+
+same-length-6 : tie.Need-same-length-6 Inv-words μ-words Inv-commands μ-commands Inv-search μ-search
+same-length-6 c =
+    let at-words : At-words = search in
+    let at-commands : At-commands = search in
+    let at-search : At-search = search in
+    broken c .kept .parent-length ∙ at-search .search .inv .1 .kept .parent-length
+
+returns-3 : tie.Need-returns-3 Inv-words μ-words Inv-commands μ-commands Inv-search μ-search
+returns-3 c =
+    let at-words : At-words = search in
+    let else1 : Else1 = search in
+    let in-search : In-search = search in
+    let at-commands : At-commands = search in
+    let at-search : At-search = search in
+    gone-broke (at-search .search .inv .1) (in-search .search-test .taken) (else1 .if1 .left) (broken c)
 
 pub explore-spec : {M : Type 1} → statement M
 explore-spec =
@@ -478,8 +513,8 @@ explore-spec =
     pick-requires
     cast-t
     cast-at
-    mul-if1
-    slice-read-if1
+    mul-if2
+    slice-read-if2
     add-parent
     mul-parent
     slice-write-parent
@@ -494,6 +529,7 @@ explore-spec =
     commands-less
     commands-again
     add-head
+    sub-left
     search-less
     search-again
     same-length
@@ -501,4 +537,7 @@ explore-spec =
     returns
     same-length-3
     same-length-4
-    returns-2)
+    returns-2
+    same-length-5
+    same-length-6
+    returns-3)
