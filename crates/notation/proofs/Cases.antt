@@ -102,7 +102,8 @@ unfoldable pub cases : List Case
 cases =
     -- G, H and the empty text
     bytes "shared m. row w x.\nstart m each not x.\nkeep 1 each not (w and x).\ncommand grant if m do\nfor 1 do w := *; x := * else skip end else skip.\n" gives saysModel (granting (star 1)) ∷
-    bytes "shared m. row w x.\nstart m each not x.\nkeep 1 each not (w and x).\ncommand grant if m do\nfor 1 do w := *; x := not w and * else skip end else skip.\n" gives saysModel (granting (conj (neg (row 0)) (star 1))) ∷
+    bytes "shared m. row w x.\nstart m each not x.\nkeep 1 each not (w and x).\ncommand grant if m do\nfor 1 do w := *; x := not w and * else skip end else skip.\n" gives
+    saysModel (granting (conj (neg (row 0)) (star 1))) ∷
     bytes "" gives isRefused 3 0 ∷
     -- how expressions group: parentheses first, then `not`, `and`, `or`, and each operator from the left
     starting "m and n and 0" gives saysModel (startsWith (conj (conj (shared 0) (shared 1)) (lit false))) ∷
