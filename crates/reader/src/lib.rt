@@ -12,6 +12,8 @@ mod words;
 
 ghost use mathlib.Core.Path.{_≡_};
 ghost use Rattle.reader.specs.Read.{emptyCode, readingOf};
+ghost use Rattle.reader.specs.working.Commands.{arrays};
+ghost use Rattle.reader.specs.working.Whole.{zeros, refusedWith, readingWith};
 use clauses::Declared;
 use model::model as whole;
 
@@ -55,37 +57,75 @@ pub fn empty() -> Code
     }
 }
 
+// The answer to a text, and how many names of each kind its model has.
+pub struct Summary {
+    pub answer: Answer,
+    pub shared: usize,
+    pub row: usize,
+    pub commands: usize,
+}
+
+fn refusal(number: u8, place: usize) -> Summary
+    ensures { λ r. ⌜ r ≡ refusedWith number place ⌝ }
+{
+    Summary {
+        answer: Answer::Refused(number, place),
+        shared: 0,
+        row: 0,
+        commands: 0,
+    }
+}
+
+// Reads the text into arrays of zeros; where it is refused, they are zeros again.
+pub fn read_into(
+    text: &[u8],
+    names: &mut [u16; 56],
+    ops: &mut [u16; 2048],
+    ends: &mut [u16; 20],
+    stars: &mut [u16; 16],
+) -> Summary
+    requires { ⌜ arrays (now names) (now ops) (now ends) (now stars) ≡ zeros ⌝ }
+    ensures { λ r. ⌜ readingWith r (arrays (now (names .exit)) (now (ops .exit)) (now (ends .exit)) (now (stars .exit))) ≡ readingOf (now (text .entry)) ⌝ }
+{
+    if MAX_TEXT < text.len() {
+        return refusal(1, MAX_TEXT);
+    }
+    let said = whole(text, names, ops, ends, stars);
+    match said {
+        Declared::Ok(_, l) => Summary {
+            answer: Answer::Read,
+            shared: l.shared,
+            row: l.row,
+            commands: l.commands,
+        },
+        Declared::Refused(n, i) => {
+            *names = [0u16; 56];
+            *ops = [0u16; 2048];
+            *ends = [0u16; 20];
+            *stars = [0u16; 16];
+            refusal(n, i)
+        }
+    }
+}
+
 // The model that the text says, or its first refusal.
 pub fn read(text: &[u8]) -> Reading
     ensures { λ r. ⌜ r ≡ readingOf (now (text .entry)) ⌝ }
 {
-    if MAX_TEXT < text.len() {
-        return Reading {
-            answer: Answer::Refused(1, MAX_TEXT),
-            code: empty(),
-        };
-    }
-    let mut ops = [0u16; 2048];
+    let mut code = empty();
+    let mut names = [0u16; 56];
     let mut ends = [0u16; 20];
     let mut stars = [0u16; 16];
-    let mut names = [0u16; 56];
-    let said = whole(text, &mut names, &mut ops, &mut ends, &mut stars);
-    match said {
-        Declared::Ok(_, l) => Reading {
-            answer: Answer::Read,
-            code: Code {
-                ops: ops,
-                ends: ends,
-                stars: stars,
-                names: names,
-                shared: l.shared,
-                row: l.row,
-                commands: l.commands,
-            },
-        },
-        Declared::Refused(n, i) => Reading {
-            answer: Answer::Refused(n, i),
-            code: empty(),
-        },
+    let told = read_into(text, &mut names, &mut code.ops, &mut ends, &mut stars);
+    code.names = names;
+    code.ends = ends;
+    code.stars = stars;
+    code.shared = told.shared;
+    code.row = told.row;
+    code.commands = told.commands;
+    let answer = told.answer;
+    Reading {
+        answer: answer,
+        code: code,
     }
 }

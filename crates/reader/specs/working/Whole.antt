@@ -4,7 +4,7 @@ use mathlib.Core.Path.{_≡_}
 use mathlib.Core.Bool.{Bool, true, false}
 use mathlib.Core.List.{List, _++_}
 use Prim.Native.Nat.{ℕ, _+_}
-use lib.ListN.{length}
+use lib.ListN.{length, replicate}
 use lib.Seq.{sets}
 use Rattle.notation.specs.Tokens.{Name, Lexeme}
 use Rattle.notation.specs.Notation.{Tree, Clause}
@@ -15,6 +15,9 @@ use Rattle.notation.specs.working.Ledger.{Book, blankBook}
 use Rattle.notation.specs.working.Table as T
 use Rattle.notation.specs.working.Machine.{read, refused, reading}
 use Rattle.notation.specs.working.Descent.{Got, got, stop, thenReads, reader}
+use Rattle.reader.specs.declared.Answer.the-variants as A
+use Rattle.reader.specs.declared.Reading.{Reading}
+use Rattle.reader.specs.declared.Summary.{Summary}
 use Rattle.reader.specs.declared.cursor.Cursor.{Cursor}
 use Rattle.reader.specs.declared.cursor.Ledger.{Ledger}
 use Rattle.reader.specs.declared.cursor.Parsed.{Parsed}
@@ -28,7 +31,7 @@ use Rattle.reader.specs.working.Items.{kindOf}
 use Rattle.reader.specs.Read.{placed}
 use Rattle.reader.specs.working.Clauses.{WroteNames, clauseWords, clauseEnds, clauseAt}
 use Rattle.reader.specs.working.Sequences.{Pair, paired, pairing}
-use Rattle.reader.specs.working.Commands.{Naming, Arrays, WroteArrays}
+use Rattle.reader.specs.working.Commands.{Naming, Arrays, arrays, WroteArrays}
 
 -- The descent's answer at a sign, names and a full stop.
 abbrev pub headReader : ℕ → Bool → ℕ → List Lexeme → Book → Got (List Name)
@@ -86,3 +89,20 @@ pub record Modelled (text : List ℕ) (s s′ : Arrays) (l : Ledger) : Type 0 wh
 unfoldable pub ModelSays : List ℕ → Arrays → Arrays → Declared → Type 0
 ModelSays text s s′ (D.Ok c l) = Modelled text s s′ l
 ModelSays text s s′ (D.Refused n i) = (reading (length text) (tokens text) ≡ refused n i) × WroteArrays 0 0 0 0 s s′
+
+-- The arrays before a text is read into them.
+abbrev pub zeros : Arrays
+zeros = arrays (replicate 56 0) (replicate 2048 0) (replicate 20 0) (replicate 16 0)
+
+-- The summary of a text that is refused.
+abbrev pub refusedWith : ℕ → ℕ → Summary
+refusedWith n i = record { answer = A.Refused n i; shared = 0; row = 0; commands = 0 }
+
+-- The reading that a summary and the arrays make.
+abbrev pub readingWith : Summary → Arrays → Reading
+readingWith r s =
+    record {
+      answer = r .answer;
+      code =
+          record { ops = s .ops; ends = s .ends; stars = s .stars; names = s .names; shared = r .shared; row = r .row; commands = r .commands };
+    }
