@@ -17,7 +17,7 @@ use fields::map_length;
 use maps::test_map;
 use outcome::Outcome;
 use reader::Answer;
-use reader::read;
+use reader::read_into;
 use sheets::Shape;
 use sheets::shape_of;
 use traces::test_trace;
@@ -59,24 +59,22 @@ pub fn test(text: &[u8], sheet: &[u8]) -> Outcome
     ensures bytes { λ _. ⌜ AreBytes (now (sheet .entry)) ⌝ }
 {
     bytes_known(sheet);
-    let reading = read(text);
-    let answer = reading.answer;
+    let mut names = [0u16; 56];
+    let mut ops = [0u16; 2048];
+    let mut ends = [0u16; 20];
+    let mut stars = [0u16; 16];
+    let told = read_into(text, &mut names, &mut ops, &mut ends, &mut stars);
+    let answer = told.answer;
     match answer {
         Answer::Refused(n, p) => Outcome::Refused(n, p),
-        Answer::Read => {
-            let code = reading.code;
-            let ops = code.ops;
-            let ends = code.ends;
-            let stars = code.stars;
-            test_sheet(
-                sheet,
-                code.shared,
-                code.row,
-                code.commands,
-                &ops,
-                &ends,
-                &stars,
-            )
-        }
+        Answer::Read => test_sheet(
+            sheet,
+            told.shared,
+            told.row,
+            told.commands,
+            &ops,
+            &ends,
+            &stars,
+        ),
     }
 }

@@ -22,7 +22,7 @@ use exploring::run;
 use finding::Finding;
 use maps::write_map;
 use reader::Answer;
-use reader::read;
+use reader::read_into;
 use records::put_head;
 use records::put_header;
 use tables::clear;
@@ -105,27 +105,25 @@ fn search_code(
 fn search_text(text: &[u8], first: &mut [u16], second: &mut [u16], sheet: &mut [u8]) -> Finding
     ensures { λ r. ⌜ Ends (searchOf (now (text .entry)) (now (first .entry)) (now (second .entry)) (now (sheet .entry))) r (now (first .exit)) (now (second .exit)) (now (sheet .exit)) ⌝ }
 {
-    let reading = read(text);
-    let answer = reading.answer;
+    let mut names = [0u16; 56];
+    let mut ops = [0u16; 2048];
+    let mut ends = [0u16; 20];
+    let mut stars = [0u16; 16];
+    let told = read_into(text, &mut names, &mut ops, &mut ends, &mut stars);
+    let answer = told.answer;
     match answer {
         Answer::Refused(n, p) => Finding::Refused(n, p),
-        Answer::Read => {
-            let code = reading.code;
-            let ops = code.ops;
-            let ends = code.ends;
-            let stars = code.stars;
-            search_code(
-                &ops,
-                &ends,
-                &stars,
-                code.shared,
-                code.row,
-                code.commands,
-                first,
-                second,
-                sheet,
-            )
-        }
+        Answer::Read => search_code(
+            &ops,
+            &ends,
+            &stars,
+            told.shared,
+            told.row,
+            told.commands,
+            first,
+            second,
+            sheet,
+        ),
     }
 }
 

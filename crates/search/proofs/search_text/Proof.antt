@@ -1,13 +1,13 @@
 -- `search_text` meets its contract: the text's refusal, or what is left over the flat form that was read.
 -- Assumes nothing.
 use Rattle.search.proofs.SearchTexts.{was-read, search-read, search-refused}
-use mathlib.Core.Path.{sym}
+use mathlib.Core.Path.{refl, sym}
 use borrow.Author.Needs.{needs}
 use Rattle.search.proofs.search_text.Statement.{statement}
 use Rattle.search.proofs.search_text.Tie as tie
 
-read-requires : tie.Need-read-requires
-read-requires c κs = search needs
+read-into-requires : tie.Need-read-into-requires
+read-into-requires c κs = refl
 
 enum-known-answer : tie.Need-enum-known-answer
 enum-known-answer c = search needs
@@ -18,18 +18,18 @@ enum-told c = search needs
 search-code-requires : tie.Need-search-code-requires
 search-code-requires c κs =
     let after-enum-told : tie.After-enum-told = search in
-    let after-read : tie.After-read = search in (
-      was-read _ _ (after-read .read .ensures) (sym (after-enum-told .enum-told .given .1)) .fewNames,
+    let after-read-into : tie.After-read-into = search in (
+      was-read _ _ (after-read-into .read-into .ensures) (sym (after-enum-told .enum-told .given .1)) .fewNames,
       was-read _ _
-          (after-read .read .ensures) (sym (after-enum-told .enum-told .given .1)) .few,
+          (after-read-into .read-into .ensures) (sym (after-enum-told .enum-told .given .1)) .few,
       was-read _ _
-          (after-read .read .ensures) (sym (after-enum-told .enum-told .given .1)) .parted,
+          (after-read-into .read-into .ensures) (sym (after-enum-told .enum-told .given .1)) .parted,
     )
 
 returns : tie.Need-returns
 returns c =
-    let after-read : tie.After-read = search in
-    search-refused _ _ (after-read .read .ensures) _ _ (sym (c .before .answer .given .1)) _ _ _
+    let after-read-into : tie.After-read-into = search in
+    search-refused _ _ (after-read-into .read-into .ensures) _ _ (sym (c .before .answer .given .1)) _ _ _
 
 same-length : tie.Need-same-length
 same-length c = search needs
@@ -44,15 +44,15 @@ returns-2 : tie.Need-returns-2
 returns-2 c =
     let after-search-code : tie.After-search-code = search in
     let after-enum-told : tie.After-enum-told = search in
-    let after-read : tie.After-read = search in
-    search-read _ _ (after-read .read .ensures) (sym (after-enum-told .enum-told .given .1)) _ _ _ _ _ _ _
+    let after-read-into : tie.After-read-into = search in
+    search-read _ _ (after-read-into .read-into .ensures) (sym (after-enum-told .enum-told .given .1)) _ _ _ _ _ _ _
     (after-search-code .search-code .ensures)
 
 pub search-text-spec : {M : Type 1} → statement M
 search-text-spec =
     tie.close
     (tie.spec
-    read-requires
+    read-into-requires
     enum-known-answer
     enum-told
     search-code-requires
