@@ -1,4 +1,5 @@
 /* Nutseason for programs in C: the reader and the acceptance test (libloader.a), and the search (libworkbench.a).
+ * They are installed as libnutseason_loader.a and libnutseason_workbench.a; `pkg-config --libs nutseason` names both.
  *
  * Every function is proved: it ends on all inputs, touches nothing but what it is handed, keeps nothing between
  * calls, and needs no heap. It answers with one number. The low byte says which answer it is, and the rest,
