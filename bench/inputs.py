@@ -1,11 +1,13 @@
 """What is measured: texts with the sheets that the search writes for them, and
-sheets that fail, to be sure that those who are measured test them."""
+sheets that fail and texts that are refused, to be sure that those who are
+measured test them."""
 
 from collections import namedtuple
 
 import models
 
-# The answer is the letter by which the test tells of the sheet.
+# The answer is the letter by which the test tells of the sheet, or the number
+# and place of the text's refusal.
 Input = namedtuple("Input", "title text sheet answer")
 
 G_SHEET = bytes.fromhex(
@@ -94,3 +96,43 @@ FAILING = [failing(H, 1, 0x22, "A"), failing(H, 1, 0xff, "B"),
            # Only the last word of the last command leaves it.
            STARRY._replace(title="map of the start state",
                            sheet=map_sheet(1, 0), answer="C")]
+
+
+def refused(number, marked):
+    """A text that is refused where it is marked."""
+    place = marked.index("^")
+    return Input(f"refused {number} {place}", marked.replace("^", "", 1), b"",
+                 (number, place))
+
+
+def one_over(separator, part, limit):
+    """The part, with a mark before the first that is over the limit."""
+    return separator.join([part] * limit + ["^" + part])
+
+
+CLAUSES = "shared a. row w. start 1 each 1. keep 1 each 1. "
+COMMAND = CLAUSES + "command c if 1 do "
+MANY = "".join(f"command c{j} if 1 do skip else skip. " for j in range(16))
+
+REFUSED = [refused(number, marked) for number, marked in [
+    (1, " " * models.LONGEST_TEXT + "^ "),
+    (2, "shared a^, b."), (2, "shared ^abcdefghijklmnopq."),
+    (3, "shared a^; b."), (3, "shared a ^"), (3, "shared a. row ^end."),
+    (3, COMMAND + "a ^: = 1"), (3, COMMAND + "for 1 do ^for"),
+    (3, COMMAND + "skip else skip. ^skip"),
+    (4, "shared a. row b ^a."), (4, CLAUSES + "command ^w"),
+    (5, "shared a. row. start ^b"), (5, "shared. row w. start ^w"),
+    (5, COMMAND + "for 1 do ^a := 1"), (5, COMMAND + "^w := 1"),
+    (6, "shared. row. start ^*"),
+    (7, "shared a b c d e f g h ^i."),
+    (7, "shared. row a b c d e f g h i j ^k."),
+    (7, "shared a b c. row d e f g h i j k l ^m."),
+    (7, "shared. row. start " + one_over("", "(", models.DEPTH)),
+    (7, "shared a. row. start " + one_over(" ", "not", models.DEPTH)),
+    (7, COMMAND + "a := " + one_over(" or ", "*", models.STARS)),
+    (7, COMMAND + one_over("; ", "skip", 256)),
+    # Clauses and condition have five nodes; 509 zeros, an `or` for each and a
+    # name make 1,024.
+    (7, COMMAND + "a := " + "0 or " * 509 + "a ^or a"),
+    (7, CLAUSES + MANY + "^command"),
+]]

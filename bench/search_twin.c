@@ -1,5 +1,8 @@
 /* The search in plain C: the sheet has the trace of the first breaking run, or
  * the map of the states that runs reach. */
+#include <stdio.h>
+#include <stdlib.h>
+
 #include "twin.h"
 #include "twin_stepping.h"
 
@@ -75,6 +78,12 @@ static int put_map(void)
     return payload + size;
 }
 
+static void fail(const char *what)
+{
+    fprintf(stderr, "twin: %s\n", what);
+    exit(2);
+}
+
 /* A step's record, with the first move from one state to the other. */
 static void put_step(int lanes, int from, uint32_t state, uint32_t target)
 {
@@ -120,7 +129,9 @@ uint64_t twin_search(const uint8_t *bytes, size_t size,
                      uint16_t *second, size_t second_len,
                      uint8_t *room, size_t room_len, int lanes)
 {
-    read_text(bytes, size);
+    uint64_t refusal = text_refused(bytes, size);
+    if (refusal)
+        return refusal;
     if (first_len < (size_t)states || second_len < (size_t)states
         || room_len < 7 + 10 * (size_t)states)
         return 8;

@@ -4,7 +4,9 @@
 
 uint64_t twin_read(const uint8_t *bytes, size_t size)
 {
-    read_text(bytes, size);
+    uint64_t refusal = text_refused(bytes, size);
+    if (refusal)
+        return refusal;
     return 'm' | (uint64_t)shared << 8 | (uint64_t)row << 16
          | (uint64_t)commands << 24;
 }
@@ -129,8 +131,9 @@ static char test_trace(void)
 uint64_t twin_test(const uint8_t *bytes, size_t size, const uint8_t *tested,
                    size_t tested_size, int lanes)
 {
-    read_text(bytes, size);
-    uint64_t refusal = sheet_refused(tested, tested_size);
+    uint64_t refusal = text_refused(bytes, size);
+    if (!refusal)
+        refusal = sheet_refused(tested, tested_size);
     if (refusal)
         return refusal;
     return map ? test_map(lanes) : test_trace();

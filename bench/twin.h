@@ -1,8 +1,7 @@
 /* The twins: the reader, the test and the search in plain C, to measure the
  * product against. They go about it as the product does and share no code with
- * it. A text is taken to be one that the product's reader accepts; any other
- * ends the program. With `lanes` a command is run with 64 choice words at a
- * time, without with one. */
+ * it. They test what the product tests and give the same answers. With `lanes`
+ * a command is run with 64 choice words at a time, without with one. */
 #ifndef TWIN_H
 #define TWIN_H
 

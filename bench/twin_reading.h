@@ -1,13 +1,22 @@
-/* The twins' reader: from a text to the code of its model. */
+/* The twins' reader: from a text to the code of its model, or to the text's
+ * first refusal. */
 #ifndef TWIN_READING_H
 #define TWIN_READING_H
 
+#include <setjmp.h>
 #include <stdint.h>
-#include <stdio.h>
-#include <stdlib.h>
 #include <string.h>
 
 enum { LONGEST_CODE = 2048 };
+
+/* The limits of a text. */
+enum { LONGEST_TEXT = 16384, LONGEST_WORD = 16, MOST_SHARED = 8, MOST_ROW = 10,
+       MOST_NAMES = 12, MOST_COMMANDS = 16, MOST_STARS = 8, MOST_NODES = 1024,
+       MOST_ITEMS = 256, DEEPEST = 16 };
+
+/* The refusals. */
+enum { TOO_LONG = 1, NO_TOKEN, MISPLACED, DECLARED_BEFORE, WRONG_NAME,
+       STRAY_STAR, OVER_LIMIT };
 
 /* A code word is a kind times 32 and an argument below 32. Operands come
  * before their operator; a test comes before WHEN, its first branch ends at
@@ -17,20 +26,28 @@ enum { PUSH, LOAD, CHOOSE, NEGATE, BOTH, EITHER, STORE, WHEN, OTHERWISE, DONE,
 
 static uint16_t code[LONGEST_CODE];
 static int length;              /* code words so far */
-static int ends[4 + 16];        /* start, its each, keep, its each, commands */
-static int stars[16];           /* free choices of each command */
+/* The code of start, its each, keep, its each and the commands ends there. */
+static int ends[4 + MOST_COMMANDS];
+static int stars[MOST_COMMANDS]; /* free choices of each command */
 static int shared, row, commands, names, states;
-
-static void fail(const char *what)
-{
-    fprintf(stderr, "twin: %s\n", what);
-    exit(2);
-}
 
 static const uint8_t *text;
 static int text_length, place;
-static char token[17];          /* "" at the text's end */
-static char declared[12][17];
+static char token[LONGEST_WORD + 1]; /* "" at the text's end */
+static int token_place;
+static int fault;               /* how it is refused where it may not stand */
+static int nodes, item_count;
+static int all_names;           /* the names and the commands' */
+static char declared[MOST_NAMES + MOST_COMMANDS][LONGEST_WORD + 1];
+
+static jmp_buf outside;
+static uint64_t first_refusal;
+
+static _Noreturn void refuse(int number)
+{
+    first_refusal = (uint64_t)number | (uint64_t)token_place << 8;
+    longjmp(outside, 1);
+}
 
 static int in_word(int byte)
 {
@@ -43,14 +60,31 @@ static void next(void)
     int size = 0;
     while (place < text_length && (text[place] == ' ' || text[place] == '\n'))
         place++;
+    token_place = place;
+    fault = MISPLACED;
     if (place < text_length && in_word(text[place])) {
-        while (place < text_length && in_word(text[place]) && size < 16)
+        while (place < text_length && in_word(text[place])
+               && size < LONGEST_WORD)
             token[size++] = text[place++];
+        if (place < text_length && in_word(text[place])) {
+            fault = NO_TOKEN;
+            strcpy(token, "!");
+            size = 1;
+        }
     } else if (place < text_length) {
-        int twice = text[place] == ':';
-        token[size++] = text[place++];
-        if (twice && place < text_length)
+        switch (text[place]) {
+        case ':':
             token[size++] = text[place++];
+            if (place < text_length && text[place] == '=')
+                token[size++] = text[place++];
+            break;
+        case '.': case ';': case '(': case ')': case '*': case '=':
+            token[size++] = text[place++];
+            break;
+        default:
+            fault = NO_TOKEN;
+            token[size++] = '!';
+        }
     }
     token[size] = 0;
 }
@@ -63,123 +97,190 @@ static int at(const char *word)
 static void pass(const char *word)
 {
     if (!at(word))
-        fail("not a text that the reader accepts");
+        refuse(fault);
     next();
+}
+
+static int is_letter(int byte)
+{
+    return (byte >= 'a' && byte <= 'z') || (byte >= 'A' && byte <= 'Z');
+}
+
+static int is_name(void)
+{
+    static const char words[15][8] = {
+        "shared", "row", "start", "keep", "each", "command", "if", "do",
+        "else", "for", "end", "skip", "and", "or", "not"};
+    if (!is_letter(token[0]))
+        return 0;
+    for (int j = 0; j < 15; j++)
+        if (at(words[j]))
+            return 0;
+    return 1;
+}
+
+static void count_node(void)
+{
+    if (nodes == MOST_NODES)
+        refuse(OVER_LIMIT);
+    nodes++;
+}
+
+static void count_item(void)
+{
+    if (item_count == MOST_ITEMS)
+        refuse(OVER_LIMIT);
+    item_count++;
 }
 
 static void emit(int kind, int argument)
 {
-    if (length == LONGEST_CODE)
-        fail("too much code");
     code[length++] = (uint16_t)(kind * 32 + argument);
 }
 
-static int name_number(void)
+/* The number of the token among the names from..to. */
+static int name_number(int from, int to)
 {
-    for (int j = 0; j < names; j++)
-        if (at(declared[j])) {
-            next();
+    for (int j = from; j < to; j++)
+        if (at(declared[j]))
             return j;
-        }
-    fail("an unknown name");
-    return 0;
+    refuse(is_name() ? WRONG_NAME : fault);
 }
 
-static void disjunction(int *choices);
+/* Whether row names and stars may stand in an expression. */
+struct scope {
+    int rows, stars;
+};
 
-static void factor(int *choices)
+static void disjunction(int *choices, struct scope scope, int depth);
+
+static void factor(int *choices, struct scope scope, int depth)
 {
     if (at("not")) {
+        if (depth == 0)
+            refuse(OVER_LIMIT);
+        count_node();
         next();
-        factor(choices);
+        factor(choices, scope, depth - 1);
         emit(NEGATE, 0);
     } else if (at("(")) {
+        if (depth == 0)
+            refuse(OVER_LIMIT);
         next();
-        disjunction(choices);
+        disjunction(choices, scope, depth - 1);
         pass(")");
     } else if (at("0") || at("1")) {
+        count_node();
         emit(PUSH, at("1"));
         next();
     } else if (at("*")) {
+        if (!scope.stars)
+            refuse(STRAY_STAR);
+        if (*choices == MOST_STARS)
+            refuse(OVER_LIMIT);
+        count_node();
         emit(CHOOSE, (*choices)++);
         next();
     } else {
-        emit(LOAD, name_number());
+        int j = name_number(0, scope.rows ? names : shared);
+        count_node();
+        emit(LOAD, j);
+        next();
     }
 }
 
-static void conjunction(int *choices)
+static void conjunction(int *choices, struct scope scope, int depth)
 {
-    factor(choices);
+    factor(choices, scope, depth);
     while (at("and")) {
+        count_node();
         next();
-        factor(choices);
+        factor(choices, scope, depth);
         emit(BOTH, 0);
     }
 }
 
-static void disjunction(int *choices)
+static void disjunction(int *choices, struct scope scope, int depth)
 {
-    conjunction(choices);
+    conjunction(choices, scope, depth);
     while (at("or")) {
+        count_node();
         next();
-        conjunction(choices);
+        conjunction(choices, scope, depth);
         emit(EITHER, 0);
     }
 }
 
-static void items(int *choices);
+static void items(int *choices, int rows);
 
 /* Two lists of items behind a test: `do`, the first, `else`, the second. */
-static void branches(int *choices)
+static void branches(int *choices, int rows)
 {
-    disjunction(choices);
-    emit(WHEN, 0);
+    disjunction(choices, (struct scope){rows, 1}, DEEPEST);
     pass("do");
-    items(choices);
-    emit(OTHERWISE, 0);
+    emit(WHEN, 0);
+    items(choices, rows);
     pass("else");
-    items(choices);
-    emit(DONE, 0);
+    emit(OTHERWISE, 0);
+    items(choices, rows);
 }
 
-static void item(int *choices)
+static void item(int *choices, int rows)
 {
     if (at("skip")) {
+        count_item();
         next();
         emit(PASS, 0);
-    } else if (at("for")) {
+    } else if (!rows && at("for")) {
+        count_item();
         next();
-        branches(choices);
+        branches(choices, 1);
         pass("end");
+        emit(DONE, 0);
     } else {
-        int target = name_number();
+        int target = rows ? name_number(shared, names) : name_number(0, shared);
+        count_item();
+        next();
         pass(":=");
-        disjunction(choices);
+        disjunction(choices, (struct scope){rows, 1}, DEEPEST);
         emit(STORE, target);
     }
 }
 
-static void items(int *choices)
+static void items(int *choices, int rows)
 {
-    item(choices);
+    item(choices, rows);
     while (at(";")) {
         next();
-        item(choices);
+        item(choices, rows);
     }
 }
 
-static int declarations(const char *word)
+static void new_name(void)
+{
+    for (int j = 0; j < all_names; j++)
+        if (at(declared[j]))
+            refuse(DECLARED_BEFORE);
+}
+
+static void declare(void)
+{
+    strcpy(declared[all_names++], token);
+    next();
+}
+
+static int declarations(const char *word, int most)
 {
     int before = names;
     pass(word);
-    while (!at(".")) {
-        if (names == 12 || !token[0])
-            fail("too many names");
-        strcpy(declared[names++], token);
-        next();
+    while (is_name()) {
+        new_name();
+        if (names == MOST_NAMES || names - before == most)
+            refuse(OVER_LIMIT);
+        declare();
+        names++;
     }
-    next();
+    pass(".");
     return names - before;
 }
 
@@ -187,36 +288,62 @@ static void clause(const char *word, int segment)
 {
     int none = 0;
     pass(word);
-    disjunction(&none);
+    disjunction(&none, (struct scope){0, 0}, DEEPEST);
     ends[segment] = length;
     pass("each");
-    disjunction(&none);
+    disjunction(&none, (struct scope){1, 0}, DEEPEST);
     ends[segment + 1] = length;
     pass(".");
 }
 
-static void read_text(const uint8_t *bytes, size_t size)
+static void read_command(void)
 {
-    text = bytes;
-    text_length = (int)size;
-    place = length = commands = names = 0;
-    memset(stars, 0, sizeof stars);
+    if (!at("command"))
+        refuse(fault);
+    if (commands == MOST_COMMANDS)
+        refuse(OVER_LIMIT);
     next();
-    shared = declarations("shared");
-    row = declarations("row");
+    if (!is_name())
+        refuse(fault);
+    new_name();
+    declare();
+    pass("if");
+    branches(&stars[commands], 0);
+    pass(".");
+    emit(DONE, 0);
+    ends[4 + commands++] = length;
+}
+
+static void read_text(void)
+{
+    next();
+    shared = declarations("shared", MOST_SHARED);
+    row = declarations("row", MOST_ROW);
     clause("start", 0);
     clause("keep", 2);
-    while (at("command") && commands < 16) {
-        next();
-        next();
-        pass("if");
-        branches(&stars[commands]);
-        ends[4 + commands++] = length;
-        pass(".");
-    }
+    do
+        read_command();
+    while (at("command"));
     if (token[0])
-        fail("not a text that the reader accepts");
+        refuse(fault);
     states = 1 << names;
+}
+
+/* The first refusal of the text, or 0 where it was read. */
+static uint64_t text_refused(const uint8_t *bytes, size_t size)
+{
+    if (size > LONGEST_TEXT)
+        return TOO_LONG | (uint64_t)LONGEST_TEXT << 8;
+    memset(code, 0, sizeof code);
+    memset(ends, 0, sizeof ends);
+    memset(stars, 0, sizeof stars);
+    text = bytes;
+    text_length = (int)size;
+    place = length = commands = names = all_names = nodes = item_count = 0;
+    if (_setjmp(outside))
+        return first_refusal;
+    read_text();
+    return 0;
 }
 
 #endif
