@@ -11,12 +11,12 @@ use lib.Dec.{eqb}
 use borrow.Author.Tests.{eqb-true}
 use Rattle.notation.specs.Model.{Model}
 use Rattle.meaning.specs.OneRow.{next, TraceStep}
-use Rattle.meaning.specs.Evidence.{safe, trace, TracePasses}
+use Rattle.meaning.specs.Evidence.{TracePasses}
 use Rattle.meaning.specs.working.Conditions.{testE}
 use Rattle.notation.proofs.Booleans.{and-split}
 use Rattle.meaning.proofs.Accept.{all-tests-tell}
 use Rattle.exploration.specs.Order.{StepBefore, StepsBefore, RunBefore}
-use Rattle.exploration.specs.Findings.{FirstBreak, FindsOnce}
+use Rattle.exploration.specs.Findings.{safeBy, unsafeBy, FirstBreak, FindsOnce}
 use Rattle.exploration.proofs.Order.{lt-or-ge}
 use Rattle.exploration.proofs.MapsAlike.{maps-alike}
 
@@ -86,7 +86,7 @@ module _ (m : Model) where
   tested s xs p = all-tests-tell m .tellsE s xs (p .stepsFit) .1 (p .steps)
 
   runs-total : (s : ℕ) (xs : List TraceStep) (t : ℕ) (ys : List TraceStep) → TracePasses m s xs → TracePasses m t ys
-      → RunBefore s xs t ys ⊎ ((trace s xs ≡ trace t ys) ⊎ RunBefore t ys s xs)
+      → RunBefore s xs t ys ⊎ ((unsafeBy s xs ≡ unsafeBy t ys) ⊎ RunBefore t ys s xs)
   runs-total s xs t ys p q =
       ⊎-elim
       (λ h. inl (inl h))
@@ -102,7 +102,7 @@ module _ (m : Model) where
       (λ l. inl (inr (e, inr (f, l))))
       (λ l.
       ⊎-elim
-      (λ (g : xs ≡ ys). inr (inl (λ i. trace (f i) (g i))))
+      (λ (g : xs ≡ ys). inr (inl (λ i. unsafeBy (f i) (g i))))
       (λ n. inr (inr (inr (sym e, inr (sym f, n)))))
       l)
       (steps-total (next m) s xs ys e (tested s xs p) (subst (λ (u : ℕ). testE (next m) u ys ≡ true) (sym f) (tested t ys q))))
@@ -113,7 +113,7 @@ module _ (m : Model) where
       h)
       (trichotomy (length xs) (length ys))
 
-  first-alike : (s : ℕ) (xs : List TraceStep) (t : ℕ) (ys : List TraceStep) → FirstBreak m s xs → FirstBreak m t ys → trace s xs ≡ trace t ys
+  first-alike : (s : ℕ) (xs : List TraceStep) (t : ℕ) (ys : List TraceStep) → FirstBreak m s xs → FirstBreak m t ys → unsafeBy s xs ≡ unsafeBy t ys
   first-alike s xs t ys F G =
       ⊎-elim
       (λ h. absurd (G .first s xs (F .breaks) h))
@@ -121,7 +121,7 @@ module _ (m : Model) where
       (runs-total s xs t ys (F .breaks) (G .breaks))
 
 pub finds-once : FindsOnce
-finds-once m (safe a) (safe b) p q = ap safe (maps-alike m a b (p .1) (q .1))
-finds-once m (safe a) (trace t ys) p q = let (s, xs, r, b) = q .0 in absurd (p .0 s xs r b)
-finds-once m (trace s xs) (safe b) p q = let (t, ys, r, h) = p .0 in absurd (q .0 t ys r h)
-finds-once m (trace s xs) (trace t ys) p q = first-alike m s xs t ys (p .1) (q .1)
+finds-once m (safeBy a) (safeBy b) p q = ap safeBy (maps-alike m a b (p .1) (q .1))
+finds-once m (safeBy a) (unsafeBy t ys) p q = let (s, xs, r, b) = q .0 in absurd (p .0 s xs r b)
+finds-once m (unsafeBy s xs) (safeBy b) p q = let (t, ys, r, h) = p .0 in absurd (q .0 t ys r h)
+finds-once m (unsafeBy s xs) (unsafeBy t ys) p q = first-alike m s xs t ys (p .1) (q .1)

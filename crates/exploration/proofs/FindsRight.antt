@@ -1,4 +1,4 @@
--- The sheet that the search finds is what there is to find of the model.
+-- What the search finds is what there is to find of the model.
 -- Assumes nothing.
 use mathlib.Core.Path.{_≡_, sym, ap, _∙_, subst}
 use mathlib.Core.Logic.{_↔_, ⊎-elim}
@@ -19,10 +19,10 @@ use Rattle.exploration.specs.Findings.{Reaches, ExactMap, FirstBreak, Fi
 use Rattle.exploration.specs.Promises.{FoundIsRight}
 use Rattle.exploration.specs.working.Transitions.{Transitions}
 use Rattle.exploration.specs.working.Runs.{Run, startsAt, First, steps, startOf}
-use Rattle.exploration.specs.working.Verdicts.{Verdict, firstRun, reached, verdict, AllReached, Right}
+use Rattle.exploration.specs.working.Results.{Result, firstRun, reached, result, AllReached, Right}
 use Rattle.exploration.specs.working.Written.{mapFrom}
-use Rattle.exploration.specs.working.Found.{stepsOf, sheetFor, foundIn, Agrees}
-use Rattle.exploration.proofs.Right.{verdict-right}
+use Rattle.exploration.specs.working.Found.{stepsOf, verdictFor, foundIn, Agrees}
+use Rattle.exploration.proofs.Right.{result-right}
 use Rattle.exploration.proofs.Map.{map-length}
 use Rattle.exploration.proofs.RunsOfModels.{onBy, lawful, trace-passes, run-reaches, trace-valid, trace-breaks, run-told, reaches-run, break-told}
 use Rattle.exploration.proofs.Order.{lt-or-ge, shorter}
@@ -86,11 +86,11 @@ module _ (T : Transitions) (m : Model) (A : Agrees T m) where
           exact = exactly;
         }
 
-  finds-for : Regular m → (v : Verdict) → Right T v → Finds m (sheetFor T v)
-  unfolding sheetFor found
+  finds-for : Regular m → (v : Result) → Right T v → Finds m (verdictFor T v)
+  unfolding verdictFor found
   finds-for g (firstRun r) F = let f = first-break g r F in (trace-unsafe m (startOf r) (stepsOf T r) (f .breaks), f)
   finds-for g (reached b) R = (all-safe g b R, exact-map g b R)
 
 pub finds-right : FoundIsRight
 unfolding foundIn
-finds-right T m A g = finds-for T m A g (verdict T) (verdict-right T (lawful T m A))
+finds-right T m A g = finds-for T m A g (result T) (result-right T (lawful T m A))

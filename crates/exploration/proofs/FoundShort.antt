@@ -11,13 +11,13 @@ use Rattle.meaning.specs.OneRow.{TraceStep}
 use Rattle.meaning.specs.Evidence.{safe, trace}
 use Rattle.acceptance.specs.Sheets.{System, mapLength, little, recordBytes, headerBytes, mapBytes, startBytes, sheetBytes}
 use Rattle.acceptance.proofs.SheetWritten.{steps-length}
+use Rattle.exploration.specs.Findings.{sheetOf}
 use Rattle.exploration.specs.working.Transitions.{Transitions}
 use Rattle.exploration.specs.working.Exploring.{Progress, broke, through, search}
 use Rattle.exploration.specs.working.Runs.{steps, startOf}
-use Rattle.exploration.specs.working.Verdicts as D
-use Rattle.exploration.specs.working.Verdicts.{Verdict, firstRun, reached}
+use Rattle.exploration.specs.working.Results.{Result, firstRun, reached, resultOf, result}
 use Rattle.exploration.specs.working.Written.{mapFrom}
-use Rattle.exploration.specs.working.Found.{stepsOf, sheetFor, foundIn, Agrees}
+use Rattle.exploration.specs.working.Found.{stepsOf, verdictFor, foundIn, Agrees}
 use Rattle.exploration.proofs.First.{Searched, searched, run-to}
 use Rattle.exploration.proofs.Right.{queue-last}
 use Rattle.exploration.proofs.Map.{map-length}
@@ -35,11 +35,11 @@ module _ (M : System) where
   trace-sheet-length s xs = omega (arith, steps-length xs)
 
 -- The run that the search gives has fewer steps than there are states.
-abbrev Short : Transitions → Verdict → Type 0
+abbrev Short : Transitions → Result → Type 0
 Short T (firstRun r) = steps r < T .size
 Short T (reached b) = Unit {0}
 
-short-of : (T : Transitions) (o : Progress) → Searched T o → Short T (D.verdictOf T o)
+short-of : (T : Transitions) (o : Progress) → Searched T o → Short T (resultOf T o)
 short-of T (broke x) E = rw (queue-last T x E, run-to T (x .parent) (E .last) (E .traced) (T .size) (omega (arith, E .short))) (E .short)
 short-of T (through x) C = tt
 
@@ -49,13 +49,13 @@ map-room n h = omega arith
 
 -- The sheet that is found has its place in the buffer.
 module _ (M : System) (T : Transitions) where
-  short-for : 1 ≤ T .size → (v : Verdict) → Short T v → length (sheetBytes M (sheetFor T v)) ≤ 7 + 10 * T .size
-  unfolding sheetFor
+  short-for : 1 ≤ T .size → (v : Result) → Short T v → length (sheetBytes M (sheetOf (verdictFor T v))) ≤ 7 + 10 * T .size
+  unfolding verdictFor
   short-for h (firstRun r) k = omega (arith, trace-sheet-length M (startOf r) (stepsOf T r), steps-count T r)
   short-for h (reached b) k = omega (arith, map-sheet-length M (mapFrom b 0 (mapLength (T .size))), map-length b 0 (mapLength (T .size)), map-room (T .size) h)
 
-  pub found-short : (m : Model) → Agrees T m → length (sheetBytes M (foundIn T)) ≤ 7 + 10 * T .size
-  unfolding foundIn D.verdict
+  pub found-short : (m : Model) → Agrees T m → length (sheetBytes M (sheetOf (foundIn T))) ≤ 7 + 10 * T .size
+  unfolding foundIn result
   found-short m A =
       let h : 1 ≤ T .size = subst (λ (n : ℕ). 1 ≤ n) (sym (A .size)) (pow-pos (m .sharedNames + m .rowNames)) in
-      short-for h (D.verdict T) (short-of T (search T) (searched T (lawful T m A)))
+      short-for h (result T) (short-of T (search T) (searched T (lawful T m A)))

@@ -1,4 +1,4 @@
--- The search's verdict is right, and the first breaking run is one run.
+-- The search's result is right, and the first breaking run is one run.
 -- Assumes nothing.
 use Prim.Native.Nat.{ℕ, _+_, _-_, _<_, _≤_}
 use mathlib.Core.Path.{_≡_, sym, ap, _∙_}
@@ -13,7 +13,7 @@ use borrow.Author.Tests.{lt-ltb, ltb-true}
 use Rattle.exploration.specs.working.Transitions.{Transitions, Lawful, Move}
 use Rattle.exploration.specs.working.Exploring.{Seen, Progress, broke, through, search}
 use Rattle.exploration.specs.working.Runs.{Run, startsAt, goesOn, final, Valid, MoveBefore, Before, runTo}
-use Rattle.exploration.specs.working.Verdicts.{reached, verdictOf, verdict, Reached, AllReached, Right}
+use Rattle.exploration.specs.working.Results.{reached, resultOf, result, Reached, AllReached, Right}
 use Rattle.exploration.proofs.Order.{lt-or-ge}
 use Rattle.exploration.proofs.First.{at, Ended, Closed, Searched, searched, traced-met, run-to}
 
@@ -53,13 +53,13 @@ closed-safe M x C =
         positive : (n : ℕ) → (n ≡ 0 → ⊥) → 0 < n
         positive n h = omega arith
 
-right-of : (M : Transitions) (o : Progress) → Searched M o → Right M (verdictOf M o)
+right-of : (M : Transitions) (o : Progress) → Searched M o → Right M (resultOf M o)
 right-of M (broke x) E = rw (run-read M x E) (E .first)
 right-of M (through x) C = closed-safe M x C
 
-pub verdict-right : (M : Transitions) → Lawful M → Right M (verdict M)
-unfolding verdict
-verdict-right M law = right-of M (search M) (searched M law)
+pub result-right : (M : Transitions) → Lawful M → Right M (result M)
+unfolding result
+result-right M law = right-of M (search M) (searched M law)
 
 -- The order is total.
 

@@ -12,7 +12,7 @@ use Rattle.exploration.specs.working.Transitions.{Transitions, Lawful}
 use Rattle.exploration.specs.working.Exploring.{broke, search}
 use Rattle.exploration.specs.working.Runs.{final, steps, runTo}
 use Rattle.exploration.specs.working.Tables.{seen, Ran}
-use Rattle.exploration.specs.working.Verdicts.{firstRun, reached, verdictOf, verdict}
+use Rattle.exploration.specs.working.Results.{firstRun, reached, resultOf, result}
 use Rattle.exploration.specs.working.Written.{runBytes, headBytes, mapFrom, mapLength, RecordedTo, Answered}
 use Rattle.exploration.proofs.First.{Ended, Searched, searched}
 use Rattle.exploration.proofs.Right.{queue-last}
@@ -46,9 +46,9 @@ module _ {M : Transitions} (law : Lawful M) {q₀ p₀ q : List ℕ} {n : ℕ} {
           short = ended .short;
         }
 
-    pub ran-unsafe : verdict M ≡ firstRun (runTo M (take (M .size) p) (M .size) (getD q (n - 1) 0))
-    unfolding verdict
-    ran-unsafe = ap (verdictOf M) (sym what) ∙ ap (λ (t : ℕ). firstRun (runTo M (take (M .size) p) (M .size) t)) last-at
+    pub ran-unsafe : result M ≡ firstRun (runTo M (take (M .size) p) (M .size) (getD q (n - 1) 0))
+    unfolding result
+    ran-unsafe = ap (resultOf M) (sym what) ∙ ap (λ (t : ℕ). firstRun (runTo M (take (M .size) p) (M .size) t)) last-at
 
     pub answered-unsafe : {o₀ q₁ p₁ o : List ℕ} {k len : ℕ}
         → o ≡ sets o₀ 9 (runBytes M (runTo M (take (M .size) p) (M .size) (getD q (n - 1) 0)))
@@ -65,9 +65,9 @@ module _ {M : Transitions} (law : Lawful M) {q₀ p₀ q : List ℕ} {n : ℕ} {
         }
 
   module _ (f : b ≡ false) where
-    ran-safe : verdict M ≡ reached (map (ltb 0) (take (M .size) p))
-    unfolding verdict
-    ran-safe = ap (verdictOf M) (sym (rw f at (R .what)))
+    ran-safe : result M ≡ reached (map (ltb 0) (take (M .size) p))
+    unfolding result
+    ran-safe = ap (resultOf M) (sym (rw f at (R .what)))
 
     pub answered-safe : {o₀ q₁ p₁ o₁ o : List ℕ} {len : ℕ}
         → o₁ ≡ sets o₀ 9 (headBytes (mapLength M) 2) → o ≡ sets o₁ 15 (mapFrom (map (ltb 0) (take (M .size) p)) 0 (mapLength M)) → len ≡ 15 + mapLength M

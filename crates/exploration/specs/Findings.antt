@@ -31,11 +31,21 @@ pub record FirstBreak (m : Model) (s : ℕ) (xs : List TraceStep) : Type 0 where
   pub first : (t : ℕ) (ys : List TraceStep) → TracePasses m t ys → ¬ (RunBefore t ys s xs)
   pub shortest : (q : State One) (ys : List (Move One)) → IsRun m q ys → Breaks m (last q ys) → length xs ≤ length ys
 
--- What the search finds: a map where no run goes wrong, the first run that goes wrong where one does.
-abbrev pub Finds : Model → Sheet → Type 0
-Finds m (safe map) = Safe m One × ExactMap m map
-Finds m (trace s xs) = Unsafe m One × FirstBreak m s xs
+-- A verdict with its evidence: the model is safe by a map, or unsafe by a trace.
+pub data Verdict : Type 0 where
+  safeBy : List ℕ → Verdict
+  unsafeBy : ℕ → List TraceStep → Verdict
+
+-- The sheet that has the evidence.
+abbrev pub sheetOf : Verdict → Sheet
+sheetOf (safeBy map) = safe map
+sheetOf (unsafeBy s xs) = trace s xs
+
+-- What the search finds: safe, and the map, where no run goes wrong; unsafe, and the first run that goes wrong, where one does.
+abbrev pub Finds : Model → Verdict → Type 0
+Finds m (safeBy map) = Safe m One × ExactMap m map
+Finds m (unsafeBy s xs) = Unsafe m One × FirstBreak m s xs
 
 -- It finds one thing only.
 abbrev pub FindsOnce : Type 0
-FindsOnce = (m : Model) (x y : Sheet) → Finds m x → Finds m y → x ≡ y
+FindsOnce = (m : Model) (x y : Verdict) → Finds m x → Finds m y → x ≡ y

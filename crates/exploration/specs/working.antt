@@ -2,7 +2,7 @@
 pub mod Transitions
 pub mod Exploring
 pub mod Runs
-pub mod Verdicts
+pub mod Results
 pub mod Tables
 pub mod Written
 pub mod Found

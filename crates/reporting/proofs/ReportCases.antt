@@ -19,11 +19,11 @@ use Rattle.acceptance.specs.Sheets.{mapLength}
 use Rattle.exploration.specs.working.Transitions.{wordsFrom, movesFrom}
 use Rattle.exploration.specs.working.Exploring.{tryMoves, explore, takeIn, search}
 use Rattle.exploration.specs.working.Runs.{firstMove, runTo}
-use Rattle.exploration.specs.working.Verdicts as W
+use Rattle.exploration.specs.working.Results as W
 use Rattle.exploration.specs.working.Written.{bitAt, mapFrom}
-use Rattle.exploration.specs.working.Found.{stepsOf, sheetFor, foundIn}
+use Rattle.exploration.specs.working.Found.{stepsOf, verdictFor, foundIn}
 use Rattle.lines.specs.Lines.{digitsUpTo, others, line}
-use Rattle.reporting.specs.Reports.{stepLines, commandName, sheetLines, reportLines}
+use Rattle.reporting.specs.Reports.{stepLines, commandName, verdictLines, reportLines}
 use Rattle.reporting.specs.Cases.{written, cases, AllCases}
 use Rattle.reporting.specs.working.Reporting.{reportIn}
 
@@ -32,6 +32,6 @@ unfolding bytes sameWord reserved wordIn wordToken sameKind allowed nameCounts v
     placeOf among nameOf exprOf rowItemOf rowItemsOf itemOf itemsOf commandOf clauseOf modelOf
     span mark front lexemes tokensFrom tally note exceeds fault lines skips find T.step ending reads answer
     bit number eval runRow runItem runItems step stateNumber spread spreadWord starts breaks next mapLength
-    wordsFrom movesFrom tryMoves explore takeIn search firstMove runTo W.verdict bitAt mapFrom stepsOf sheetFor foundIn
-    digitsUpTo others line stepLines commandName sheetLines reportLines reportIn written cases
+    wordsFrom movesFrom tryMoves explore takeIn search firstMove runTo W.result bitAt mapFrom stepsOf verdictFor foundIn
+    digitsUpTo others line stepLines commandName verdictLines reportLines reportIn written cases
 all-cases = (refl, (refl, (refl, (refl, tt))))

@@ -15,9 +15,10 @@ use Rattle.notation.specs.working.Machine as N
 use Rattle.notation.specs.working.Answer.{answer}
 use Rattle.notation.proofs.Texts.{says-iff-answer}
 use Rattle.meaning.specs.OneRow.{TraceStep}
-use Rattle.meaning.specs.Evidence.{Sheet, safe, trace, StepFits}
+use Rattle.meaning.specs.Evidence.{StepFits}
 use Rattle.meaning.proofs.Lists.{weaken}
 use Rattle.acceptance.specs.Sheets.{systemOf}
+use Rattle.exploration.specs.Findings.{Verdict, safeBy, unsafeBy}
 use Rattle.exploration.proofs.FoundShort.{trace-sheet-length}
 use Rattle.search.proofs.SheetBytes.{word-lt}
 use Rattle.io.specs.Counts.{Counts}
@@ -26,7 +27,7 @@ use Rattle.lines.specs.Puts.{Fits, Puts}
 use Rattle.lines.proofs.Stores.{front-counts}
 use Rattle.lines.proofs.Digits.{digits-below}
 use Rattle.lines.proofs.Parts.{line-length, others-length, end-length, refusal-short}
-use Rattle.reporting.specs.Reports.{countsLine, safeLine, unsafeLine, startLine, stepLine, stepLines, commandName, sheetLines, reportLines, longestReport}
+use Rattle.reporting.specs.Reports.{countsLine, safeLine, unsafeLine, startLine, stepLine, stepLines, commandName, verdictLines, reportLines, longestReport}
 use Rattle.reporting.specs.Promises.{ReportsFit}
 use Rattle.reporting.specs.working.Reporting.{foundFor, reportOf}
 use Rattle.reporting.proofs.NameArrays.{told}
@@ -102,9 +103,9 @@ module _ (text : List ℕ) (x : Tree) (says : TextSaysTree text x) where
         after = omega (arith, f .after, few text x says);
       }
 
-  found-short : (S : Sheet) → foundFor (modelOf x) ≡ S → length (reportLines x S) ≤ longestReport
-  unfolding reportLines sheetLines
-  found-short (safe map) e =
+  found-short : (v : Verdict) → foundFor (modelOf x) ≡ v → length (reportLines x v) ≤ longestReport
+  unfolding reportLines verdictLines
+  found-short (safeBy map) e =
       let g = regular text x says in
       omega (
         arith,
@@ -114,7 +115,7 @@ module _ (text : List ℕ) (x : Tree) (says : TextSaysTree text x) where
             (omega (arith, g .fewCommands)),
         safe-short,
       )
-  found-short (trace s xs) e =
+  found-short (unsafeBy s xs) e =
       let g = regular text x says in
       let p = passes text x says s xs e in
       let n : length xs ≤ 4095 = omega (arith, sheet-short text x says s xs e, trace-sheet-length (systemOf (modelOf x)) s xs, few text x says) in

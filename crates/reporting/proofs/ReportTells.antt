@@ -9,8 +9,7 @@ use Rattle.notation.specs.working.Machine.{refused}
 use Rattle.notation.specs.working.Answer.{answer}
 use Rattle.notation.proofs.Texts.{says-answer, refused-answer}
 use Rattle.notation.proofs.Regular.{all-regular}
-use Rattle.meaning.specs.Evidence.{Sheet}
-use Rattle.exploration.specs.Findings.{Finds}
+use Rattle.exploration.specs.Findings.{Verdict, Finds}
 use Rattle.search.proofs.SearchTells.{finds}
 use Rattle.exploration.proofs.FindsOnce.{finds-once}
 use Rattle.lines.specs.Lines.{refusalLine}
@@ -27,8 +26,8 @@ module _ (text : List ℕ) (x : Tree) (says : TextSaysTree text x) where
   some : Finds (modelOf x) (foundFor (modelOf x))
   some = finds (modelOf x) (all-regular text (modelOf x) (record { tree = x; says = says; meant = refl }))
 
-  found : (s : Sheet) → Finds (modelOf x) s → foundFor (modelOf x) ≡ s
-  found s F = finds-once (modelOf x) (foundFor (modelOf x)) s some F
+  found : (v : Verdict) → Finds (modelOf x) v → foundFor (modelOf x) ≡ v
+  found v F = finds-once (modelOf x) (foundFor (modelOf x)) v some F
 
 pub refused-lines : (text : List ℕ) (n i : ℕ) → answer text ≡ refused n i → reportOf text ≡ refusalLine n i
 unfolding reportIn
@@ -38,6 +37,6 @@ pub report-tells : ReportTells
 report-tells text =
     record {
       some = λ x says. (foundFor (modelOf x), some text x says);
-      finds = λ x s says F. found-lines text x says ∙ ap (reportLines x) (found text x says s F);
+      finds = λ x v says F. found-lines text x says ∙ ap (reportLines x) (found text x says v F);
       refuses = λ n i r. refused-lines text n i (refused-answer r);
     }

@@ -12,9 +12,10 @@ use Rattle.notation.specs.working.Machine as N
 use Rattle.notation.specs.working.Answer.{answer}
 use Rattle.notation.proofs.Texts.{says-iff-answer}
 use Rattle.meaning.specs.OneRow.{TraceStep}
-use Rattle.meaning.specs.Evidence.{Sheet, safe, trace}
+use Rattle.meaning.specs.Evidence.{trace}
 use Rattle.reader.specs.Read.{readingOf}
 use Rattle.acceptance.specs.Sheets.{systemOf, sheetBytes}
+use Rattle.exploration.specs.Findings.{Verdict, safeBy, unsafeBy, sheetOf}
 use Rattle.search.specs.declared.finding.Finding.{Finding}
 use Rattle.search.specs.declared.finding.Finding.the-variants.{Safe, Unsafe, Refused}
 use Rattle.search.specs.Promises.{Room}
@@ -28,21 +29,21 @@ use Rattle.reporting.specs.working.Writing.{safeReport, traceReport, Pri
 use Rattle.reporting.proofs.ReportTells.{refused-lines}
 use Rattle.reporting.proofs.TextReports.{model-said, few, safe-said, sheet-short, trace-shown, trace-said}
 
--- A verdict is no refusal, and tells which sheet was found.
-verdict-unrefused : (y : Sheet) (k n p : ℕ) → Refused n p ≡ verdictOf y k → ⊥
+-- A verdict is no refusal, and the answer tells which it is.
+verdict-unrefused : (y : Verdict) (k n p : ℕ) → Refused n p ≡ verdictOf y k → ⊥
 unfolding verdictOf
-verdict-unrefused (safe map) k n p e = let z : _≡_ {A = ℕ} 0 1 = cc in omega arith
-verdict-unrefused (trace s xs) k n p e = let z : _≡_ {A = ℕ} 0 1 = cc in omega arith
+verdict-unrefused (safeBy map) k n p e = let z : _≡_ {A = ℕ} 0 1 = cc in omega arith
+verdict-unrefused (unsafeBy s xs) k n p e = let z : _≡_ {A = ℕ} 0 1 = cc in omega arith
 
-verdict-safe : (map : List ℕ) (k n : ℕ) → Unsafe n ≡ verdictOf (safe map) k → ⊥
+verdict-safe : (map : List ℕ) (k n : ℕ) → Unsafe n ≡ verdictOf (safeBy map) k → ⊥
 unfolding verdictOf
 verdict-safe map k n e = let z : _≡_ {A = ℕ} 0 1 = cc in omega arith
 
-verdict-trace : (s : ℕ) (xs : List TraceStep) (k n : ℕ) → Unsafe n ≡ verdictOf (trace s xs) k → n ≡ k
+verdict-trace : (s : ℕ) (xs : List TraceStep) (k n : ℕ) → Unsafe n ≡ verdictOf (unsafeBy s xs) k → n ≡ k
 unfolding verdictOf
 verdict-trace s xs k n e = cc
 
-verdict-unsafe : (s : ℕ) (xs : List TraceStep) (k n : ℕ) → Safe n ≡ verdictOf (trace s xs) k → ⊥
+verdict-unsafe : (s : ℕ) (xs : List TraceStep) (k n : ℕ) → Safe n ≡ verdictOf (unsafeBy s xs) k → ⊥
 unfolding verdictOf
 verdict-unsafe s xs k n e = let z : _≡_ {A = ℕ} 0 1 = cc in omega arith
 
@@ -66,7 +67,7 @@ module _ (text a b c : List ℕ) (la : 4096 ≤ length a) (lb : 4096 ≤ length 
   left-refused n p q = ap (λ (o : N.Outcome). searchIn o a b c .answer) q
 
   answer-read : (x : Tree) (says : TextSaysTree text x) (f : Finding) → f ≡ searchOf text a b c .answer
-      → f ≡ verdictOf (foundFor (modelOf x)) (length (sheetBytes (systemOf (modelOf x)) (foundFor (modelOf x))))
+      → f ≡ verdictOf (foundFor (modelOf x)) (length (sheetBytes (systemOf (modelOf x)) (sheetOf (foundFor (modelOf x)))))
   answer-read x says f e = e ∙ ap (λ (l : Left). l .answer) (left-read x says)
 
   pub refusal-told : (n p : ℕ) → Refused n p ≡ searchOf text a b c .answer → refusalLine n p ≡ reportOf text
@@ -79,10 +80,10 @@ module _ (text a b c : List ℕ) (la : 4096 ≤ length a) (lb : 4096 ≤ length 
   pub safe-told : (n : ℕ) → Safe n ≡ searchOf text a b c .answer → safeReport (readingOf text .code) ≡ reportOf text
   safe-told n e = go (answer text) refl
     where
-      found-safe : (x : Tree) (says : TextSaysTree text x) (y : Sheet) → foundFor (modelOf x) ≡ y
-          → Safe n ≡ verdictOf y (length (sheetBytes (systemOf (modelOf x)) y)) → safeReport (readingOf text .code) ≡ reportOf text
-      found-safe x says (safe map) f h = safe-said text x says map f
-      found-safe x says (trace s xs) f h = absurd (verdict-unsafe s xs _ n h)
+      found-safe : (x : Tree) (says : TextSaysTree text x) (y : Verdict) → foundFor (modelOf x) ≡ y
+          → Safe n ≡ verdictOf y (length (sheetBytes (systemOf (modelOf x)) (sheetOf y))) → safeReport (readingOf text .code) ≡ reportOf text
+      found-safe x says (safeBy map) f h = safe-said text x says map f
+      found-safe x says (unsafeBy s xs) f h = absurd (verdict-unsafe s xs _ n h)
 
       go : (o : N.Outcome) → answer text ≡ o → safeReport (readingOf text .code) ≡ reportOf text
       go (N.read x) q = let says = says-iff-answer text x .1 q in found-safe x says (foundFor (modelOf x)) refl (answer-read x says (Safe n) e)
@@ -91,7 +92,7 @@ module _ (text a b c : List ℕ) (la : 4096 ≤ length a) (lb : 4096 ≤ length 
   pub trace-told : (n : ℕ) (d : List ℕ) → Unsafe n ≡ searchOf text a b c .answer → d ≡ searchOf text a b c .sheet → TraceTold text n d
   trace-told n d e g = go (answer text) refl
     where
-      at-front : (x : Tree) (says : TextSaysTree text x) (s : ℕ) (xs : List TraceStep) → foundFor (modelOf x) ≡ trace s xs
+      at-front : (x : Tree) (says : TextSaysTree text x) (s : ℕ) (xs : List TraceStep) → foundFor (modelOf x) ≡ unsafeBy s xs
           → n ≡ length (sheetBytes (systemOf (modelOf x)) (trace s xs)) → d ≡ sets c 0 (sheetBytes (systemOf (modelOf x)) (trace s xs)) → TraceTold text n d
       at-front x says s xs f h k =
           let v = sheetBytes (systemOf (modelOf x)) (trace s xs) in
@@ -103,10 +104,10 @@ module _ (text a b c : List ℕ) (la : 4096 ≤ length a) (lb : 4096 ≤ length 
             lines = ap (traceReport text (readingOf text .code)) t ∙ trace-said text x says s xs f;
           }
 
-      found-trace : (x : Tree) (says : TextSaysTree text x) (y : Sheet) → foundFor (modelOf x) ≡ y
-          → Unsafe n ≡ verdictOf y (length (sheetBytes (systemOf (modelOf x)) y)) → d ≡ sets c 0 (sheetBytes (systemOf (modelOf x)) y) → TraceTold text n d
-      found-trace x says (safe map) f h k = absurd (verdict-safe map _ n h)
-      found-trace x says (trace s xs) f h k = at-front x says s xs f (verdict-trace s xs _ n h) k
+      found-trace : (x : Tree) (says : TextSaysTree text x) (y : Verdict) → foundFor (modelOf x) ≡ y
+          → Unsafe n ≡ verdictOf y (length (sheetBytes (systemOf (modelOf x)) (sheetOf y))) → d ≡ sets c 0 (sheetBytes (systemOf (modelOf x)) (sheetOf y)) → TraceTold text n d
+      found-trace x says (safeBy map) f h k = absurd (verdict-safe map _ n h)
+      found-trace x says (unsafeBy s xs) f h k = at-front x says s xs f (verdict-trace s xs _ n h) k
 
       go : (o : N.Outcome) → answer text ≡ o → TraceTold text n d
       go (N.read x) q =

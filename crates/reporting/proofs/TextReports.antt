@@ -15,7 +15,7 @@ use Rattle.notation.specs.working.Machine as N
 use Rattle.notation.proofs.Texts.{says-answer}
 use Rattle.notation.proofs.Regular.{all-regular}
 use Rattle.meaning.specs.OneRow.{stateCount, TraceStep}
-use Rattle.meaning.specs.Evidence.{Sheet, safe, trace, StepFits, TracePasses}
+use Rattle.meaning.specs.Evidence.{trace, StepFits, TracePasses}
 use Rattle.meaning.proofs.Lists.{weaken}
 use Rattle.evaluation.proofs.Powers.{pow-small}
 use Rattle.reader.specs.declared.Code.{Code}
@@ -24,11 +24,11 @@ use Rattle.acceptance.specs.Sheets.{System, size, systemOf, sheetBytes, headerB
 use Rattle.acceptance.specs.SheetTexts.{InRange, twoAt}
 use Rattle.acceptance.specs.working.SheetReading.{stepsIn}
 use Rattle.acceptance.proofs.SheetWritten.{two-little, steps-there}
-use Rattle.exploration.specs.Findings.{Finds}
+use Rattle.exploration.specs.Findings.{Verdict, safeBy, unsafeBy, sheetOf, Finds}
 use Rattle.exploration.specs.working.Found.{transitionsOf}
 use Rattle.search.proofs.SearchTells.{own, finds}
 use Rattle.exploration.proofs.FoundShort.{found-short, trace-sheet-length}
-use Rattle.reporting.specs.Reports.{countsLine, unsafeLine, startLine, stepLine, stepLines, commandName, sheetLines, reportLines}
+use Rattle.reporting.specs.Reports.{countsLine, unsafeLine, startLine, stepLine, stepLines, commandName, verdictLines, reportLines}
 use Rattle.reporting.specs.working.Reporting.{foundFor, reportOf}
 use Rattle.reporting.specs.working.Writing.{nameIn, Named, stepsOf, traceSteps, safeReport, traceReport, Printable}
 use Rattle.reporting.proofs.NameArrays.{told}
@@ -67,7 +67,7 @@ module _ (text : List ℕ) (x : Tree) (says : TextSaysTree text x) where
   abbrev m : Model
   m = modelOf x
 
-  abbrev S : Sheet
+  abbrev S : Verdict
   S = foundFor m
 
   pub model-said : TextSays text m
@@ -88,15 +88,15 @@ module _ (text : List ℕ) (x : Tree) (says : TextSaysTree text x) where
   code-read = ap (λ (o : N.Outcome). readingIn o .code) (says-answer says)
 
   -- Where a map is found.
-  safe-lines : (map : List ℕ) → safeReport code ≡ reportLines x (safe map)
-  unfolding reportLines sheetLines codeOf layoutOf
+  safe-lines : (map : List ℕ) → safeReport code ≡ reportLines x (safeBy map)
+  unfolding reportLines verdictLines codeOf layoutOf
   safe-lines map = refl
 
-  pub safe-said : (map : List ℕ) → S ≡ safe map → safeReport (readingOf text .code) ≡ reportOf text
+  pub safe-said : (map : List ℕ) → S ≡ safeBy map → safeReport (readingOf text .code) ≡ reportOf text
   safe-said map e = ap safeReport code-read ∙ safe-lines map ∙ sym (found-lines text x says ∙ ap (reportLines x) e)
 
   -- Where a trace is found.
-  module _ (s : ℕ) (xs : List TraceStep) (e : S ≡ trace s xs) where
+  module _ (s : ℕ) (xs : List TraceStep) (e : S ≡ unsafeBy s xs) where
     abbrev pub sheet : List ℕ
     sheet = sheetBytes (systemOf m) (trace s xs)
 
@@ -108,7 +108,7 @@ module _ (text : List ℕ) (x : Tree) (says : TextSaysTree text x) where
         weaken (StepFits m) (InRange (systemOf m)) (λ y k. record { command = k .command; word = k .word; after = k .after }) xs (passes .stepsFit)
 
     pub sheet-short : length sheet ≤ 7 + 10 * stateCount m
-    sheet-short = subst (λ y. length (sheetBytes (systemOf m) y) ≤ 7 + 10 * stateCount m) e (found-short (systemOf m) (transitionsOf (systemOf m)) m (own m))
+    sheet-short = subst (λ y. length (sheetBytes (systemOf m) (sheetOf y)) ≤ 7 + 10 * stateCount m) e (found-short (systemOf m) (transitionsOf (systemOf m)) m (own m))
 
     shown : Printable text code sheet
     unfolding codeOf layoutOf
@@ -129,8 +129,8 @@ module _ (text : List ℕ) (x : Tree) (says : TextSaysTree text x) where
     abbrev counted : List ℕ
     counted = countsLine (m .sharedNames) (m .rowNames) (length (m .commands))
 
-    trace-lines : traceReport text code sheet ≡ reportLines x (trace s xs)
-    unfolding reportLines sheetLines codeOf layoutOf
+    trace-lines : traceReport text code sheet ≡ reportLines x (unsafeBy s xs)
+    unfolding reportLines verdictLines codeOf layoutOf
     trace-lines =
         ap (λ n. counted ++ (unsafeLine n ++ (startLine (twoAt sheet 15) ++ stepLines called 1 (traceSteps sheet)))) (count-read (systemOf m) s xs)
         ∙ ap (λ t. counted ++ (unsafeLine (length xs) ++ (startLine t ++ stepLines called 1 (traceSteps sheet)))) (start-read (systemOf m) s xs (omega (arith, few, passes .startFits)))

@@ -8,7 +8,7 @@ use Rattle.notation.specs.Tokens.{Word}
 use Rattle.notation.specs.Notation.{Tree, tree′}
 use Rattle.notation.specs.Texts.{modelOf, wordsOf, titleOf}
 use Rattle.meaning.specs.OneRow.{TraceStep}
-use Rattle.meaning.specs.Evidence.{Sheet, safe, trace}
+use Rattle.exploration.specs.Findings.{Verdict, safeBy, unsafeBy}
 use Rattle.lines.specs.Lines.{decimalOf, line}
 
 -- How many shared names, row names and commands the model has.
@@ -40,15 +40,15 @@ stepLines called number (x ∷ xs) = stepLine number (called (x .command)) (x .w
 unfoldable pub commandName : Tree → ℕ → Word
 commandName (tree′ ws vs s k cs) i = getD (wordsOf (map titleOf cs)) i []
 
--- The lines of what is found: the verdict, and the run of a trace with its steps numbered from 1.
-unfoldable pub sheetLines : (ℕ → Word) → Sheet → List ℕ
-sheetLines called (safe map) = safeLine
-sheetLines called (trace s xs) = unsafeLine (length xs) ++ (startLine s ++ stepLines called 1 xs)
+-- The lines of a verdict: after `unsafe` follows the run, its steps numbered from 1.
+unfoldable pub verdictLines : (ℕ → Word) → Verdict → List ℕ
+verdictLines called (safeBy map) = safeLine
+verdictLines called (unsafeBy s xs) = unsafeLine (length xs) ++ (startLine s ++ stepLines called 1 xs)
 
--- THE REPORT of the model that a tree says, where this sheet is found.
-unfoldable pub reportLines : Tree → Sheet → List ℕ
-reportLines x s =
-    countsLine (modelOf x .sharedNames) (modelOf x .rowNames) (length (modelOf x .commands)) ++ sheetLines (commandName x) s
+-- THE REPORT of the model that a tree says, where this is found.
+unfoldable pub reportLines : Tree → Verdict → List ℕ
+reportLines x v =
+    countsLine (modelOf x .sharedNames) (modelOf x .rowNames) (length (modelOf x .commands)) ++ verdictLines (commandName x) v
 
 -- A bound on the length of a report: 37 bytes for the first three lines, and 36 for each of 4,095 steps.
 abbrev pub longestReport : ℕ

@@ -11,10 +11,10 @@ use Rattle.notation.specs.Texts.{TextSays, TextRefused}
 use Rattle.notation.proofs.Texts.{one-answer}
 use Rattle.notation.proofs.Places.{refusals-bounded}
 use Rattle.meaning.specs.OneRow.{stateCount}
-use Rattle.meaning.specs.Evidence.{Sheet, safe, trace}
 use Rattle.acceptance.specs.Sheets.{systemOf, sheetBytes}
 use Rattle.search.specs.Answers.{wordingOf}
 use Rattle.search.specs.Promises.{answerOf, Bounded, AnswersBounded}
+use Rattle.exploration.specs.Findings.{Verdict, safeBy, unsafeBy, sheetOf}
 use Rattle.exploration.specs.working.Found.{foundIn, transitionsOf}
 use Rattle.search.specs.Left.{Left}
 use Rattle.search.specs.working.Searching.{roomy, verdictOf, searchOf}
@@ -22,10 +22,10 @@ use Rattle.search.proofs.SearchTells.{said, room-tells, own, with-room,
 use Rattle.exploration.proofs.FoundShort.{found-short}
 use Rattle.search.proofs.SheetsPass.{few}
 
-verdict-bounded : (x : Sheet) (n : ℕ) → n ≤ 7 + 10 * 4096 → Bounded (wordingOf (verdictOf x n))
+verdict-bounded : (x : Verdict) (n : ℕ) → n ≤ 7 + 10 * 4096 → Bounded (wordingOf (verdictOf x n))
 unfolding verdictOf wordingOf
-verdict-bounded (safe map) n h = h
-verdict-bounded (trace s xs) n h = h
+verdict-bounded (safeBy map) n h = h
+verdict-bounded (unsafeBy s xs) n h = h
 
 pub answers-bounded : AnswersBounded
 answers-bounded text first second sheet = go (one-answer text .some)
@@ -34,7 +34,7 @@ answers-bounded text first second sheet = go (one-answer text .some)
     with-model m says true e =
         let M = transitionsOf (systemOf m) in
         subst (λ (l : Left). Bounded (answerOf l)) (sym (said text m says first second sheet ∙ with-room m first second sheet (room-tells m first second sheet .0 e)))
-        (verdict-bounded (foundIn M) (length (sheetBytes (systemOf m) (foundIn M))) (omega (arith, found-short (systemOf m) M m (own m), few text m says)))
+        (verdict-bounded (foundIn M) (length (sheetBytes (systemOf m) (sheetOf (foundIn M)))) (omega (arith, found-short (systemOf m) M m (own m), few text m says)))
     with-model m says false e =
         subst Bounded
         (sym (search-tells text m says first second sheet .roomMissing (λ r. true≢false (sym (room-tells m first second sheet .1 r) ∙ e)) .answered))

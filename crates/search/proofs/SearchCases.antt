@@ -27,9 +27,9 @@ use Rattle.search.specs.Cases.{cases, AllCases}
 use Rattle.exploration.specs.working.Transitions.{wordsFrom, movesFrom}
 use Rattle.exploration.specs.working.Exploring.{tryMoves, explore, takeIn, search}
 use Rattle.exploration.specs.working.Runs.{firstMove, runTo}
-use Rattle.exploration.specs.working.Verdicts as W
+use Rattle.exploration.specs.working.Results as W
 use Rattle.exploration.specs.working.Written.{bitAt, mapFrom}
-use Rattle.exploration.specs.working.Found.{stepsOf, sheetFor, foundIn}
+use Rattle.exploration.specs.working.Found.{stepsOf, verdictFor, foundIn}
 use Rattle.search.specs.working.Searching as S
 
 pub all-cases : AllCases
@@ -42,6 +42,6 @@ unfolding bytes sameWord reserved wordIn wordToken sameKind allowed nameCounts v
     demand either mapIn mapAt stepsIn stepsAt stepCount traceAt bodyAt sheetIn
     mapAnswer walk traceAnswer answerIn judge outcomeOf testIn testOf A.wordingOf
     little recordBytes headerBytes mapBytes startBytes stepBytes stepsBytes sheetBytes wordingOf cases
-    wordsFrom movesFrom tryMoves explore takeIn search firstMove runTo W.verdict bitAt mapFrom stepsOf sheetFor foundIn
+    wordsFrom movesFrom tryMoves explore takeIn search firstMove runTo W.result bitAt mapFrom stepsOf verdictFor foundIn
     S.roomy S.verdictOf S.searchFor S.searchIn S.searchOf
 all-cases = ((refl, refl), ((refl, refl), (refl, (refl, (refl, (refl, (refl, ((refl, refl), ((refl, refl), (refl, tt))))))))))

@@ -1,4 +1,4 @@
--- What a call of the search leaves: a sheet of the model with its verdict, or a refusal with every buffer as it was.
+-- What a call of the search leaves: a verdict with its sheet, or a refusal with every buffer as it was.
 -- Assumes nothing.
 use mathlib.Core.Path.{_≡_, refl, sym, ap, _∙_, subst}
 use mathlib.Core.Logic.{_↔_}
@@ -19,10 +19,9 @@ use Rattle.notation.proofs.Texts.{says-answer, refused-answer}
 use Rattle.notation.proofs.Regular.{all-regular}
 use Rattle.meaning.specs.Meaning.{Safe, Unsafe}
 use Rattle.meaning.specs.OneRow.{One, stateCount}
-use Rattle.meaning.specs.Evidence.{Sheet, safe, trace}
 use Rattle.notation.proofs.Booleans.{and-split, and-join}
 use Rattle.acceptance.specs.Sheets.{systemOf, sheetBytes}
-use Rattle.exploration.specs.Findings.{Finds}
+use Rattle.exploration.specs.Findings.{Verdict, safeBy, unsafeBy, sheetOf, Finds}
 use Rattle.search.specs.Answers.{Wording, verdict, returned, wordingOf}
 use Rattle.search.specs.Promises.{LeavesTell, RoomTells, Room, SearchDone, SearchRefused, SearchTells, TextRefusedFirst}
 use Rattle.exploration.specs.working.Found.{foundIn, transitionsOf, Agrees}
@@ -72,32 +71,32 @@ module _ (m : Model) where
   pub finds : Regular m → Finds m (foundIn (transitionsOf (systemOf m)))
   finds g = finds-right (transitionsOf (systemOf m)) m own g
 
-  said-safe : (x : Sheet) → Finds m x → (n : ℕ) → (wordingOf (verdictOf x n) ≡ verdict "safe" n) ↔ Safe m One
+  said-safe : (x : Verdict) → Finds m x → (n : ℕ) → (wordingOf (verdictOf x n) ≡ verdict "safe" n) ↔ Safe m One
   unfolding verdictOf wordingOf
-  said-safe (safe map) F n = (λ e. F .0, λ h. refl)
-  said-safe (trace s xs) F n = (λ e. absurd (not-safe n n e), λ h. let (t, ys, r, b) = F .0 in absurd (h t ys r b))
+  said-safe (safeBy map) F n = (λ e. F .0, λ h. refl)
+  said-safe (unsafeBy s xs) F n = (λ e. absurd (not-safe n n e), λ h. let (t, ys, r, b) = F .0 in absurd (h t ys r b))
 
-  said-unsafe : (x : Sheet) → Finds m x → (n : ℕ) → (wordingOf (verdictOf x n) ≡ verdict "unsafe" n) ↔ Unsafe m One
+  said-unsafe : (x : Verdict) → Finds m x → (n : ℕ) → (wordingOf (verdictOf x n) ≡ verdict "unsafe" n) ↔ Unsafe m One
   unfolding verdictOf wordingOf
-  said-unsafe (safe map) F n = (λ e. absurd (not-safe n n (sym e)), λ h. let (t, ys, r, b) = h in absurd (F .0 t ys r b))
-  said-unsafe (trace s xs) F n = (λ e. F .0, λ h. refl)
+  said-unsafe (safeBy map) F n = (λ e. absurd (not-safe n n (sym e)), λ h. let (t, ys, r, b) = h in absurd (F .0 t ys r b))
+  said-unsafe (unsafeBy s xs) F n = (λ e. F .0, λ h. refl)
 
   module _ (first second sheet : List ℕ) where
-    left-with : (x : Sheet) → Finds m x → length (sheetBytes (systemOf m) x) ≤ length sheet
+    left-with : (x : Verdict) → Finds m x → length (sheetBytes (systemOf m) (sheetOf x)) ≤ length sheet
         → SearchDone m first second sheet (leftWith (systemOf m) x first second sheet)
     left-with x F h =
         record {
-          contents = x;
-          found = F;
+          found = x;
+          right = F;
           fits = h;
           written = refl;
-          safely = said-safe x F (length (sheetBytes (systemOf m) x));
-          unsafely = said-unsafe x F (length (sheetBytes (systemOf m) x));
+          safely = said-safe x F (length (sheetBytes (systemOf m) (sheetOf x)));
+          unsafely = said-unsafe x F (length (sheetBytes (systemOf m) (sheetOf x)));
           firstCleared = refl;
           secondCleared = refl;
         }
 
-    found-fits : Room m first second sheet → length (sheetBytes (systemOf m) (foundIn (transitionsOf (systemOf m)))) ≤ length sheet
+    found-fits : Room m first second sheet → length (sheetBytes (systemOf m) (sheetOf (foundIn (transitionsOf (systemOf m))))) ≤ length sheet
     found-fits r = le-trans (found-short (systemOf m) (transitionsOf (systemOf m)) m own) (r .2)
 
     -- With room, and without.

@@ -16,7 +16,6 @@ use Rattle.notation.specs.working.Machine as N
 use Rattle.notation.specs.working.Answer.{answer}
 use Rattle.notation.proofs.Texts.{says-iff-answer}
 use Rattle.notation.proofs.Regular.{all-regular}
-use Rattle.meaning.specs.Evidence.{Sheet, safe, trace}
 use Rattle.reader.specs.declared.Answer.the-variants as A
 use Rattle.reader.specs.declared.Code.{Code}
 use Rattle.reader.specs.declared.Reading.{Reading}
@@ -26,6 +25,7 @@ use Rattle.acceptance.specs.Sheets.{System, size, systemOf, headerBytes, sheetB
 use Rattle.acceptance.specs.working.Shapes.{Few}
 use Rattle.acceptance.specs.working.Test.{systemIn}
 use Rattle.acceptance.proofs.TestTexts.{counts, star-count, flat-code, flat}
+use Rattle.exploration.specs.Findings.{Verdict, safeBy, unsafeBy, sheetOf}
 use Rattle.exploration.specs.working.Found.{foundIn, transitionsOf, Agrees}
 use Rattle.search.specs.Left.{Left, zeroed}
 use Rattle.search.specs.working.Searching.{roomy, verdictOf, leftWith, leftAlone, Ends, searchFor, searchIn, searchOf}
@@ -68,18 +68,18 @@ module _ (m : Model) (g : Regular m) (ns : List Name) where
         step = λ s k w h l. flat-code m g ns .next s k w h l;
       }
 
-  -- Both find the same sheet, and its bytes hang on the counts alone.
+  -- Both find the same verdict, and the bytes of its sheet hang on the counts alone.
   found-same : foundIn (transitionsOf C) ≡ foundIn (transitionsOf (systemOf m))
   found-same =
       finds-once m (foundIn (transitionsOf C)) (foundIn (transitionsOf (systemOf m))) (finds-right (transitionsOf C) m code-agrees g)
       (finds-right (transitionsOf (systemOf m)) m (model-agrees m) g)
 
-  bytes-same : (x : Sheet) → sheetBytes C x ≡ sheetBytes (systemOf m) x
+  bytes-same : (x : Verdict) → sheetBytes C (sheetOf x) ≡ sheetBytes (systemOf m) (sheetOf x)
   unfolding sheetBytes headerBytes
-  bytes-same (safe map) = refl
-  bytes-same (trace s xs) = refl
+  bytes-same (safeBy map) = refl
+  bytes-same (unsafeBy s xs) = refl
 
-  left-same : (x : Sheet) (q p o : List ℕ) → leftWith C x q p o ≡ leftWith (systemOf m) x q p o
+  left-same : (x : Verdict) (q p o : List ℕ) → leftWith C x q p o ≡ leftWith (systemOf m) x q p o
   left-same x q p o =
       ap
       (λ (b : List ℕ). record { answer = verdictOf x (length b); first = zeroed (size C) q; second = zeroed (size C) p; sheet = sets o 0 b })
@@ -88,7 +88,7 @@ module _ (m : Model) (g : Regular m) (ns : List Name) where
   search-same : (q p o : List ℕ) → searchFor C q p o ≡ searchFor (systemOf m) q p o
   unfolding searchFor
   search-same q p o =
-      ap (λ (x : Sheet). cond (roomy (size C) q p o) (leftWith C x q p o) (leftAlone 8 0 q p o)) found-same
+      ap (λ (x : Verdict). cond (roomy (size C) q p o) (leftWith C x q p o) (leftAlone 8 0 q p o)) found-same
       ∙ ap (λ (l : Left). cond (roomy (size C) q p o) l (leftAlone 8 0 q p o)) (left-same (foundIn (transitionsOf (systemOf m))) q p o)
 
   flat-searchable : Searchable (codeOf (layoutOf m) ns) (searchFor (systemOf m))

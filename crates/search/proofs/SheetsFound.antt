@@ -10,15 +10,16 @@ use lib.Seq.{sets}
 use Rattle.meaning.specs.OneRow.{TraceStep}
 use Rattle.acceptance.specs.Sheets as S
 use Rattle.acceptance.specs.Sheets.{System, size, little, recordBytes, headerBytes, mapBytes, stepsBytes, sheetBytes, mapLength}
+use Rattle.exploration.specs.Findings.{sheetOf}
 use Rattle.exploration.specs.working.Transitions.{Transitions, Lawful, Move}
 use Rattle.exploration.specs.working.Runs.{Run, startsAt, goesOn, final, Valid, startOf}
-use Rattle.exploration.specs.working.Verdicts.{Verdict, firstRun, reached, verdict, Right}
-use Rattle.exploration.specs.working.Written.{headBytes, countBytes, startBytes, stepBytes, runBytes, mapFrom, verdictBytes, isUnsafe, Answered}
-use Rattle.exploration.specs.working.Found.{stepsOf, sheetFor, foundIn, transitionsOf}
+use Rattle.exploration.specs.working.Results.{Result, firstRun, reached, result, Right}
+use Rattle.exploration.specs.working.Written.{headBytes, countBytes, startBytes, stepBytes, runBytes, mapFrom, resultBytes, isUnsafe, Answered}
+use Rattle.exploration.specs.working.Found.{stepsOf, verdictFor, foundIn, transitionsOf}
 use Rattle.search.specs.working.Searching.{verdictOf, leftWith, Ends}
 use Rattle.search.specs.declared.finding.Finding.the-variants.{Safe, Unsafe}
 use Rattle.exploration.proofs.First.{final-below}
-use Rattle.exploration.proofs.Right.{verdict-right}
+use Rattle.exploration.proofs.Right.{result-right}
 use Rattle.exploration.proofs.Map.{map-length}
 
 -- Numbers below 65536 have two bytes.
@@ -77,27 +78,27 @@ module _ (T : Transitions) (law : Lawful T) (few : T .size ≤ 4096) where
       ∙ append-assoc (S.startBytes (startOf r)) (stepsBytes (stepsOf T r)) (S.stepBytes x)
       ∙ ap (λ (u : List ℕ). S.startBytes (startOf r) ++ u) (sym (steps-snoc (stepsOf T r) x))
 
-  sheet-same : (M : System) (v : Verdict) → Right T v → countBytes (M .shared) (M .row) (M .commands) ++ verdictBytes T v ≡ sheetBytes M (sheetFor T v)
-  unfolding sheetBytes sheetFor
+  sheet-same : (M : System) (v : Result) → Right T v → countBytes (M .shared) (M .row) (M .commands) ++ resultBytes T v ≡ sheetBytes M (sheetOf (verdictFor T v))
+  unfolding sheetBytes verdictFor
   sheet-same M (firstRun r) R =
       ap (λ (u : List ℕ). u ++ runBytes T r) (header-same M) ∙ ap (λ (u : List ℕ). headerBytes M ++ u) (run-same r (R .valid))
   sheet-same M (reached b) R =
-      ap (λ (u : List ℕ). u ++ verdictBytes T (reached b)) (header-same M)
+      ap (λ (u : List ℕ). u ++ resultBytes T (reached b)) (header-same M)
       ∙ ap (λ (u : List ℕ). headerBytes M ++ u) (map-same (mapFrom b 0 (mapLength (T .size))) (mapLength (T .size)) (map-length b 0 (mapLength (T .size))) (short-map (T .size) few))
 
   -- The header and what follows it are the bytes of the sheet found.
-  pub sheet-found : (M : System) → countBytes (M .shared) (M .row) (M .commands) ++ verdictBytes T (verdict T) ≡ sheetBytes M (foundIn T)
+  pub sheet-found : (M : System) → countBytes (M .shared) (M .row) (M .commands) ++ resultBytes T (result T) ≡ sheetBytes M (sheetOf (foundIn T))
   unfolding foundIn
-  sheet-found M = sheet-same M (verdict T) (verdict-right T law)
+  sheet-found M = sheet-same M (result T) (result-right T law)
 
 -- The verdict by the flag.
-said-unsafe : (T : Transitions) (v : Verdict) (n : ℕ) → true ≡ isUnsafe v → Unsafe n ≡ verdictOf (sheetFor T v) n
-unfolding verdictOf sheetFor
+said-unsafe : (T : Transitions) (v : Result) (n : ℕ) → true ≡ isUnsafe v → Unsafe n ≡ verdictOf (verdictFor T v) n
+unfolding verdictOf verdictFor
 said-unsafe T (firstRun r) n e = refl
 said-unsafe T (reached b) n e = absurd (false≢true (sym e))
 
-said-safe : (T : Transitions) (v : Verdict) (n : ℕ) → false ≡ isUnsafe v → Safe n ≡ verdictOf (sheetFor T v) n
-unfolding verdictOf sheetFor
+said-safe : (T : Transitions) (v : Result) (n : ℕ) → false ≡ isUnsafe v → Safe n ≡ verdictOf (verdictFor T v) n
+unfolding verdictOf verdictFor
 said-safe T (firstRun r) n e = absurd (false≢true e)
 said-safe T (reached b) n e = refl
 
@@ -105,24 +106,24 @@ said-safe T (reached b) n e = refl
 module _ (M : System) (law : Lawful (transitionsOf M)) (few : size M ≤ 4096) (o₀ : List ℕ) {q₀ p₀ o₁ q p o : List ℕ} {b : Bool} {len : ℕ}
     (h : o₁ ≡ sets o₀ 0 (countBytes (M .shared) (M .row) (M .commands))) (A : Answered (transitionsOf M) q₀ p₀ o₁ q p o b len)
   where
-    found-bytes : o ≡ sets o₀ 0 (sheetBytes M (foundIn (transitionsOf M)))
+    found-bytes : o ≡ sets o₀ 0 (sheetBytes M (sheetOf (foundIn (transitionsOf M))))
     found-bytes =
         A .bytes
-        ∙ ap (λ (u : List ℕ). sets u 9 (verdictBytes (transitionsOf M) (verdict (transitionsOf M)))) h
+        ∙ ap (λ (u : List ℕ). sets u 9 (resultBytes (transitionsOf M) (result (transitionsOf M)))) h
         ∙ ap (λ (u : List ℕ). sets o₀ 0 u) (sheet-found (transitionsOf M) law few M)
 
-    found-long : len ≡ length (sheetBytes M (foundIn (transitionsOf M)))
+    found-long : len ≡ length (sheetBytes M (sheetOf (foundIn (transitionsOf M))))
     found-long =
         A .long
-        ∙ sym (length-append (countBytes (M .shared) (M .row) (M .commands)) (verdictBytes (transitionsOf M) (verdict (transitionsOf M))))
+        ∙ sym (length-append (countBytes (M .shared) (M .row) (M .commands)) (resultBytes (transitionsOf M) (result (transitionsOf M))))
         ∙ ap (λ (u : List ℕ). length u) (sheet-found (transitionsOf M) law few M)
 
     pub left-unsafe : b ≡ true → Ends (leftWith M (foundIn (transitionsOf M)) q₀ p₀ o₀) (Unsafe len) q p o
     unfolding foundIn
     left-unsafe e =
-        (ap Unsafe found-long ∙ said-unsafe (transitionsOf M) (verdict (transitionsOf M)) _ (sym e ∙ A .flag), (A .queue, A .parent, found-bytes))
+        (ap Unsafe found-long ∙ said-unsafe (transitionsOf M) (result (transitionsOf M)) _ (sym e ∙ A .flag), (A .queue, A .parent, found-bytes))
 
     pub left-safe : b ≡ false → Ends (leftWith M (foundIn (transitionsOf M)) q₀ p₀ o₀) (Safe len) q p o
     unfolding foundIn
     left-safe e =
-        (ap Safe found-long ∙ said-safe (transitionsOf M) (verdict (transitionsOf M)) _ (sym e ∙ A .flag), (A .queue, A .parent, found-bytes))
+        (ap Safe found-long ∙ said-safe (transitionsOf M) (result (transitionsOf M)) _ (sym e ∙ A .flag), (A .queue, A .parent, found-bytes))

@@ -25,7 +25,7 @@ use Rattle.acceptance.specs.SheetTexts.{InRange, SheetSays}
 use Rattle.acceptance.specs.Outcomes.{words}
 use Rattle.acceptance.specs.Promises.{answerTo}
 use Rattle.acceptance.proofs.Claims.{pass-tells}
-use Rattle.exploration.specs.Findings.{Reaches, ExactMap, Finds}
+use Rattle.exploration.specs.Findings.{Verdict, safeBy, unsafeBy, sheetOf, Reaches, ExactMap, Finds}
 use Rattle.search.specs.Answers.{Wording, verdict, returned, wordingOf}
 use Rattle.search.specs.Promises.{answerOf, FrontPasses, SheetsPass}
 use Rattle.exploration.specs.working.Transitions.{moveOf}
@@ -71,7 +71,7 @@ module _ (text : List ℕ) (m : Model) (says : TextSays text m) where
   few = pow-small (m .sharedNames + m .rowNames) (stateCount m) (all-regular text m says .fewNames) refl
 
   -- The bytes of a sheet that is found pass.
-  map-holds : (map : List ℕ) → Finds m (safe map) → length (sheetBytes (systemOf m) (safe map)) ≤ 7 + 10 * stateCount m
+  map-holds : (map : List ℕ) → Finds m (safeBy map) → length (sheetBytes (systemOf m) (safe map)) ≤ 7 + 10 * stateCount m
       → answerTo text (sheetBytes (systemOf m) (safe map)) ≡ words "safe holds"
   map-holds map F h =
       let g = all-regular text m says in
@@ -80,7 +80,7 @@ module _ (text : List ℕ) (m : Model) (says : TextSays text m) where
       pass-tells text m says (sheetBytes (systemOf m) (safe map)) (map-sheet-bytes m g map (F .1 .bytes)) .safeSheet .1
       (map, s, exact-passes m g map (F .1) (F .0))
 
-  trace-holds : (s : ℕ) (xs : List TraceStep) → Finds m (trace s xs) → length (sheetBytes (systemOf m) (trace s xs)) ≤ 7 + 10 * stateCount m
+  trace-holds : (s : ℕ) (xs : List TraceStep) → Finds m (unsafeBy s xs) → length (sheetBytes (systemOf m) (trace s xs)) ≤ 7 + 10 * stateCount m
       → answerTo text (sheetBytes (systemOf m) (trace s xs)) ≡ words "trace holds"
   trace-holds s xs F h =
       let g = all-regular text m says in
@@ -99,15 +99,15 @@ module _ (text : List ℕ) (m : Model) (says : TextSays text m) where
         subst (λ (k : ℕ). take k (sets sheet 0 (sheetBytes (systemOf m) x)) ≡ sheetBytes (systemOf m) x) e
         (front sheet (sheetBytes (systemOf m) x) (omega arith))
 
-    front-passes : (x : Sheet) → Finds m x → length (sheetBytes (systemOf m) x) ≤ 7 + 10 * stateCount m
+    front-passes : (x : Verdict) → Finds m x → length (sheetBytes (systemOf m) (sheetOf x)) ≤ 7 + 10 * stateCount m
         → FrontPasses text (leftWith (systemOf m) x first second sheet)
     unfolding verdictOf wordingOf
-    front-passes (safe map) F h =
+    front-passes (safeBy map) F h =
         record {
           afterSafe = λ n e. ap (answerTo text) (at-front (safe map) h n (ap count e)) ∙ map-holds map F h;
           afterUnsafe = λ n e. absurd (not-safe _ _ (sym e));
         }
-    front-passes (trace s xs) F h =
+    front-passes (unsafeBy s xs) F h =
         record {
           afterSafe = λ n e. absurd (not-safe _ _ e);
           afterUnsafe = λ n e. ap (answerTo text) (at-front (trace s xs) h n (ap count e)) ∙ trace-holds s xs F h;

@@ -11,12 +11,11 @@ use Rattle.notation.specs.Model.{Model}
 use Rattle.notation.specs.Texts.{longestText, TextSays, TextRefused}
 use Rattle.meaning.specs.Meaning.{Safe, Unsafe}
 use Rattle.meaning.specs.OneRow.{One, stateCount}
-use Rattle.meaning.specs.Evidence.{Sheet}
 use Rattle.acceptance.specs.Sheets.{systemOf, sheetBytes}
 use Rattle.acceptance.specs.SheetTexts.{AreBytes}
 use Rattle.acceptance.specs.Outcomes.{words}
 use Rattle.acceptance.specs.Promises.{answerTo, TestPromise}
-use Rattle.exploration.specs.Findings.{Finds}
+use Rattle.exploration.specs.Findings.{Verdict, sheetOf, Finds}
 use Rattle.search.specs.Answers.{Wording, verdict, returned, wordingOf}
 use Rattle.search.specs.Left.{Left, Leaves, zeroed}
 use Rattle.search.specs.working.Searching.{roomy, searchOf}
@@ -39,15 +38,15 @@ LeavesTell =
 abbrev pub answerOf : Left → Wording
 answerOf left = wordingOf (left .answer)
 
--- The call has searched: it found a sheet of the model, put its bytes at the front of the buffer, gave the verdict
--- with their number, and left the tables cleared as far as there are states. All else in the buffers is as it was.
+-- The call has searched: it found what there is to find of the model, put the bytes of the sheet at the front of the buffer,
+-- gave the verdict with their number, and left the tables cleared as far as there are states. All else in the buffers is as it was.
 pub record SearchDone (m : Model) (first second sheet : List ℕ) (left : Left) : Type 0 where
-  pub contents : Sheet
-  pub found : Finds m contents
-  pub fits : length (sheetBytes (systemOf m) contents) ≤ length sheet
-  pub written : left .sheet ≡ sets sheet 0 (sheetBytes (systemOf m) contents)
-  pub safely : (answerOf left ≡ verdict "safe" (length (sheetBytes (systemOf m) contents))) ↔ Safe m One
-  pub unsafely : (answerOf left ≡ verdict "unsafe" (length (sheetBytes (systemOf m) contents))) ↔ Unsafe m One
+  pub found : Verdict
+  pub right : Finds m found
+  pub fits : length (sheetBytes (systemOf m) (sheetOf found)) ≤ length sheet
+  pub written : left .sheet ≡ sets sheet 0 (sheetBytes (systemOf m) (sheetOf found))
+  pub safely : (answerOf left ≡ verdict "safe" (length (sheetBytes (systemOf m) (sheetOf found)))) ↔ Safe m One
+  pub unsafely : (answerOf left ≡ verdict "unsafe" (length (sheetBytes (systemOf m) (sheetOf found)))) ↔ Unsafe m One
   pub firstCleared : left .first ≡ zeroed (stateCount m) first
   pub secondCleared : left .second ≡ zeroed (stateCount m) second
 

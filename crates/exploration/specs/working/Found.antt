@@ -1,4 +1,4 @@
--- The sheet that a verdict gives, the transitions of a system, and when transitions are those of a model's table of one row.
+-- The verdict that the search finds, the transitions of a system, and when transitions are those of a model's table of one row.
 -- Assumes nothing.
 use mathlib.Core.Path.{_≡_}
 use mathlib.Core.List.{List, [], _∷_, _++_}
@@ -7,11 +7,11 @@ use lib.ListN.{length}
 use Rattle.notation.specs.Model.{Model}
 use Rattle.meaning.specs.Meaning.{commandAt}
 use Rattle.meaning.specs.OneRow.{stateCount, wordCount, starts, breaks, next, TraceStep}
-use Rattle.meaning.specs.Evidence.{Sheet, safe, trace}
 use Rattle.acceptance.specs.Sheets.{System, size, mapLength}
+use Rattle.exploration.specs.Findings.{Verdict, safeBy, unsafeBy}
 use Rattle.exploration.specs.working.Transitions.{Transitions}
 use Rattle.exploration.specs.working.Runs.{Run, startsAt, goesOn, final, startOf}
-use Rattle.exploration.specs.working.Verdicts.{Verdict, firstRun, reached, verdict}
+use Rattle.exploration.specs.working.Results.{Result, firstRun, reached, result}
 use Rattle.exploration.specs.working.Written.{mapFrom}
 
 -- The steps of a run, each with the state after it.
@@ -19,14 +19,14 @@ unfoldable pub stepsOf : Transitions → Run → List TraceStep
 stepsOf T (startsAt s) = []
 stepsOf T (goesOn r k) = stepsOf T r ++ (record { command = k .command; word = k .word; after = final T (goesOn r k) } ∷ [])
 
--- The sheet of a verdict.
-unfoldable pub sheetFor : Transitions → Verdict → Sheet
-sheetFor T (firstRun r) = trace (startOf r) (stepsOf T r)
-sheetFor T (reached b) = safe (mapFrom b 0 (mapLength (T .size)))
+-- The verdict of a result.
+unfoldable pub verdictFor : Transitions → Result → Verdict
+verdictFor T (firstRun r) = unsafeBy (startOf r) (stepsOf T r)
+verdictFor T (reached b) = safeBy (mapFrom b 0 (mapLength (T .size)))
 
--- The sheet that the search finds.
-unfoldable pub foundIn : Transitions → Sheet
-foundIn T = sheetFor T (verdict T)
+-- The verdict that the search finds.
+unfoldable pub foundIn : Transitions → Verdict
+foundIn T = verdictFor T (result T)
 
 -- What the search sees of a system.
 abbrev pub transitionsOf : System → Transitions

@@ -9,7 +9,7 @@ use lib.Seq.{sets}
 use Rattle.acceptance.specs.Sheets as S
 use Rattle.exploration.specs.working.Transitions.{Transitions, Move}
 use Rattle.exploration.specs.working.Runs.{Run, startsAt, goesOn, final, Valid, steps, Traced}
-use Rattle.exploration.specs.working.Verdicts.{Verdict, firstRun, reached, verdict}
+use Rattle.exploration.specs.working.Results.{Result, firstRun, reached, result}
 
 -- A record's first six bytes: the payload's length, below 65536, and the kind.
 abbrev pub headBytes : ℕ → ℕ → List ℕ
@@ -51,11 +51,11 @@ abbrev pub mapLength : Transitions → ℕ
 mapLength M = S.mapLength (M .size)
 
 -- The records after the header.
-abbrev pub verdictBytes : Transitions → Verdict → List ℕ
-verdictBytes M (firstRun r) = runBytes M r
-verdictBytes M (reached b) = headBytes (mapLength M) 2 ++ mapFrom b 0 (mapLength M)
+abbrev pub resultBytes : Transitions → Result → List ℕ
+resultBytes M (firstRun r) = runBytes M r
+resultBytes M (reached b) = headBytes (mapLength M) 2 ++ mapFrom b 0 (mapLength M)
 
-abbrev pub isUnsafe : Verdict → Bool
+abbrev pub isUnsafe : Result → Bool
 isUnsafe (firstRun r) = true
 isUnsafe (reached b) = false
 
@@ -67,10 +67,10 @@ pub record RecordedTo (M : Transitions) (p : List ℕ) (t : ℕ) : Type 0 where
   pub ends : final M run ≡ t
   pub short : steps run < M .size
 
--- The answer: the verdict's flag, its bytes from index 9 on, the place after them, and cleared tables.
+-- The answer: the result's flag, its bytes from index 9 on, the place after them, and cleared tables.
 pub record Answered (M : Transitions) (q₀ p₀ o₀ q p o : List ℕ) (found : Bool) (len : ℕ) : Type 0 where
-  pub flag : found ≡ isUnsafe (verdict M)
-  pub bytes : o ≡ sets o₀ 9 (verdictBytes M (verdict M))
-  pub long : len ≡ 9 + length (verdictBytes M (verdict M))
+  pub flag : found ≡ isUnsafe (result M)
+  pub bytes : o ≡ sets o₀ 9 (resultBytes M (result M))
+  pub long : len ≡ 9 + length (resultBytes M (result M))
   pub queue : q ≡ replicate (M .size) 0 ++ drop (M .size) q₀
   pub parent : p ≡ replicate (M .size) 0 ++ drop (M .size) p₀

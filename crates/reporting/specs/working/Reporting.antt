@@ -6,14 +6,14 @@ use Rattle.notation.specs.Model.{Model}
 use Rattle.notation.specs.Texts.{modelOf}
 use Rattle.notation.specs.working.Machine.{Outcome, read, refused}
 use Rattle.notation.specs.working.Answer.{answer}
-use Rattle.meaning.specs.Evidence.{Sheet}
 use Rattle.acceptance.specs.Sheets.{systemOf}
+use Rattle.exploration.specs.Findings.{Verdict}
 use Rattle.exploration.specs.working.Found.{foundIn, transitionsOf}
 use Rattle.lines.specs.Lines.{refusalLine}
 use Rattle.reporting.specs.Reports.{reportLines}
 
--- The sheet that is found of a model.
-abbrev pub foundFor : Model → Sheet
+-- What is found of a model.
+abbrev pub foundFor : Model → Verdict
 foundFor m = foundIn (transitionsOf (systemOf m))
 
 -- The report of a text that was read or refused.

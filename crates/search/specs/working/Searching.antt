@@ -10,8 +10,8 @@ use lib.Seq.{sets}
 use Rattle.notation.specs.Texts.{modelOf}
 use Rattle.notation.specs.working.Machine as N
 use Rattle.notation.specs.working.Answer.{answer}
-use Rattle.meaning.specs.Evidence.{Sheet, safe, trace}
 use Rattle.acceptance.specs.Sheets.{System, size, systemOf, sheetBytes}
+use Rattle.exploration.specs.Findings.{Verdict, safeBy, unsafeBy, sheetOf}
 use Rattle.exploration.specs.working.Found.{foundIn, transitionsOf}
 use Rattle.search.specs.declared.finding.Finding.{Finding}
 use Rattle.search.specs.declared.finding.Finding.the-variants.{Safe, Unsafe, Refused}
@@ -21,19 +21,19 @@ use Rattle.search.specs.Left.{Left, Leaves, zeroed}
 unfoldable pub roomy : ℕ → List ℕ → List ℕ → List ℕ → Bool
 roomy states first second sheet = leb states (length first) && (leb states (length second) && leb (7 + 10 * states) (length sheet))
 
--- The verdict of a sheet that has so many bytes.
-unfoldable pub verdictOf : Sheet → ℕ → Finding
-verdictOf (safe map) n = Safe n
-verdictOf (trace s xs) n = Unsafe n
+-- The answer that gives a verdict, whose sheet has so many bytes.
+unfoldable pub verdictOf : Verdict → ℕ → Finding
+verdictOf (safeBy map) n = Safe n
+verdictOf (unsafeBy s xs) n = Unsafe n
 
--- Where a sheet was found: its bytes at the buffer's front, and both tables cleared.
-abbrev pub leftWith : System → Sheet → List ℕ → List ℕ → List ℕ → Left
+-- Where a verdict was found: the bytes of its sheet at the buffer's front, and both tables cleared.
+abbrev pub leftWith : System → Verdict → List ℕ → List ℕ → List ℕ → Left
 leftWith M x first second sheet =
     record {
-      answer = verdictOf x (length (sheetBytes M x));
+      answer = verdictOf x (length (sheetBytes M (sheetOf x)));
       first = zeroed (size M) first;
       second = zeroed (size M) second;
-      sheet = sets sheet 0 (sheetBytes M x);
+      sheet = sets sheet 0 (sheetBytes M (sheetOf x));
     }
 
 -- After a refusal every buffer is as it was.

@@ -1,4 +1,4 @@
--- The search's answer, and what makes an answer right.
+-- The search's result, and what makes a result right.
 -- Assumes nothing.
 use Prim.Native.Nat.{ℕ, _-_, _<_}
 use mathlib.Core.Path.{_≡_}
@@ -12,16 +12,16 @@ use Rattle.exploration.specs.working.Exploring.{Progress, broke, through
 use Rattle.exploration.specs.working.Runs.{Run, final, Valid, First, runTo}
 
 -- A breaking run, or the map of the states met.
-pub data Verdict : Type 0 where
-  firstRun : Run → Verdict
-  reached : List Bool → Verdict
+pub data Result : Type 0 where
+  firstRun : Run → Result
+  reached : List Bool → Result
 
-abbrev pub verdictOf : Transitions → Progress → Verdict
-verdictOf M (broke x) = firstRun (runTo M (x .parent) (M .size) (getD (x .queue) (length (x .queue) - 1) 0))
-verdictOf M (through x) = reached (map (ltb 0) (x .parent))
+abbrev pub resultOf : Transitions → Progress → Result
+resultOf M (broke x) = firstRun (runTo M (x .parent) (M .size) (getD (x .queue) (length (x .queue) - 1) 0))
+resultOf M (through x) = reached (map (ltb 0) (x .parent))
 
-unfoldable pub verdict : Transitions → Verdict
-verdict M = verdictOf M (search M)
+unfoldable pub result : Transitions → Result
+result M = resultOf M (search M)
 
 -- A run ends in the state t.
 pub record Reached (M : Transitions) (t : ℕ) : Type 0 where
@@ -35,6 +35,6 @@ pub record AllReached (M : Transitions) (b : List Bool) : Type 0 where
   pub exact : (t : ℕ) → t < M .size → (getD b t false ≡ true) ↔ Reached M t
   pub keeps : (r : Run) → Valid M r → M .breaks (final M r) ≡ false
 
-abbrev pub Right : Transitions → Verdict → Type 0
+abbrev pub Right : Transitions → Result → Type 0
 Right M (firstRun r) = First M r
 Right M (reached b) = AllReached M b
