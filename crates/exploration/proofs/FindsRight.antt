@@ -1,18 +1,18 @@
 -- What the search finds is what there is to find of the model.
 -- Assumes nothing.
-use mathlib.Core.Path.{_≡_, sym, ap, _∙_, subst}
+use mathlib.Core.Path.{_≡_, refl, sym, ap, _∙_, subst}
 use mathlib.Core.Logic.{_↔_, ⊎-elim}
 use mathlib.Core.Bool.{Bool, true, false, false≢true}
 use mathlib.Core.List.{List, map}
 use Prim.Native.Nat.{ℕ, _+_, _*_, _^_, _<_, _≤_}
 use native.Mathlib.Omega.{arith}
-use lib.ListN.{length, getD}
+use lib.ListN.{getD}
 use Rattle.notation.specs.Model.{Model}
 use Rattle.notation.specs.Regular.{Regular}
 use Rattle.meaning.specs.Meaning.{Safe, Unsafe}
 use Rattle.meaning.specs.OneRow.{One, stateCount, spread, TraceStep, spreadStep}
 use Rattle.meaning.specs.Evidence.{inMap, TracePasses}
-use Rattle.acceptance.specs.Sheets.{mapLength}
+use Rattle.acceptance.specs.Sheets.{systemOf, mapLength}
 use Rattle.acceptance.specs.SheetTexts.{unusedClear}
 use Rattle.acceptance.proofs.SheetOpened.{eighths}
 use Rattle.exploration.specs.Findings.{Reaches, ExactMap, FirstBreak, Finds}
@@ -21,7 +21,7 @@ use Rattle.exploration.specs.working.Transitions.{Transitions}
 use Rattle.exploration.specs.working.Runs.{Run, startsAt, First, steps, startOf}
 use Rattle.exploration.specs.working.Results.{Result, firstRun, reached, result, AllReached, Right}
 use Rattle.exploration.specs.working.Written.{mapFrom}
-use Rattle.exploration.specs.working.Found.{stepsOf, verdictFor, foundIn, Agrees}
+use Rattle.exploration.specs.working.Found.{stepsOf, verdictFor, foundIn, transitionsOf, Agrees}
 use Rattle.exploration.proofs.Right.{result-right}
 use Rattle.exploration.proofs.Map.{map-length}
 use Rattle.exploration.proofs.RunsOfModels.{onBy, lawful, trace-passes, run-reaches, trace-valid, trace-breaks, run-told, reaches-run, break-told}
@@ -94,3 +94,11 @@ module _ (T : Transitions) (m : Model) (A : Agrees T m) where
 pub finds-right : FoundIsRight
 unfolding foundIn
 finds-right T m A g = finds-for T m A g (result T) (result-right T (lawful T m A))
+
+module _ (m : Model) where
+  -- The transitions of a model's system are those of its table of one row.
+  pub own : Agrees (transitionsOf (systemOf m)) m
+  own = record { size = refl; commands = refl; words = λ k h. refl; starts = λ s h. refl; breaks = λ s h. refl; step = λ s k w h l. refl }
+
+  pub finds : Regular m → Finds m (foundIn (transitionsOf (systemOf m)))
+  finds g = finds-right (transitionsOf (systemOf m)) m own g

@@ -11,7 +11,7 @@ use Rattle.meaning.specs.OneRow.{TraceStep}
 use Rattle.meaning.specs.Evidence.{safe, trace}
 use Rattle.acceptance.specs.Sheets.{System, mapLength, little, recordBytes, headerBytes, mapBytes, startBytes, sheetBytes}
 use Rattle.acceptance.proofs.SheetWritten.{steps-length}
-use Rattle.exploration.specs.Findings.{sheetOf}
+use Rattle.exploration.specs.Findings.{evidenceOf}
 use Rattle.exploration.specs.working.Transitions.{Transitions}
 use Rattle.exploration.specs.working.Exploring.{Progress, broke, through, search}
 use Rattle.exploration.specs.working.Runs.{steps, startOf}
@@ -49,12 +49,12 @@ map-room n h = omega arith
 
 -- The sheet that is found has its place in the buffer.
 module _ (M : System) (T : Transitions) where
-  short-for : 1 ≤ T .size → (v : Result) → Short T v → length (sheetBytes M (sheetOf (verdictFor T v))) ≤ 7 + 10 * T .size
+  short-for : 1 ≤ T .size → (v : Result) → Short T v → length (sheetBytes M (evidenceOf (verdictFor T v))) ≤ 7 + 10 * T .size
   unfolding verdictFor
   short-for h (firstRun r) k = omega (arith, trace-sheet-length M (startOf r) (stepsOf T r), steps-count T r)
   short-for h (reached b) k = omega (arith, map-sheet-length M (mapFrom b 0 (mapLength (T .size))), map-length b 0 (mapLength (T .size)), map-room (T .size) h)
 
-  pub found-short : (m : Model) → Agrees T m → length (sheetBytes M (sheetOf (foundIn T))) ≤ 7 + 10 * T .size
+  pub found-short : (m : Model) → Agrees T m → length (sheetBytes M (evidenceOf (foundIn T))) ≤ 7 + 10 * T .size
   unfolding foundIn result
   found-short m A =
       let h : 1 ≤ T .size = subst (λ (n : ℕ). 1 ≤ n) (sym (A .size)) (pow-pos (m .sharedNames + m .rowNames)) in

@@ -5,7 +5,6 @@ pub mod First
 pub mod Right
 pub mod Trace
 pub mod Whole
-pub mod OrderSaid
 pub mod Map
 pub mod TraceSteps
 pub mod RunsOfModels

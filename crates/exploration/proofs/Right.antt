@@ -1,8 +1,7 @@
--- The search's result is right, and the first breaking run is one run.
+-- The search's result is right.
 -- Assumes nothing.
-use Prim.Native.Nat.{ℕ, _+_, _-_, _<_, _≤_}
+use Prim.Native.Nat.{ℕ, _+_, _-_, _<_}
 use mathlib.Core.Path.{_≡_, sym, ap, _∙_}
-use mathlib.Core.Logic.{_⊎_, inl, inr, ⊎-elim}
 use mathlib.Core.Bool.{true, false}
 use mathlib.Core.List.{List, [], _∷_, _++_, map, map-append}
 use native.Mathlib.Omega.{arith}
@@ -10,11 +9,10 @@ use lib.ListN.{length, getD, length-append, length-map, List·getD-map}
 use lib.Seq.{getD-at}
 use lib.Dec.{ltb}
 use borrow.Author.Tests.{lt-ltb, ltb-true}
-use Rattle.exploration.specs.working.Transitions.{Transitions, Lawful, Move}
+use Rattle.exploration.specs.working.Transitions.{Transitions, Lawful}
 use Rattle.exploration.specs.working.Exploring.{Seen, Progress, broke, through, search}
-use Rattle.exploration.specs.working.Runs.{Run, startsAt, goesOn, final, Valid, MoveBefore, Before, runTo}
+use Rattle.exploration.specs.working.Runs.{final, runTo}
 use Rattle.exploration.specs.working.Results.{reached, resultOf, result, Reached, AllReached, Right}
-use Rattle.exploration.proofs.Order.{lt-or-ge}
 use Rattle.exploration.proofs.First.{at, Ended, Closed, Searched, searched, traced-met, run-to}
 
 last-of : (l : List ℕ) (v : ℕ) → getD (l ++ v ∷ []) (length (l ++ v ∷ []) - 1) 0 ≡ v
@@ -60,55 +58,3 @@ right-of M (through x) C = closed-safe M x C
 pub result-right : (M : Transitions) → Lawful M → Right M (result M)
 unfolding result
 result-right M law = right-of M (search M) (searched M law)
-
--- The order is total.
-
-move-total : (a b : Move) → MoveBefore a b ⊎ ((a ≡ b) ⊎ MoveBefore b a)
-move-total a b =
-    ⊎-elim
-    (λ (h : a .command < b .command). inl (inl h))
-    (λ (h : b .command ≤ a .command).
-    ⊎-elim
-    (λ (k : b .command < a .command). inr (inr (inl k)))
-    (λ (k : a .command ≤ b .command).
-    let e : a .command ≡ b .command = omega arith in
-    ⊎-elim
-    (λ (u : a .word < b .word). inl (inr (e, u)))
-    (λ (u : b .word ≤ a .word).
-    ⊎-elim
-    (λ (v : b .word < a .word). inr (inr (inr (sym e, v))))
-    (λ (v : a .word ≤ b .word). let f : a .word ≡ b .word = omega arith in inr (inl (λ i. record { command = e i; word = f i })))
-    (lt-or-ge (b .word) (a .word)))
-    (lt-or-ge (a .word) (b .word)))
-    (lt-or-ge (b .command) (a .command)))
-    (lt-or-ge (a .command) (b .command))
-
-pub before-total : (a b : Run) → Before a b ⊎ ((a ≡ b) ⊎ Before b a)
-before-total (startsAt s) (startsAt t) =
-    ⊎-elim
-    (λ (h : s < t). inl h)
-    (λ (h : t ≤ s). ⊎-elim (λ (k : t < s). inr (inr k)) (λ (k : s ≤ t). let e : s ≡ t = omega arith in inr (inl (ap startsAt e))) (lt-or-ge t s))
-    (lt-or-ge s t)
-before-total (startsAt s) (goesOn r m) = inl tt
-before-total (goesOn q l) (startsAt t) = inr (inr tt)
-before-total (goesOn q l) (goesOn r m) =
-    ⊎-elim
-    (λ h. inl (inl h))
-    (λ h.
-    ⊎-elim
-    (λ e.
-    ⊎-elim
-    (λ k. inl (inr (e, k)))
-    (λ k. ⊎-elim (λ f. inr (inl (ap (λ (x : Run). goesOn x l) e ∙ ap (λ (x : Move). goesOn r x) f))) (λ b. inr (inr (inr (sym e, b)))) k)
-    (move-total l m))
-    (λ k. inr (inr (inl k)))
-    h)
-    (before-total q r)
-
--- A set of states with the start states in it that no step leaves holds every state that a run reaches.
-pub least : (M : Transitions) (In : ℕ → Type 0)
-    → ((s : ℕ) → s < M .size → M .starts s ≡ true → In s)
-    → ((s c w : ℕ) → In s → c < M .commands → w < M .words c → In (M .step s c w))
-    → (r : Run) → Valid M r → In (final M r)
-least M In st cl (startsAt s) v = st s (v .0) (v .1)
-least M In st cl (goesOn r m) v = cl (final M r) (m .command) (m .word) (least M In st cl r (v .0)) (v .1 .0) (v .1 .1)

@@ -1,17 +1,17 @@
--- The order of traces is the order of the runs that they give.
+-- A run that comes before another from the front comes before it from the back too.
 -- Assumes nothing.
 use mathlib.Core.Path.{_≡_, refl, sym, ap, _∙_, subst}
 use mathlib.Core.Logic.{inl, inr}
-use mathlib.Core.List.{List, [], _∷_, _++_, map, append-assoc, append-nil, map-append}
+use mathlib.Core.List.{List, [], _∷_, _++_}
 use Prim.Native.Nat.{ℕ, suc, _+_}
 use native.Mathlib.Omega.{arith}
 use lib.ListN.{length, length-append}
 use Rattle.meaning.specs.OneRow.{TraceStep}
 use Rattle.exploration.specs.Order.{StepsBefore, RunBefore}
 use Rattle.exploration.specs.working.Transitions.{Transitions, Move, moveOf}
-use Rattle.exploration.specs.working.Runs.{Run, startsAt, goesOn, Before, steps, startOf, movesOf, StepByStep, InOrder}
+use Rattle.exploration.specs.working.Runs.{Run, startsAt, goesOn, Before, steps, startOf}
 use Rattle.exploration.specs.working.Found.{stepsOf}
-use Rattle.exploration.proofs.OrderSaid.{of-in-order}
+use Rattle.exploration.proofs.Order.{shorter}
 use Rattle.exploration.proofs.RunsOfModels.{onBy}
 
 -- A step without the state after it.
@@ -26,45 +26,48 @@ steps-count T (goesOn r k) = length-append (stepsOf T r) (_ ∷ []) ∙ sum _ _ 
     sum : (a b : ℕ) → a ≡ b → a + 1 ≡ suc b
     sum a b e = omega arith
 
-steps-moves : (T : Transitions) (r : Run) → map moveIn (stepsOf T r) ≡ movesOf r
-unfolding stepsOf
-steps-moves T (startsAt s) = refl
-steps-moves T (goesOn r k) = map-append moveIn (stepsOf T r) (_ ∷ []) ∙ ap (λ (l : List Move). l ++ k ∷ []) (steps-moves T r)
-
-on-start : (r : Run) (xs : List TraceStep) → startOf (onBy r xs) ≡ startOf r
-unfolding onBy
-on-start r [] = refl
-on-start r (x ∷ xs) = on-start (goesOn r (moveIn x)) xs
-
 on-length : (r : Run) (xs : List TraceStep) → steps (onBy r xs) ≡ steps r + length xs
 unfolding onBy
 on-length r [] = omega arith
 on-length r (x ∷ xs) = omega (arith, on-length (goesOn r (moveIn x)) xs)
 
-on-moves : (r : Run) (xs : List TraceStep) → movesOf (onBy r xs) ≡ movesOf r ++ map moveIn xs
+-- A run goes on from its start by its steps.
+on-snoc : (r : Run) (xs : List TraceStep) (x : TraceStep) → onBy r (xs ++ x ∷ []) ≡ goesOn (onBy r xs) (moveIn x)
 unfolding onBy
-on-moves r [] = sym (append-nil (movesOf r))
-on-moves r (x ∷ xs) = on-moves (goesOn r (moveIn x)) xs ∙ append-assoc (movesOf r) (moveIn x ∷ []) (map moveIn xs)
+on-snoc r [] x = refl
+on-snoc r (y ∷ xs) x = on-snoc (goesOn r (moveIn y)) xs x
 
-step-by-step : (xs ys : List TraceStep) → StepsBefore xs ys → StepByStep (map moveIn xs) (map moveIn ys)
-step-by-step [] ys h = absurd h
-step-by-step (x ∷ xs) [] h = absurd h
-step-by-step (x ∷ xs) (y ∷ ys) (inl h) = inl h
-step-by-step (x ∷ xs) (y ∷ ys) (inr h) = inr (λ i. moveOf (h .0 i) (h .1 i), step-by-step xs ys (h .2))
+on-steps : (T : Transitions) (r : Run) → onBy (startsAt (startOf r)) (stepsOf T r) ≡ r
+unfolding onBy stepsOf
+on-steps T (startsAt s) = refl
+on-steps T (goesOn r k) = on-snoc (startsAt (startOf r)) (stepsOf T r) _ ∙ ap (λ (q : Run). goesOn q k) (on-steps T r)
 
-module _ (T : Transitions) (s : ℕ) (xs : List TraceStep) (r : Run) where
-  in-order : RunBefore s xs (startOf r) (stepsOf T r) → InOrder (onBy (startsAt s) xs) r
-  in-order (inl h) = inl (omega (arith, on-length (startsAt s) xs, steps-count T r))
-  in-order (inr (e, inl h)) = inr (omega (arith, on-length (startsAt s) xs, steps-count T r), inl (rw (on-start (startsAt s) xs) h))
-  in-order (inr (e, inr (f, h))) =
-      inr (
-        omega (arith, on-length (startsAt s) xs, steps-count T r),
-        inr (
-          on-start (startsAt s) xs ∙ f,
-          subst (λ (l : List Move). StepByStep l (movesOf r)) (sym (on-moves (startsAt s) xs))
-              (subst (λ (l : List Move). StepByStep (map moveIn xs) l) (steps-moves T r) (step-by-step xs (stepsOf T r) h)),
-        ),
-      )
+-- The order stays where both go on by as many steps, and the first steps that differ decide it.
+on-before : (q r : Run) → Before q r → (xs ys : List TraceStep) → length xs ≡ length ys → Before (onBy q xs) (onBy r ys)
+unfolding onBy
+on-before q r h [] [] e = h
+on-before q r h [] (y ∷ ys) e = absurd (omega arith)
+on-before q r h (x ∷ xs) [] e = absurd (omega arith)
+on-before q r h (x ∷ xs) (y ∷ ys) e = on-before (goesOn q (moveIn x)) (goesOn r (moveIn y)) (inl h) xs ys (omega arith)
 
-  pub run-before : RunBefore s xs (startOf r) (stepsOf T r) → Before (onBy (startsAt s) xs) r
-  run-before h = of-in-order (onBy (startsAt s) xs) r (in-order h)
+on-first : (q : Run) (xs ys : List TraceStep) → length xs ≡ length ys → StepsBefore xs ys → Before (onBy q xs) (onBy q ys)
+unfolding onBy
+on-first q [] ys e h = absurd h
+on-first q (x ∷ xs) [] e h = absurd h
+on-first q (x ∷ xs) (y ∷ ys) e (inl h) = on-before (goesOn q (moveIn x)) (goesOn q (moveIn y)) (inr (refl, h)) xs ys (omega arith)
+on-first q (x ∷ xs) (y ∷ ys) e (inr (c, w, h)) =
+    subst (λ (k : Move). Before (onBy (goesOn q (moveIn x)) xs) (onBy (goesOn q k) ys)) (λ i. moveOf (c i) (w i))
+    (on-first (goesOn q (moveIn x)) xs ys (omega arith) h)
+
+pub run-before : (T : Transitions) (s : ℕ) (xs : List TraceStep) (r : Run) → RunBefore s xs (startOf r) (stepsOf T r) → Before (onBy (startsAt s) xs) r
+run-before T s xs r h = go h
+  where
+    by-steps : Before (onBy (startsAt s) xs) (onBy (startsAt (startOf r)) (stepsOf T r)) → Before (onBy (startsAt s) xs) r
+    by-steps k = subst (Before (onBy (startsAt s) xs)) (on-steps T r) k
+
+    go : RunBefore s xs (startOf r) (stepsOf T r) → Before (onBy (startsAt s) xs) r
+    go (inl h) = shorter (onBy (startsAt s) xs) r (omega (arith, on-length (startsAt s) xs, steps-count T r))
+    go (inr (e, inl h)) = by-steps (on-before (startsAt s) (startsAt (startOf r)) h xs (stepsOf T r) e)
+    go (inr (e, inr (f, h))) =
+        subst (λ (t : ℕ). Before (onBy (startsAt t) xs) r) (sym f)
+        (subst (Before (onBy (startsAt (startOf r)) xs)) (on-steps T r) (on-first (startsAt (startOf r)) xs (stepsOf T r) e h))

@@ -36,10 +36,10 @@ pub data Verdict : Type 0 where
   safeBy : List ℕ → Verdict
   unsafeBy : ℕ → List TraceStep → Verdict
 
--- The sheet that has the evidence.
-abbrev pub sheetOf : Verdict → Sheet
-sheetOf (safeBy map) = safe map
-sheetOf (unsafeBy s xs) = trace s xs
+-- The evidence as a sheet.
+abbrev pub evidenceOf : Verdict → Sheet
+evidenceOf (safeBy map) = safe map
+evidenceOf (unsafeBy s xs) = trace s xs
 
 -- What the search finds: safe, and the map, where no run goes wrong; unsafe, and the first run that goes wrong, where one does.
 abbrev pub Finds : Model → Verdict → Type 0

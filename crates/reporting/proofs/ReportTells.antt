@@ -10,7 +10,7 @@ use Rattle.notation.specs.working.Answer.{answer}
 use Rattle.notation.proofs.Texts.{says-answer, refused-answer}
 use Rattle.notation.proofs.Regular.{all-regular}
 use Rattle.exploration.specs.Findings.{Verdict, Finds}
-use Rattle.search.proofs.SearchTells.{finds}
+use Rattle.exploration.proofs.FindsRight.{finds}
 use Rattle.exploration.proofs.FindsOnce.{finds-once}
 use Rattle.lines.specs.Lines.{refusalLine}
 use Rattle.reporting.specs.Reports.{reportLines}

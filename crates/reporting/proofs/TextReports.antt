@@ -24,9 +24,9 @@ use Rattle.acceptance.specs.Sheets.{System, size, systemOf, sheetBytes, headerB
 use Rattle.acceptance.specs.SheetTexts.{InRange, twoAt}
 use Rattle.acceptance.specs.working.SheetReading.{stepsIn}
 use Rattle.acceptance.proofs.SheetWritten.{two-little, steps-there}
-use Rattle.exploration.specs.Findings.{Verdict, safeBy, unsafeBy, sheetOf, Finds}
+use Rattle.exploration.specs.Findings.{Verdict, safeBy, unsafeBy, evidenceOf, Finds}
 use Rattle.exploration.specs.working.Found.{transitionsOf}
-use Rattle.search.proofs.SearchTells.{own, finds}
+use Rattle.exploration.proofs.FindsRight.{own, finds}
 use Rattle.exploration.proofs.FoundShort.{found-short, trace-sheet-length}
 use Rattle.reporting.specs.Reports.{countsLine, unsafeLine, startLine, stepLine, stepLines, commandName, verdictLines, reportLines}
 use Rattle.reporting.specs.working.Reporting.{foundFor, reportOf}
@@ -108,7 +108,7 @@ module _ (text : List ℕ) (x : Tree) (says : TextSaysTree text x) where
         weaken (StepFits m) (InRange (systemOf m)) (λ y k. record { command = k .command; word = k .word; after = k .after }) xs (passes .stepsFit)
 
     pub sheet-short : length sheet ≤ 7 + 10 * stateCount m
-    sheet-short = subst (λ y. length (sheetBytes (systemOf m) (sheetOf y)) ≤ 7 + 10 * stateCount m) e (found-short (systemOf m) (transitionsOf (systemOf m)) m (own m))
+    sheet-short = subst (λ y. length (sheetBytes (systemOf m) (evidenceOf y)) ≤ 7 + 10 * stateCount m) e (found-short (systemOf m) (transitionsOf (systemOf m)) m (own m))
 
     shown : Printable text code sheet
     unfolding codeOf layoutOf

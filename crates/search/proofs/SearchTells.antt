@@ -1,8 +1,8 @@
 -- What a call of the search leaves: a verdict with its sheet, or a refusal with every buffer as it was.
 -- Assumes nothing.
 use mathlib.Core.Path.{_≡_, refl, sym, ap, _∙_, subst}
-use mathlib.Core.Logic.{_↔_}
-use mathlib.Core.Bool.{Bool, true, false}
+use mathlib.Core.Logic.{_↔_, _⊎_, inl, inr}
+use mathlib.Core.Bool.{Bool, true, false, true≢false}
 use mathlib.Core.List.{List}
 use Prim.Native.Nat.{ℕ, _+_, _*_, _≤_}
 use native.Mathlib.Omega.{arith}
@@ -12,21 +12,21 @@ use lib.ListN.{length, getD}
 use borrow.Author.Tests.{leb-true, le-leb}
 use Rattle.notation.specs.Bytes.{bytes}
 use Rattle.notation.specs.Model.{Model}
-use Rattle.notation.specs.Regular.{Regular}
-use Rattle.notation.specs.Texts.{TextSays}
+use Rattle.notation.specs.Texts.{TextSays, TextRefused}
 use Rattle.notation.specs.working.Machine as N
-use Rattle.notation.proofs.Texts.{says-answer, refused-answer}
+use Rattle.notation.proofs.Texts.{says-answer, refused-answer, one-answer}
 use Rattle.notation.proofs.Regular.{all-regular}
 use Rattle.meaning.specs.Meaning.{Safe, Unsafe}
 use Rattle.meaning.specs.OneRow.{One, stateCount}
 use Rattle.notation.proofs.Booleans.{and-split, and-join}
 use Rattle.acceptance.specs.Sheets.{systemOf, sheetBytes}
-use Rattle.exploration.specs.Findings.{Verdict, safeBy, unsafeBy, sheetOf, Finds}
+use Rattle.exploration.specs.Findings.{Verdict, safeBy, unsafeBy, evidenceOf, Finds}
 use Rattle.search.specs.Answers.{Wording, verdict, returned, wordingOf}
+use Rattle.search.specs.Left.{Left}
 use Rattle.search.specs.Promises.{LeavesTell, RoomTells, Room, SearchDone, SearchRefused, SearchTells, TextRefusedFirst}
-use Rattle.exploration.specs.working.Found.{foundIn, transitionsOf, Agrees}
+use Rattle.exploration.specs.working.Found.{foundIn, transitionsOf}
 use Rattle.search.specs.working.Searching.{roomy, verdictOf, leftWith, leftAlone, searchFor, searchIn, searchOf}
-use Rattle.exploration.proofs.FindsRight.{finds-right}
+use Rattle.exploration.proofs.FindsRight.{own, finds}
 use Rattle.exploration.proofs.FoundShort.{found-short}
 
 -- The call for a text that says a model is the call for the model.
@@ -47,6 +47,10 @@ room-tells m first second sheet = (
   λ r. and-join _ _ (le-leb _ _ (r .0)) (and-join _ _ (le-leb _ _ (r .1)) (le-leb _ _ (r .2))),
 )
 
+false-unless : (b : Bool) → (b ≡ true → ⊥) → b ≡ false
+false-unless true h = absurd (h refl)
+false-unless false h = refl
+
 -- The first letter of a verdict tells which it is.
 abbrev initial : Wording → ℕ
 initial (verdict s n) = getD (bytes s) 0 0
@@ -64,13 +68,6 @@ not-verdict n p k = (
 )
 
 module _ (m : Model) where
-  -- The transitions of the model's system are those of the model.
-  pub own : Agrees (transitionsOf (systemOf m)) m
-  own = record { size = refl; commands = refl; words = λ k h. refl; starts = λ s h. refl; breaks = λ s h. refl; step = λ s k w h l. refl }
-
-  pub finds : Regular m → Finds m (foundIn (transitionsOf (systemOf m)))
-  finds g = finds-right (transitionsOf (systemOf m)) m own g
-
   said-safe : (x : Verdict) → Finds m x → (n : ℕ) → (wordingOf (verdictOf x n) ≡ verdict "safe" n) ↔ Safe m One
   unfolding verdictOf wordingOf
   said-safe (safeBy map) F n = (λ e. F .0, λ h. refl)
@@ -82,7 +79,7 @@ module _ (m : Model) where
   said-unsafe (unsafeBy s xs) F n = (λ e. F .0, λ h. refl)
 
   module _ (first second sheet : List ℕ) where
-    left-with : (x : Verdict) → Finds m x → length (sheetBytes (systemOf m) (sheetOf x)) ≤ length sheet
+    left-with : (x : Verdict) → Finds m x → length (sheetBytes (systemOf m) (evidenceOf x)) ≤ length sheet
         → SearchDone m first second sheet (leftWith (systemOf m) x first second sheet)
     left-with x F h =
         record {
@@ -90,14 +87,14 @@ module _ (m : Model) where
           right = F;
           fits = h;
           written = refl;
-          safely = said-safe x F (length (sheetBytes (systemOf m) (sheetOf x)));
-          unsafely = said-unsafe x F (length (sheetBytes (systemOf m) (sheetOf x)));
+          safely = said-safe x F (length (sheetBytes (systemOf m) (evidenceOf x)));
+          unsafely = said-unsafe x F (length (sheetBytes (systemOf m) (evidenceOf x)));
           firstCleared = refl;
           secondCleared = refl;
         }
 
-    found-fits : Room m first second sheet → length (sheetBytes (systemOf m) (sheetOf (foundIn (transitionsOf (systemOf m))))) ≤ length sheet
-    found-fits r = le-trans (found-short (systemOf m) (transitionsOf (systemOf m)) m own) (r .2)
+    found-fits : Room m first second sheet → length (sheetBytes (systemOf m) (evidenceOf (foundIn (transitionsOf (systemOf m))))) ≤ length sheet
+    found-fits r = le-trans (found-short (systemOf m) (transitionsOf (systemOf m)) m (own m)) (r .2)
 
     -- With room, and without.
     pub with-room : Room m first second sheet
@@ -105,9 +102,9 @@ module _ (m : Model) where
     unfolding searchFor
     with-room r = rw (room-tells m first second sheet .1 r)
 
-    pub without-room : roomy (stateCount m) first second sheet ≡ false → searchFor (systemOf m) first second sheet ≡ leftAlone 8 0 first second sheet
+    without-room : ¬ (Room m first second sheet) → searchFor (systemOf m) first second sheet ≡ leftAlone 8 0 first second sheet
     unfolding searchFor
-    without-room e = rw e
+    without-room h = rw (false-unless (roomy (stateCount m) first second sheet) (λ e. h (room-tells m first second sheet .0 e)))
 
 left-alone : (n p : ℕ) (first second sheet : List ℕ) → SearchRefused n p first second sheet (leftAlone n p first second sheet)
 unfolding wordingOf
@@ -120,18 +117,37 @@ search-tells text m says first second sheet =
           subst (SearchDone m first second sheet)
           (sym (said text m says first second sheet ∙ with-room m first second sheet r))
           (left-with m first second sheet (foundIn (transitionsOf (systemOf m))) (finds m (all-regular text m says)) (found-fits m first second sheet r));
-      roomMissing = λ h. go (roomy (stateCount m) first second sheet) refl h;
+      roomMissing = λ h.
+          subst (SearchRefused 8 0 first second sheet) (sym (said text m says first second sheet ∙ without-room m first second sheet h)) (left-alone 8 0 first second sheet);
     }
-  where
-    go : (b : Bool) → roomy (stateCount m) first second sheet ≡ b → ¬ (Room m first second sheet) → SearchRefused 8 0 first second sheet (searchOf text first second sheet)
-    go true e h = absurd (h (room-tells m first second sheet .0 e))
-    go false e h =
-        subst (SearchRefused 8 0 first second sheet) (sym (said text m says first second sheet ∙ without-room m first second sheet e)) (left-alone 8 0 first second sheet)
 
 pub leaves-tell : LeavesTell
 leaves-tell L first second sheet (p, q, r) = λ t. record { answer = L .answer; first = p t; second = q t; sheet = r t }
 
-pub text-refused-first : TextRefusedFirst
+refused-left : (text : List ℕ) (n i : ℕ) → TextRefused text n i → (first second sheet : List ℕ) → searchOf text first second sheet ≡ leftAlone n i first second sheet
 unfolding searchOf searchIn
+refused-left text n i r first second sheet = ap (λ (o : N.Outcome). searchIn o first second sheet) (refused-answer r)
+
+pub text-refused-first : TextRefusedFirst
 text-refused-first text n i r first second sheet =
-    subst (SearchRefused n i first second sheet) (sym (ap (λ (o : N.Outcome). searchIn o first second sheet) (refused-answer r))) (left-alone n i first second sheet)
+    subst (SearchRefused n i first second sheet) (sym (refused-left text n i r first second sheet)) (left-alone n i first second sheet)
+
+-- A property holds of what a call leaves if it does where the text is refused, where there is no room, and where a model is searched.
+pub whatever-left : (text first second sheet : List ℕ) (P : Left → Type 0)
+    → ((n i : ℕ) → TextRefused text n i → P (leftAlone n i first second sheet))
+    → ((m : Model) → TextSays text m → ¬ (Room m first second sheet) → P (leftAlone 8 0 first second sheet))
+    → ((m : Model) → TextSays text m → Room m first second sheet → P (leftWith (systemOf m) (foundIn (transitionsOf (systemOf m))) first second sheet))
+    → P (searchOf text first second sheet)
+whatever-left text first second sheet P refused missing searched = go (one-answer text .some)
+  where
+    with-model : (m : Model) → TextSays text m → (b : Bool) → roomy (stateCount m) first second sheet ≡ b → P (searchOf text first second sheet)
+    with-model m says true e =
+        let r = room-tells m first second sheet .0 e in
+        subst P (sym (said text m says first second sheet ∙ with-room m first second sheet r)) (searched m says r)
+    with-model m says false e =
+        let h : ¬ (Room m first second sheet) = λ r. true≢false (sym (room-tells m first second sheet .1 r) ∙ e) in
+        subst P (sym (said text m says first second sheet ∙ without-room m first second sheet h)) (missing m says h)
+
+    go : ((m : Model) × TextSays text m) ⊎ ((n i : ℕ) × TextRefused text n i) → P (searchOf text first second sheet)
+    go (inl (m, says)) = with-model m says (roomy (stateCount m) first second sheet) refl
+    go (inr (n, i, r)) = subst P (sym (refused-left text n i r first second sheet)) (refused n i r)

@@ -25,26 +25,14 @@ use Rattle.acceptance.specs.Sheets.{System, size, systemOf, headerBytes, sheetB
 use Rattle.acceptance.specs.working.Shapes.{Few}
 use Rattle.acceptance.specs.working.Test.{systemIn}
 use Rattle.acceptance.proofs.TestTexts.{counts, star-count, flat-code, flat}
-use Rattle.exploration.specs.Findings.{Verdict, safeBy, unsafeBy, sheetOf}
+use Rattle.exploration.specs.Findings.{Verdict, safeBy, unsafeBy, evidenceOf}
 use Rattle.exploration.specs.working.Found.{foundIn, transitionsOf, Agrees}
 use Rattle.search.specs.Left.{Left, zeroed}
 use Rattle.search.specs.working.Searching.{roomy, verdictOf, leftWith, leftAlone, Ends, searchFor, searchIn, searchOf}
 use Rattle.search.specs.declared.finding.Finding.{Finding}
 use Rattle.search.specs.declared.finding.Finding.the-variants.{Refused}
-use Rattle.exploration.proofs.FindsRight.{finds-right}
+use Rattle.exploration.proofs.FindsRight.{finds-right, finds}
 use Rattle.exploration.proofs.FindsOnce.{finds-once}
-
--- The system of a model is its table of one row.
-model-agrees : (m : Model) → Agrees (transitionsOf (systemOf m)) m
-model-agrees m =
-    record {
-      size = refl;
-      commands = refl;
-      words = λ k h. refl;
-      starts = λ s h. refl;
-      breaks = λ s h. refl;
-      step = λ s k w h l. refl;
-    }
 
 -- Code that is ready for the search, over which the search leaves what it should.
 pub record Searchable (c : Code) (should : List ℕ → List ℕ → List ℕ → Left) : Type 0 where
@@ -71,10 +59,9 @@ module _ (m : Model) (g : Regular m) (ns : List Name) where
   -- Both find the same verdict, and the bytes of its sheet hang on the counts alone.
   found-same : foundIn (transitionsOf C) ≡ foundIn (transitionsOf (systemOf m))
   found-same =
-      finds-once m (foundIn (transitionsOf C)) (foundIn (transitionsOf (systemOf m))) (finds-right (transitionsOf C) m code-agrees g)
-      (finds-right (transitionsOf (systemOf m)) m (model-agrees m) g)
+      finds-once m (foundIn (transitionsOf C)) (foundIn (transitionsOf (systemOf m))) (finds-right (transitionsOf C) m code-agrees g) (finds m g)
 
-  bytes-same : (x : Verdict) → sheetBytes C (sheetOf x) ≡ sheetBytes (systemOf m) (sheetOf x)
+  bytes-same : (x : Verdict) → sheetBytes C (evidenceOf x) ≡ sheetBytes (systemOf m) (evidenceOf x)
   unfolding sheetBytes headerBytes
   bytes-same (safeBy map) = refl
   bytes-same (unsafeBy s xs) = refl

@@ -10,7 +10,7 @@ use lib.Seq.{sets}
 use Rattle.meaning.specs.OneRow.{TraceStep}
 use Rattle.acceptance.specs.Sheets as S
 use Rattle.acceptance.specs.Sheets.{System, size, little, recordBytes, headerBytes, mapBytes, stepsBytes, sheetBytes, mapLength}
-use Rattle.exploration.specs.Findings.{sheetOf}
+use Rattle.exploration.specs.Findings.{evidenceOf}
 use Rattle.exploration.specs.working.Transitions.{Transitions, Lawful, Move}
 use Rattle.exploration.specs.working.Runs.{Run, startsAt, goesOn, final, Valid, startOf}
 use Rattle.exploration.specs.working.Results.{Result, firstRun, reached, result, Right}
@@ -78,7 +78,7 @@ module _ (T : Transitions) (law : Lawful T) (few : T .size ≤ 4096) where
       ∙ append-assoc (S.startBytes (startOf r)) (stepsBytes (stepsOf T r)) (S.stepBytes x)
       ∙ ap (λ (u : List ℕ). S.startBytes (startOf r) ++ u) (sym (steps-snoc (stepsOf T r) x))
 
-  sheet-same : (M : System) (v : Result) → Right T v → countBytes (M .shared) (M .row) (M .commands) ++ resultBytes T v ≡ sheetBytes M (sheetOf (verdictFor T v))
+  sheet-same : (M : System) (v : Result) → Right T v → countBytes (M .shared) (M .row) (M .commands) ++ resultBytes T v ≡ sheetBytes M (evidenceOf (verdictFor T v))
   unfolding sheetBytes verdictFor
   sheet-same M (firstRun r) R =
       ap (λ (u : List ℕ). u ++ runBytes T r) (header-same M) ∙ ap (λ (u : List ℕ). headerBytes M ++ u) (run-same r (R .valid))
@@ -87,7 +87,7 @@ module _ (T : Transitions) (law : Lawful T) (few : T .size ≤ 4096) where
       ∙ ap (λ (u : List ℕ). headerBytes M ++ u) (map-same (mapFrom b 0 (mapLength (T .size))) (mapLength (T .size)) (map-length b 0 (mapLength (T .size))) (short-map (T .size) few))
 
   -- The header and what follows it are the bytes of the sheet found.
-  pub sheet-found : (M : System) → countBytes (M .shared) (M .row) (M .commands) ++ resultBytes T (result T) ≡ sheetBytes M (sheetOf (foundIn T))
+  pub sheet-found : (M : System) → countBytes (M .shared) (M .row) (M .commands) ++ resultBytes T (result T) ≡ sheetBytes M (evidenceOf (foundIn T))
   unfolding foundIn
   sheet-found M = sheet-same M (result T) (result-right T law)
 
@@ -106,13 +106,13 @@ said-safe T (reached b) n e = refl
 module _ (M : System) (law : Lawful (transitionsOf M)) (few : size M ≤ 4096) (o₀ : List ℕ) {q₀ p₀ o₁ q p o : List ℕ} {b : Bool} {len : ℕ}
     (h : o₁ ≡ sets o₀ 0 (countBytes (M .shared) (M .row) (M .commands))) (A : Answered (transitionsOf M) q₀ p₀ o₁ q p o b len)
   where
-    found-bytes : o ≡ sets o₀ 0 (sheetBytes M (sheetOf (foundIn (transitionsOf M))))
+    found-bytes : o ≡ sets o₀ 0 (sheetBytes M (evidenceOf (foundIn (transitionsOf M))))
     found-bytes =
         A .bytes
         ∙ ap (λ (u : List ℕ). sets u 9 (resultBytes (transitionsOf M) (result (transitionsOf M)))) h
         ∙ ap (λ (u : List ℕ). sets o₀ 0 u) (sheet-found (transitionsOf M) law few M)
 
-    found-long : len ≡ length (sheetBytes M (sheetOf (foundIn (transitionsOf M))))
+    found-long : len ≡ length (sheetBytes M (evidenceOf (foundIn (transitionsOf M))))
     found-long =
         A .long
         ∙ sym (length-append (countBytes (M .shared) (M .row) (M .commands)) (resultBytes (transitionsOf M) (result (transitionsOf M))))

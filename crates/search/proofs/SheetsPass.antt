@@ -1,8 +1,6 @@
 -- The sheet that the search writes passes the test for the same text.
 -- Assumes nothing.
 use mathlib.Core.Path.{_≡_, refl, sym, ap, _∙_, subst}
-use mathlib.Core.Logic.{_⊎_, inl, inr}
-use mathlib.Core.Bool.{Bool, true, false, true≢false}
 use mathlib.Core.List.{List, []}
 use Prim.Native.Nat.{ℕ, _+_, _*_, _≤_}
 use native.Mathlib.Omega.{arith}
@@ -10,8 +8,7 @@ use lib.ListN.{length, take, drop}
 use lib.Seq.{sets, sets-eq, take-append-seam}
 use Rattle.notation.specs.Model.{Model}
 use Rattle.notation.specs.Regular.{Every, Regular}
-use Rattle.notation.specs.Texts.{TextSays, TextRefused}
-use Rattle.notation.proofs.Texts.{one-answer}
+use Rattle.notation.specs.Texts.{TextSays}
 use Rattle.notation.proofs.Regular.{all-regular}
 use Rattle.meaning.specs.Meaning.{Breaks, last, Safe}
 use Rattle.meaning.specs.OneRow.{One, stateCount, spread, next, TraceStep}
@@ -25,16 +22,16 @@ use Rattle.acceptance.specs.SheetTexts.{InRange, SheetSays}
 use Rattle.acceptance.specs.Outcomes.{words}
 use Rattle.acceptance.specs.Promises.{answerTo}
 use Rattle.acceptance.proofs.Claims.{pass-tells}
-use Rattle.exploration.specs.Findings.{Verdict, safeBy, unsafeBy, sheetOf, Reaches, ExactMap, Finds}
+use Rattle.exploration.specs.Findings.{Verdict, safeBy, unsafeBy, evidenceOf, Reaches, ExactMap, Finds}
 use Rattle.search.specs.Answers.{Wording, verdict, returned, wordingOf}
-use Rattle.search.specs.Promises.{answerOf, FrontPasses, SheetsPass}
+use Rattle.search.specs.Promises.{FrontPasses, SheetsPass}
 use Rattle.exploration.specs.working.Transitions.{moveOf}
 use Rattle.exploration.specs.working.Runs.{goesOn}
 use Rattle.exploration.specs.working.Found.{foundIn, transitionsOf}
-use Rattle.search.specs.Left.{Left}
-use Rattle.search.specs.working.Searching.{roomy, verdictOf, leftWith, searchOf}
+use Rattle.search.specs.working.Searching.{verdictOf, leftWith, leftAlone}
 use Rattle.exploration.proofs.RunsOfModels.{run-told, run-reaches, reaches-run}
-use Rattle.search.proofs.SearchTells.{said, room-tells, not-safe, not-verdict, own, finds, with-room, search-tells, text-refused-first}
+use Rattle.search.proofs.SearchTells.{not-safe, not-verdict, whatever-left}
+use Rattle.exploration.proofs.FindsRight.{own, finds}
 use Rattle.exploration.proofs.FoundShort.{found-short}
 use Rattle.search.proofs.SheetBytes.{map-sheet-bytes, trace-sheet-bytes}
 
@@ -99,7 +96,7 @@ module _ (text : List ℕ) (m : Model) (says : TextSays text m) where
         subst (λ (k : ℕ). take k (sets sheet 0 (sheetBytes (systemOf m) x)) ≡ sheetBytes (systemOf m) x) e
         (front sheet (sheetBytes (systemOf m) x) (omega arith))
 
-    front-passes : (x : Verdict) → Finds m x → length (sheetBytes (systemOf m) (sheetOf x)) ≤ 7 + 10 * stateCount m
+    front-passes : (x : Verdict) → Finds m x → length (sheetBytes (systemOf m) (evidenceOf x)) ≤ 7 + 10 * stateCount m
         → FrontPasses text (leftWith (systemOf m) x first second sheet)
     unfolding verdictOf wordingOf
     front-passes (safeBy map) F h =
@@ -114,26 +111,16 @@ module _ (text : List ℕ) (m : Model) (says : TextSays text m) where
         }
 
 -- A call that was refused gave no verdict.
-refused-passes : (text : List ℕ) (left : Left) (n p : ℕ) → answerOf left ≡ returned n p → FrontPasses text left
-refused-passes text left n p e =
-    record {
-      afterSafe = λ k f. absurd (not-verdict n p k .0 (sym e ∙ f));
-      afterUnsafe = λ k f. absurd (not-verdict n p k .1 (sym e ∙ f));
-    }
+refused-passes : (text : List ℕ) (n p : ℕ) (first second sheet : List ℕ) → FrontPasses text (leftAlone n p first second sheet)
+unfolding wordingOf
+refused-passes text n p first second sheet =
+    record { afterSafe = λ k f. absurd (not-verdict n p k .0 f); afterUnsafe = λ k f. absurd (not-verdict n p k .1 f) }
 
 pub sheets-pass : SheetsPass
-sheets-pass text first second sheet = go (one-answer text .some)
-  where
-    with-model : (m : Model) → TextSays text m → (b : Bool) → roomy (stateCount m) first second sheet ≡ b → FrontPasses text (searchOf text first second sheet)
-    with-model m says true e =
-        let r = room-tells m first second sheet .0 e in
-        let M = transitionsOf (systemOf m) in
-        subst (FrontPasses text) (sym (said text m says first second sheet ∙ with-room m first second sheet r))
-        (front-passes text m says first second sheet (r .2) (foundIn M) (finds m (all-regular text m says)) (found-short (systemOf m) M m (own m)))
-    with-model m says false e =
-        refused-passes text _ 8 0
-        (search-tells text m says first second sheet .roomMissing (λ r. true≢false (sym (room-tells m first second sheet .1 r) ∙ e)) .answered)
-
-    go : ((m : Model) × TextSays text m) ⊎ ((n i : ℕ) × TextRefused text n i) → FrontPasses text (searchOf text first second sheet)
-    go (inl (m, says)) = with-model m says (roomy (stateCount m) first second sheet) refl
-    go (inr (n, i, r)) = refused-passes text _ n i (text-refused-first text n i r first second sheet .answered)
+sheets-pass text first second sheet =
+    whatever-left text first second sheet (FrontPasses text)
+    (λ n i r. refused-passes text n i first second sheet)
+    (λ m says h. refused-passes text 8 0 first second sheet)
+    (λ m says r.
+    let M = transitionsOf (systemOf m) in
+    front-passes text m says first second sheet (r .2) (foundIn M) (finds m (all-regular text m says)) (found-short (systemOf m) M m (own m)))

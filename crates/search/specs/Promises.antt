@@ -15,7 +15,7 @@ use Rattle.acceptance.specs.Sheets.{systemOf, sheetBytes}
 use Rattle.acceptance.specs.SheetTexts.{AreBytes}
 use Rattle.acceptance.specs.Outcomes.{words}
 use Rattle.acceptance.specs.Promises.{answerTo, TestPromise}
-use Rattle.exploration.specs.Findings.{Verdict, sheetOf, Finds}
+use Rattle.exploration.specs.Findings.{Verdict, evidenceOf, Finds}
 use Rattle.search.specs.Answers.{Wording, verdict, returned, wordingOf}
 use Rattle.search.specs.Left.{Left, Leaves, zeroed}
 use Rattle.search.specs.working.Searching.{roomy, searchOf}
@@ -43,10 +43,10 @@ answerOf left = wordingOf (left .answer)
 pub record SearchDone (m : Model) (first second sheet : List ℕ) (left : Left) : Type 0 where
   pub found : Verdict
   pub right : Finds m found
-  pub fits : length (sheetBytes (systemOf m) (sheetOf found)) ≤ length sheet
-  pub written : left .sheet ≡ sets sheet 0 (sheetBytes (systemOf m) (sheetOf found))
-  pub safely : (answerOf left ≡ verdict "safe" (length (sheetBytes (systemOf m) (sheetOf found)))) ↔ Safe m One
-  pub unsafely : (answerOf left ≡ verdict "unsafe" (length (sheetBytes (systemOf m) (sheetOf found)))) ↔ Unsafe m One
+  pub fits : length (sheetBytes (systemOf m) (evidenceOf found)) ≤ length sheet
+  pub written : left .sheet ≡ sets sheet 0 (sheetBytes (systemOf m) (evidenceOf found))
+  pub safely : (answerOf left ≡ verdict "safe" (length (sheetBytes (systemOf m) (evidenceOf found)))) ↔ Safe m One
+  pub unsafely : (answerOf left ≡ verdict "unsafe" (length (sheetBytes (systemOf m) (evidenceOf found)))) ↔ Unsafe m One
   pub firstCleared : left .first ≡ zeroed (stateCount m) first
   pub secondCleared : left .second ≡ zeroed (stateCount m) second
 

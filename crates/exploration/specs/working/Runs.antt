@@ -3,7 +3,7 @@
 use Prim.Native.Nat.{ℕ, suc, zero, _+_, _-_, _<_}
 use mathlib.Core.Path.{_≡_}
 use mathlib.Core.Bool.{true, false, cond}
-use mathlib.Core.List.{List, [], _∷_, _++_}
+use mathlib.Core.List.{List, [], _∷_}
 use lib.ListN.{getD}
 use lib.Dec.{eqb}
 use mathlib.Core.Logic.{_⊎_}
@@ -66,20 +66,7 @@ Traced M p (goesOn y m) =
     × (final M y ≡ final M (goesOn y m) → ⊥)
     × (firstMove M (final M y) (final M (goesOn y m)) (moves M) ≡ m)
 
--- The same order from the front: by length, then by the first state, then by the first step that differs.
+-- The state where a run starts.
 abbrev pub startOf : Run → ℕ
 startOf (startsAt s) = s
 startOf (goesOn r m) = startOf r
-
-abbrev pub movesOf : Run → List Move
-movesOf (startsAt s) = []
-movesOf (goesOn r m) = movesOf r ++ m ∷ []
-
-abbrev pub StepByStep : List Move → List Move → Type 0
-StepByStep [] [] = ⊥
-StepByStep [] (n ∷ k) = ⊥
-StepByStep (m ∷ l) [] = ⊥
-StepByStep (m ∷ l) (n ∷ k) = MoveBefore m n ⊎ ((m ≡ n) × StepByStep l k)
-
-abbrev pub InOrder : Run → Run → Type 0
-InOrder a b = (steps a < steps b) ⊎ ((steps a ≡ steps b) × ((startOf a < startOf b) ⊎ ((startOf a ≡ startOf b) × StepByStep (movesOf a) (movesOf b))))

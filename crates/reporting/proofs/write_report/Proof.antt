@@ -1,21 +1,23 @@
 -- `write_report` meets its contract: each arm puts the report that the search's answer stands for, and there is room for it.
 -- Assumes nothing.
 use mathlib.Core.Path.{sym, _∙_}
-use Prim.Native.Nat.{_≤_}
 use native.Mathlib.Omega.{arith}
 use borrow.Author.Needs.{needs}
-use lib.ListN.{length}
 use lib.Seq.{length-take-le}
+use Rattle.search.specs.working.Searching.{searchOf}
 use Rattle.lines.proofs.Parts.{refusal-fits}
 use Rattle.reporting.proofs.ReportShort.{report-fits, report-put}
-use Rattle.reporting.proofs.Reported.{refusal-told, safe-told, trace-told}
+use Rattle.reporting.proofs.Reported.{Told, told-left}
 use Rattle.reporting.proofs.write_report.Statement.{statement}
 use Rattle.reporting.proofs.write_report.Tie as tie
 
--- The tables and the sheet have room for every search.
-rooms : (c : tie.After-search-arg3) → let start : tie.Start = search in
-    (4096 ≤ length (start .args .first .now)) × (4096 ≤ length (start .args .second .now)) × (40967 ≤ length (start .args .sheet .now))
-rooms c = (omega arith, omega arith, omega arith)
+-- The tables and the sheet have room for every search, so the answer tells the report.
+told : (c : tie.After-search) → let start : tie.Start = search in
+    Told (start .args .text .now) (searchOf (start .args .text .now) (start .args .first .now) (start .args .second .now) (start .args .sheet .now))
+told c =
+    let start : tie.Start = search in
+    let lent : tie.After-search-arg3 = search in
+    told-left (start .args .text .now) (start .args .first .now) (start .args .second .now) (start .args .sheet .now) (omega arith) (omega arith) (omega arith)
 
 search-requires : tie.Need-search-requires
 search-requires c κs = search needs
@@ -39,12 +41,9 @@ put-safe-requires c κs =
     let after-search : tie.After-search = search in
     let start : tie.Start = search in
     let a = start .args in
-    let lent : tie.After-search-arg3 = search in
-    let room = rooms lent in
     let e = sym (c .before .enum-told .given .1) ∙ after-search .search .ensures .0 in
     report-fits (a .text .now) _
-    (safe-told (a .text .now) (a .first .now) (a .second .now) (a .sheet .now) (room .0) (room .1) (room .2)
-    _ e)
+    (told after-search .safely _ e)
     (a .out .now) (omega arith)
 
 enum-known-found-2 : tie.Need-enum-known-found-2
@@ -56,11 +55,9 @@ slice-aggregate-put-unsafe c =
     let after-search : tie.After-search = search in
     let start : tie.Start = search in
     let a = start .args in
-    let lent : tie.After-search-arg3 = search in
-    let room = rooms lent in
     let s = after-search .search in
     let e = sym (after-found2 .found2 .given .1) ∙ s .ensures .0 in
-    let t = trace-told (a .text .now) (a .first .now) (a .second .now) (a .sheet .now) (room .0) (room .1) (room .2) _ (s .last .1 .1 .1 .0) e (s .ensures .1 .0 .2) in
+    let t = told after-search .unsafely _ (s .last .1 .1 .1 .0) e (s .ensures .1 .0 .2) in
     sym (length-take-le _ _ (t .within))
 
 put-unsafe-requires : tie.Need-put-unsafe-requires
@@ -69,11 +66,9 @@ put-unsafe-requires c κs =
     let after-search : tie.After-search = search in
     let start : tie.Start = search in
     let a = start .args in
-    let lent : tie.After-search-arg3 = search in
-    let room = rooms lent in
     let s = after-search .search in
     let e = sym (after-found2 .found2 .given .1) ∙ s .ensures .0 in
-    let t = trace-told (a .text .now) (a .first .now) (a .second .now) (a .sheet .now) (room .0) (room .1) (room .2) _ (s .last .1 .1 .1 .0) e (s .ensures .1 .0 .2) in
+    let t = told after-search .unsafely _ (s .last .1 .1 .1 .0) e (s .ensures .1 .0 .2) in
     (t .shown, report-fits (a .text .now) _ (t .lines) (a .out .now) (omega arith))
 
 returns : tie.Need-returns
@@ -82,11 +77,9 @@ returns c =
     let after-search : tie.After-search = search in
     let start : tie.Start = search in
     let a = start .args in
-    let lent : tie.After-search-arg3 = search in
-    let room = rooms lent in
     let s = after-search .search in
     let e = sym (after-found .found .given .1) ∙ s .ensures .0 in
-    let t = refusal-told (a .text .now) (a .first .now) (a .second .now) (a .sheet .now) (room .0) (room .1) (room .2) _ _ e in
+    let t = told after-search .refusal _ _ e in
     let w = report-put (a .text .now) _ t (a .out .now) (omega (arith, c .before .put-refusal-arg .given)) (c .put-refusal .last .0) (c .put-refusal .result)
     (c .put-refusal .ensures) in
     (w .0, (w .1, s .ensures .1 .0))
@@ -97,11 +90,9 @@ returns-2 c =
     let after-search : tie.After-search = search in
     let start : tie.Start = search in
     let a = start .args in
-    let lent : tie.After-search-arg3 = search in
-    let room = rooms lent in
     let s = after-search .search in
     let e = sym (after-enum-told .enum-told .given .1) ∙ s .ensures .0 in
-    let t = safe-told (a .text .now) (a .first .now) (a .second .now) (a .sheet .now) (room .0) (room .1) (room .2) _ e in
+    let t = told after-search .safely _ e in
     let w = report-put (a .text .now) _ t (a .out .now) (omega (arith, c .before .put-safe-arg .given)) (c .put-safe .last .0) (c .put-safe .result)
     (c .put-safe .ensures) in
     (w .0, (w .1, s .ensures .1 .0))
@@ -112,11 +103,9 @@ returns-3 c =
     let after-search : tie.After-search = search in
     let start : tie.Start = search in
     let a = start .args in
-    let lent : tie.After-search-arg3 = search in
-    let room = rooms lent in
     let s = after-search .search in
     let e = sym (after-found2 .found2 .given .1) ∙ s .ensures .0 in
-    let t = trace-told (a .text .now) (a .first .now) (a .second .now) (a .sheet .now) (room .0) (room .1) (room .2) _ (s .last .1 .1 .1 .0) e (s .ensures .1 .0 .2) in
+    let t = told after-search .unsafely _ (s .last .1 .1 .1 .0) e (s .ensures .1 .0 .2) in
     let w = report-put (a .text .now) _ (t .lines) (a .out .now) (omega (arith, c .before .before .put-unsafe-arg .given)) (c .put-unsafe .last .0)
     (c .put-unsafe .result) (c .put-unsafe .ensures) in
     (w .0, (w .1, s .ensures .1 .0))

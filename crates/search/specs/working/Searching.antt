@@ -11,7 +11,7 @@ use Rattle.notation.specs.Texts.{modelOf}
 use Rattle.notation.specs.working.Machine as N
 use Rattle.notation.specs.working.Answer.{answer}
 use Rattle.acceptance.specs.Sheets.{System, size, systemOf, sheetBytes}
-use Rattle.exploration.specs.Findings.{Verdict, safeBy, unsafeBy, sheetOf}
+use Rattle.exploration.specs.Findings.{Verdict, safeBy, unsafeBy, evidenceOf}
 use Rattle.exploration.specs.working.Found.{foundIn, transitionsOf}
 use Rattle.search.specs.declared.finding.Finding.{Finding}
 use Rattle.search.specs.declared.finding.Finding.the-variants.{Safe, Unsafe, Refused}
@@ -30,10 +30,10 @@ verdictOf (unsafeBy s xs) n = Unsafe n
 abbrev pub leftWith : System → Verdict → List ℕ → List ℕ → List ℕ → Left
 leftWith M x first second sheet =
     record {
-      answer = verdictOf x (length (sheetBytes M (sheetOf x)));
+      answer = verdictOf x (length (sheetBytes M (evidenceOf x)));
       first = zeroed (size M) first;
       second = zeroed (size M) second;
-      sheet = sets sheet 0 (sheetBytes M (sheetOf x));
+      sheet = sets sheet 0 (sheetBytes M (evidenceOf x));
     }
 
 -- After a refusal every buffer is as it was.
