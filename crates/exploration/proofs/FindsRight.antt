@@ -18,15 +18,16 @@ use Rattle.acceptance.proofs.SheetOpened.{eighths}
 use Rattle.exploration.specs.Findings.{Reaches, ExactMap, FirstBreak, Finds}
 use Rattle.exploration.specs.Promises.{FoundIsRight}
 use Rattle.exploration.specs.working.Transitions.{Transitions}
-use Rattle.exploration.specs.working.Runs.{Run, startsAt, First, steps, startOf}
+use Rattle.exploration.specs.working.Runs.{Run, startsAt, First, steps, startOf, stepsOf}
 use Rattle.exploration.specs.working.Results.{Result, firstRun, reached, result, AllReached, Right}
 use Rattle.exploration.specs.working.Written.{mapFrom}
-use Rattle.exploration.specs.working.Found.{stepsOf, verdictFor, foundIn, transitionsOf, Agrees}
+use Rattle.exploration.specs.working.Found.{verdictFor, foundIn, transitionsOf, Agrees}
 use Rattle.exploration.proofs.Right.{result-right}
 use Rattle.exploration.proofs.Map.{map-length}
 use Rattle.exploration.proofs.RunsOfModels.{onBy, lawful, trace-passes, run-reaches, trace-valid, trace-breaks, run-told, reaches-run, break-told}
 use Rattle.exploration.proofs.Order.{lt-or-ge, shorter}
-use Rattle.exploration.proofs.TracesInOrder.{run-before, steps-count}
+use Rattle.exploration.proofs.TracesInOrder.{run-before}
+use Rattle.exploration.proofs.TraceSteps.{steps-count}
 use Rattle.exploration.proofs.MapsFound.{map-bytes, map-has, map-clear}
 
 -- A trace that passes is a run of the table of one row that goes wrong.

@@ -13,7 +13,7 @@ use Rattle.meaning.specs.Evidence.{inMap}
 use Rattle.meaning.proofs.Number.{bit-number, number-lt, first-length}
 use Rattle.acceptance.specs.SheetTexts.{AreBytes, unusedClear}
 use Rattle.acceptance.proofs.UnusedBits.{unused-bits}
-use Rattle.exploration.specs.working.Written.{bit as worth, bitAt, mapByte, mapFrom}
+use Rattle.exploration.specs.working.Written.{bitAt, mapByte, mapFrom}
 use Rattle.exploration.proofs.Order.{lt-or-ge}
 use Rattle.exploration.proofs.Map.{map-length}
 
@@ -22,16 +22,11 @@ first-at zero f j h = absurd (not-suc-le-zero h)
 first-at (suc k) f zero h = refl
 first-at (suc k) f (suc j) h = first-at k (λ i. f (suc i)) j (le-of-suc-le-suc h)
 
-worth-is : (b : Bool) → worth b ≡ cond b 1 0
-worth-is true = refl
-worth-is false = refl
-
 sum-is : (a b c d e f g h : Bool)
-    → worth a + 2 * worth b + 4 * worth c + 8 * worth d + 16 * worth e + 32 * worth f + 64 * worth g + 128 * worth h
+    → cond a 1 0 + 2 * cond b 1 0 + 4 * cond c 1 0 + 8 * cond d 1 0 + 16 * cond e 1 0 + 32 * cond f 1 0 + 64 * cond g 1 0 + 128 * cond h 1 0
     ≡ number (a ∷ b ∷ c ∷ d ∷ e ∷ f ∷ g ∷ h ∷ [])
 unfolding number
-sum-is a b c d e f g h =
-    omega (arith, worth-is a, worth-is b, worth-is c, worth-is d, worth-is e, worth-is f, worth-is g, worth-is h)
+sum-is a b c d e f g h = omega arith
 
 -- The eight entries that byte i holds.
 eight : List Bool → ℕ → List Bool

@@ -22,9 +22,9 @@ use Rattle.meaning.proofs.OneRow.{starts-tell, breaks-tell, next-stays, last-is
 use Rattle.meaning.proofs.Accept.{all-tests-tell}
 use Rattle.exploration.specs.Findings.{Reaches}
 use Rattle.exploration.specs.working.Transitions.{Transitions, Lawful, moveOf}
-use Rattle.exploration.specs.working.Runs.{Run, startsAt, goesOn, final, Valid, steps, startOf}
+use Rattle.exploration.specs.working.Runs.{Run, startsAt, goesOn, final, Valid, steps, startOf, stepsOf}
 use Rattle.exploration.specs.working.Results.{Reached}
-use Rattle.exploration.specs.working.Found.{stepsOf, Agrees}
+use Rattle.exploration.specs.working.Found.{Agrees}
 use Rattle.exploration.proofs.TraceSteps.{every-snoc, last-snoc, tests-snoc}
 
 -- The run that goes on by the steps of a trace.

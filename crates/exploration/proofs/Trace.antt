@@ -1,15 +1,18 @@
--- Walking back along the recorded run, and its bytes.
+-- Walking back along the recorded run, and writing its bytes from the last step to the first.
 -- Assumes nothing.
 use Prim.Native.Nat.{ℕ, suc, _+_, _-_, _*_, _<_, _≤_}
 use mathlib.Core.Path.{_≡_, refl, sym, ap, _∙_, subst}
-use mathlib.Core.List.{List, [], _∷_, _++_}
+use mathlib.Core.Logic.{_⊎_, inl, inr, ⊎-elim}
+use mathlib.Core.List.{List, [], _∷_, _++_, append-nil}
 use native.Mathlib.Omega.{arith}
-use lib.ListN.{length, getD, set, take, length-append}
+use lib.ListN.{length, getD, set, take}
 use lib.Seq.{sets, length-sets, set-comm, getD-take}
+use Rattle.acceptance.specs.Sheets.{startBytes, stepBytes, stepsBytes}
 use Rattle.exploration.specs.working.Transitions.{Transitions, Lawful, Move, moves}
-use Rattle.exploration.specs.working.Runs.{Run, startsAt, goesOn, final, MoveOf, Valid, steps, firstMove, runTo, Traced}
-use Rattle.exploration.specs.working.Written.{startBytes, stepBytes, runBytes, RecordedTo}
+use Rattle.exploration.specs.working.Runs.{Run, startsAt, goesOn, final, MoveOf, Valid, steps, firstMove, runTo, Traced, stepOf, stepsOf}
+use Rattle.exploration.specs.working.Written.{runBytes, RecordedTo}
 use Rattle.exploration.proofs.First.{run-to, final-below}
+use Rattle.exploration.proofs.TraceSteps.{run-snoc, run-length}
 
 -- Stores that don't meet.
 
@@ -17,147 +20,146 @@ set-sets : (l : List ℕ) (i v j : ℕ) (b : List ℕ) → i < j → set (sets l
 set-sets l i v j [] h = refl
 set-sets l i v j (x ∷ b) h = set-sets (set l j x) i v (suc j) b (omega arith) ∙ ap (λ (u : List ℕ). sets u (suc j) b) (set-comm l j i x v (omega arith))
 
-pub sets-swap : (l : List ℕ) (i : ℕ) (a b : List ℕ) (j : ℕ) → j ≡ i + length a → sets (sets l j b) i a ≡ sets l i (a ++ b)
+sets-swap : (l : List ℕ) (i : ℕ) (a b : List ℕ) (j : ℕ) → j ≡ i + length a → sets (sets l j b) i a ≡ sets l i (a ++ b)
 sets-swap l i [] b j e = let f : j ≡ i = omega arith in rw f
 sets-swap l i (v ∷ a) b j e = ap (λ (u : List ℕ). sets u (suc i) a) (set-sets l i v j b (omega arith)) ∙ sets-swap (set l i v) (suc i) a b j (omega arith)
 
-pub run-length : (M : Transitions) (r : Run) → length (runBytes M r) ≡ 8 + 10 * steps r
-unfolding runBytes
-run-length M (startsAt s) = refl
-run-length M (goesOn r m) = omega (arith, length-append (runBytes M r) (stepBytes m (final M (goesOn r m))), run-length M r)
-
--- One step back.
-
-traced-one : (M : Transitions) (p : List ℕ) (r : Run) → Traced M p r → 1 ≤ getD p (final M r) 0
-traced-one M p (startsAt s) h = omega arith
-traced-one M p (goesOn r m) h = omega (arith, h .1)
+-- The recorded run is the one that is walked back.
+run-is : (M : Transitions) (p : List ℕ) (t : ℕ) (R : RecordedTo M p t) → runTo M p (M .size) t ≡ R .run
+run-is M p t R = ap (runTo M p (M .size)) (sym (R .ends)) ∙ run-to M p (R .run) (R .traced) (M .size) (omega (arith, R .short))
 
 pub recorded-short : (M : Transitions) (p : List ℕ) (t : ℕ) → RecordedTo M p t → steps (runTo M p (M .size) t) < M .size
-recorded-short M p t R = rw (← R .ends, run-to M p (R .run) (R .traced) (M .size) (omega (arith, R .short))) (R .short)
+recorded-short M p t R = rw (run-is M p t R) (R .short)
 
--- The place s on the recorded run to t, n steps back.
-pub record Walking (M : Transitions) (P : List ℕ) (t n s : ℕ) : Type 0 where
-  pub run : Run
-  pub valid : Valid M run
-  pub traced : Traced M (take (M .size) P) run
-  pub ends : final M run ≡ s
-  pub counted : n + steps run ≡ steps (runTo M (take (M .size) P) (M .size) t)
-  pub short : n + steps run < M .size
+module _ (M : Transitions) (law : Lawful M) (P : List ℕ) where
+  abbrev Here : ℕ → Type 0
+  Here s = RecordedTo M (take (M .size) P) s
 
-pub walking-start : (M : Transitions) (P : List ℕ) (t : ℕ) → RecordedTo M (take (M .size) P) t → Walking M P t 0 t
-walking-start M P t R =
-    let e : runTo M (take (M .size) P) (M .size) t ≡ R .run = ap (runTo M (take (M .size) P) (M .size)) (sym (R .ends))
-    ∙ run-to M (take (M .size) P) (R .run) (R .traced) (M .size) (omega (arith, R .short)) in
-    record { run = R .run; valid = R .valid; traced = R .traced; ends = R .ends; counted = rw e (omega arith); short = omega (arith, R .short) }
+  module _ {s : ℕ} (R : Here s) where
+    pub recorded-below : s < M .size
+    recorded-below = rw (R .ends) at (final-below M law (R .run) (R .valid))
 
-module _ (M : Transitions) (law : Lawful M) (P : List ℕ) (t n s : ℕ) (W : Walking M P t n s) where
-  pub walking-below : s < M .size
-  walking-below = rw (W .ends) at (final-below M law (W .run) (W .valid))
+    -- One step back: the run to the state before, and the move from there.
+    record Back : Type 0 where
+      before : Here (getD P s 0 - 1)
+      move : Move
+      whole : R .run ≡ goesOn (before .run) move
+      moved : MoveOf M move
+      first : firstMove M (getD P s 0 - 1) s (moves M) ≡ move
+      other : getD P s 0 - 1 ≡ s → ⊥
+      some : 1 ≤ getD P s 0
 
-  walking-at : getD (take (M .size) P) s 0 ≡ getD P s 0
-  walking-at = getD-take (M .size) P s 0 walking-below
+    -- The run is at its start, or comes from somewhere.
+    back : ((R .run ≡ startsAt s) × (getD P s 0 ≡ s + 1)) ⊎ Back
+    back = go (R .run) refl (R .valid) (R .traced) (R .ends)
+      where
+        parent : (n : ℕ) → getD (take (M .size) P) s 0 ≡ n → getD P s 0 ≡ n
+        parent n e = sym (getD-take (M .size) P s 0 recorded-below) ∙ e
 
-  pub walking-one : 1 ≤ getD P s 0
-  walking-one = rw (← walking-at, ← W .ends) (traced-one M (take (M .size) P) (W .run) (W .traced))
+        go : (r : Run) → R .run ≡ r → Valid M r → Traced M (take (M .size) P) r → final M r ≡ s → ((R .run ≡ startsAt s) × (getD P s 0 ≡ s + 1)) ⊎ Back
+        go (startsAt u) e v h f = inl (e ∙ ap startsAt f, parent (s + 1) (subst (λ (n : ℕ). getD (take (M .size) P) n 0 ≡ n + 1) f h))
+        go (goesOn y k) e v h f =
+            let g : getD P s 0 ≡ final M y + 1 = parent _ (subst (λ (n : ℕ). getD (take (M .size) P) n 0 ≡ final M y + 1) f (h .1)) in
+            let b : getD P s 0 - 1 ≡ final M y = omega arith in
+            inr (
+            record {
+              before = record { run = y; valid = v .0; traced = h .0; ends = sym b; short = omega (arith, R .short, ap steps e) };
+              move = k;
+              whole = e;
+              moved = v .1;
+              first = ap (λ (n : ℕ). firstMove M n s (moves M)) b ∙ ap (λ (n : ℕ). firstMove M (final M y) n (moves M)) (sym f) ∙ h .3;
+              other = λ c. h .2 (sym b ∙ c ∙ sym f);
+              some = omega arith;
+            }
+            )
 
-  pub walking-end : getD P s 0 - 1 ≡ s → n ≡ steps (runTo M (take (M .size) P) (M .size) t)
-  walking-end e = go (W .run) (W .traced) (W .ends) (W .counted)
-    where
-      go : (r : Run) → Traced M (take (M .size) P) r → final M r ≡ s → n + steps r ≡ steps (runTo M (take (M .size) P) (M .size) t) → n ≡ steps (runTo M (take (M .size) P) (M .size) t)
-      go (startsAt u) h f c = omega arith
-      go (goesOn y m) h f c =
-          let g : getD P s 0 ≡ final M y + 1 = sym walking-at ∙ ap (λ (u : ℕ). getD (take (M .size) P) u 0) (sym f) ∙ h .1 in
-          absurd (h .2 (omega arith))
+    pub recorded-one : 1 ≤ getD P s 0
+    recorded-one = ⊎-elim (λ h. omega (arith, h .1)) (λ b. b .some) back
 
-  pub walking-next : (getD P s 0 - 1 ≡ s → ⊥) → Walking M P t (n + 1) (getD P s 0 - 1)
-  walking-next e = go (W .run) (W .valid) (W .traced) (W .ends) (W .counted) (W .short)
-    where
-      go : (r : Run) → Valid M r → Traced M (take (M .size) P) r → final M r ≡ s → n + steps r ≡ steps (runTo M (take (M .size) P) (M .size) t)
-          → n + steps r < M .size → Walking M P t (n + 1) (getD P s 0 - 1)
-      go (startsAt u) v h f c k =
-          let g : getD P s 0 ≡ u + 1 = sym walking-at ∙ ap (λ (u : ℕ). getD (take (M .size) P) u 0) (sym f) ∙ h in
-          absurd (e (omega arith))
-      go (goesOn y m) v h f c k =
-          let g : getD P s 0 ≡ final M y + 1 = sym walking-at ∙ ap (λ (u : ℕ). getD (take (M .size) P) u 0) (sym f) ∙ h .1 in
-          record { run = y; valid = v .0; traced = h .0; ends = omega arith; counted = omega arith; short = omega arith }
+  -- The place s on the recorded run to t, n steps back.
+  pub record Walking (t n s : ℕ) : Type 0 where
+    pub here : Here s
+    pub counted : n + steps (here .run) ≡ steps (runTo M (take (M .size) P) (M .size) t)
+    pub short : n + steps (here .run) < M .size
 
--- The run to s is left to write, i steps long, before what out holds already.
-pub record Writing (M : Transitions) (P : List ℕ) (t : ℕ) (out₀ out : List ℕ) (i s : ℕ) : Type 0 where
-  pub run : Run
-  pub valid : Valid M run
-  pub traced : Traced M (take (M .size) P) run
-  pub ends : final M run ≡ s
-  pub left : steps run ≡ i
-  pub short : i < M .size
-  pub same : sets out 9 (runBytes M run) ≡ sets out₀ 9 (runBytes M (runTo M (take (M .size) P) (M .size) t))
-  pub kept : length out ≡ length out₀
-  pub room : 17 + 10 * i ≤ length out
+  pub walking-start : (t : ℕ) → Here t → Walking t 0 t
+  walking-start t R = record { here = R; counted = omega (arith, ap steps (run-is M (take (M .size) P) t R)); short = omega (arith, R .short) }
 
-pub writing-start : (M : Transitions) (P : List ℕ) (t : ℕ) (out : List ℕ) (n : ℕ) → RecordedTo M (take (M .size) P) t → n
-    ≡ steps (runTo M (take (M .size) P) (M .size) t) → 17 + 10 * n ≤ length out → Writing M P t out out n t
-writing-start M P t out n R e h =
-    let f : runTo M (take (M .size) P) (M .size) t ≡ R .run = ap (runTo M (take (M .size) P) (M .size)) (sym (R .ends))
-    ∙ run-to M (take (M .size) P) (R .run) (R .traced) (M .size) (omega (arith, R .short)) in
-    let g : n ≡ steps (R .run) = e ∙ ap steps f in
-    record { run = R .run; valid = R .valid; traced = R .traced; ends = R .ends; left = sym g; short = omega (arith, R .short); same = rw f; kept = refl; room = h }
+  module _ (t n s : ℕ) (W : Walking t n s) where
+    pub walking-end : getD P s 0 - 1 ≡ s → n ≡ steps (runTo M (take (M .size) P) (M .size) t)
+    walking-end e = ⊎-elim (λ h. omega (arith, ap steps (h .0), W .counted)) (λ b. absurd (b .other e)) (back (W .here))
 
-module _ (M : Transitions) (law : Lawful M) (P : List ℕ) (t : ℕ) (out₀ out : List ℕ) (i s : ℕ) (W : Writing M P t out₀ out i s) where
-  pub writing-below : s < M .size
-  writing-below = rw (W .ends) at (final-below M law (W .run) (W .valid))
+    pub walking-next : (getD P s 0 - 1 ≡ s → ⊥) → Walking t (n + 1) (getD P s 0 - 1)
+    walking-next e =
+        ⊎-elim
+        (λ h. absurd (e (omega (arith, h .1))))
+        (λ b.
+        record {
+          here = b .before;
+          counted = omega (arith, ap steps (b .whole), W .counted);
+          short = omega (arith, ap steps (b .whole), W .short);
+        })
+        (back (W .here))
 
-  writing-at : getD (take (M .size) P) s 0 ≡ getD P s 0
-  writing-at = getD-take (M .size) P s 0 writing-below
+  -- The run to s is left to write, i steps long, from `at` on, before what out holds already.
+  pub record Writing (t at : ℕ) (out₀ out : List ℕ) (i s : ℕ) : Type 0 where
+    pub here : Here s
+    pub left : steps (here .run) ≡ i
+    pub short : i < M .size
+    pub same : sets out at (runBytes M (here .run)) ≡ sets out₀ at (runBytes M (runTo M (take (M .size) P) (M .size) t))
+    pub kept : length out ≡ length out₀
+    pub room : at + 8 + 10 * i ≤ length out
 
-  pub writing-one : 1 ≤ getD P s 0
-  writing-one = rw (← writing-at, ← W .ends) (traced-one M (take (M .size) P) (W .run) (W .traced))
+  pub writing-start : (t at : ℕ) (out : List ℕ) (n : ℕ) → Here t → n ≡ steps (runTo M (take (M .size) P) (M .size) t) → at + 8 + 10 * n ≤ length out
+      → Writing t at out out n t
+  writing-start t at out n R e h =
+      let f = run-is M (take (M .size) P) t R in
+      let g : n ≡ steps (R .run) = e ∙ ap steps f in
+      record { here = R; left = sym g; short = omega (arith, R .short); same = ap (λ (r : Run). sets out at (runBytes M r)) (sym f); kept = refl; room = h }
 
-  -- The state before it is a state.
-  pub writing-parent : 0 < i → getD P s 0 - 1 < M .size
-  writing-parent h = go (W .run) (W .valid) (W .traced) (W .ends) (W .left)
-    where
-      go : (r : Run) → Valid M r → Traced M (take (M .size) P) r → final M r ≡ s → steps r ≡ i → getD P s 0 - 1 < M .size
-      go (startsAt u) v tr f l = absurd (omega arith)
-      go (goesOn y k) v tr f l =
-          let g : getD P s 0 - 1 ≡ final M y = omega (arith, sym writing-at ∙ ap (λ (u : ℕ). getD (take (M .size) P) u 0) (sym f) ∙ tr .1) in
-          omega (arith, g, final-below M law y (v .0))
+  module _ (t at : ℕ) (out₀ out : List ℕ) (i s : ℕ) (W : Writing t at out₀ out i s) where
+    step-back : 0 < i → Back (W .here)
+    step-back h = ⊎-elim (λ k. absurd (omega (arith, ap steps (k .0), W .left))) (λ b. b) (back (W .here))
 
-  pub record Turn (m : Move) : Type 0 where
-    pub move : MoveOf M m
-    pub next : Writing M P t out₀ (sets out (7 + 10 * i) (stepBytes m s)) (i - 1) (getD P s 0 - 1)
+    -- The state before it is a state.
+    pub writing-parent : 0 < i → getD P s 0 - 1 < M .size
+    writing-parent h = recorded-below (step-back h .before)
 
-  -- The record of the last step left goes to its place.
-  pub writing-next : 0 < i → (m : Move) → m ≡ firstMove M (getD P s 0 - 1) s (moves M) → Turn m
-  unfolding runBytes
-  writing-next h m e = go (W .run) (W .valid) (W .traced) (W .ends) (W .left) (W .same)
-    where
-      go : (r : Run) → Valid M r → Traced M (take (M .size) P) r → final M r ≡ s → steps r ≡ i → sets out 9 (runBytes M r) ≡ sets out₀ 9 (runBytes M (runTo M (take (M .size) P) (M .size) t)) → Turn m
-      go (startsAt u) v tr f l x = absurd (omega arith)
-      go (goesOn y k) v tr f l x =
-          let g : getD P s 0 - 1 ≡ final M y = omega (arith, sym writing-at ∙ ap (λ (u : ℕ). getD (take (M .size) P) u 0) (sym f) ∙ tr .1) in
-          let d : m ≡ k = e ∙ ap (λ (u : ℕ). firstMove M u s (moves M)) g ∙ ap (λ (u : ℕ). firstMove M (final M y) u (moves M)) (sym f) ∙ tr .3 in
-          let b : stepBytes m s ≡ stepBytes k (final M (goesOn y k)) = ap (λ (u : Move). stepBytes u s) d ∙ ap (stepBytes k) (sym f) in
-          record {
-            move = subst (MoveOf M) (sym d) (v .1);
-            next =
-                record {
-                  run = y;
-                  valid = v .0;
-                  traced = tr .0;
-                  ends = sym g;
-                  left = omega arith;
-                  short = omega (arith, W .short);
-                  same = ap (λ (u : List ℕ). sets (sets out (7 + 10 * i) u) 9 (runBytes M y)) b
-                      ∙ sets-swap out 9 (runBytes M y) (stepBytes k (final M (goesOn y k))) (7 + 10 * i) (omega (arith, run-length M y)) ∙ x;
-                  kept = length-sets out (7 + 10 * i) (stepBytes m s) ∙ W .kept;
-                  room = subst (λ (u : ℕ). 17 + 10 * (i - 1) ≤ u) (sym (length-sets out (7 + 10 * i) (stepBytes m s))) (omega (arith, W .room));
-                };
-          }
+    pub record Turn (m : Move) : Type 0 where
+      pub move : MoveOf M m
+      pub next : Writing t at out₀ (sets out (at + 8 + 10 * (i - 1)) (stepBytes (stepOf m s))) (i - 1) (getD P s 0 - 1)
 
-  pub writing-end : i ≤ 0 → sets out 9 (startBytes s) ≡ sets out₀ 9 (runBytes M (runTo M (take (M .size) P) (M .size) t))
-  unfolding runBytes
-  writing-end h = go (W .run) (W .ends) (W .left) (W .same)
-    where
-      go : (r : Run) → final M r ≡ s → steps r ≡ i → sets out 9 (runBytes M r) ≡ sets out₀ 9 (runBytes M (runTo M (take (M .size) P) (M .size) t))
-          → sets out 9 (startBytes s) ≡ sets out₀ 9 (runBytes M (runTo M (take (M .size) P) (M .size) t))
-      go (startsAt u) f l x = rw f at x
-      go (goesOn y k) f l x = absurd (omega arith)
+    -- The record of the last step left goes to its place.
+    pub writing-next : 0 < i → (m : Move) → m ≡ firstMove M (getD P s 0 - 1) s (moves M) → Turn m
+    writing-next h m e =
+        let b = step-back h in
+        let y = b .before .run in
+        let d : b .move ≡ m = sym (e ∙ b .first) in
+        let w : W .here .run ≡ goesOn y m = b .whole ∙ ap (goesOn y) d in
+        let f : final M (goesOn y m) ≡ s = ap (final M) (sym w) ∙ W .here .ends in
+        let place = at + 8 + 10 * (i - 1) in
+        let l : steps y ≡ i - 1 = omega (arith, ap steps w, W .left) in
+        record {
+          move = subst (MoveOf M) d (b .moved);
+          next =
+              record {
+                here = b .before;
+                left = l;
+                short = omega (arith, W .short);
+                same = sets-swap out at (runBytes M y) (stepBytes (stepOf m s)) place (omega (arith, run-length M y))
+                    ∙ ap (λ (n : ℕ). sets out at (runBytes M y ++ stepBytes (stepOf m n))) (sym f)
+                    ∙ ap (sets out at) (sym (run-snoc M y m))
+                    ∙ ap (λ (r : Run). sets out at (runBytes M r)) (sym w)
+                    ∙ W .same;
+                kept = length-sets out place (stepBytes (stepOf m s)) ∙ W .kept;
+                room = omega (arith, W .room, length-sets out place (stepBytes (stepOf m s)));
+              };
+        }
+
+    pub writing-end : i ≤ 0 → sets out at (startBytes s) ≡ sets out₀ at (runBytes M (runTo M (take (M .size) P) (M .size) t))
+    unfolding runBytes stepsOf stepsBytes
+    writing-end h =
+        ⊎-elim
+        (λ k. ap (sets out at) (sym (append-nil (startBytes s))) ∙ ap (λ (r : Run). sets out at (runBytes M r)) (sym (k .0)) ∙ W .same)
+        (λ b. absurd (omega (arith, ap steps (b .whole), W .left)))
+        (back (W .here))

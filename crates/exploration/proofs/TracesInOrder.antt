@@ -3,28 +3,20 @@
 use mathlib.Core.Path.{_≡_, refl, sym, ap, _∙_, subst}
 use mathlib.Core.Logic.{inl, inr}
 use mathlib.Core.List.{List, [], _∷_, _++_}
-use Prim.Native.Nat.{ℕ, suc, _+_}
+use Prim.Native.Nat.{ℕ, _+_}
 use native.Mathlib.Omega.{arith}
-use lib.ListN.{length, length-append}
+use lib.ListN.{length}
 use Rattle.meaning.specs.OneRow.{TraceStep}
 use Rattle.exploration.specs.Order.{StepsBefore, RunBefore}
 use Rattle.exploration.specs.working.Transitions.{Transitions, Move, moveOf}
-use Rattle.exploration.specs.working.Runs.{Run, startsAt, goesOn, Before, steps, startOf}
-use Rattle.exploration.specs.working.Found.{stepsOf}
+use Rattle.exploration.specs.working.Runs.{Run, startsAt, goesOn, Before, steps, startOf, stepsOf}
 use Rattle.exploration.proofs.Order.{shorter}
+use Rattle.exploration.proofs.TraceSteps.{steps-count}
 use Rattle.exploration.proofs.RunsOfModels.{onBy}
 
 -- A step without the state after it.
 abbrev moveIn : TraceStep → Move
 moveIn x = moveOf (x .command) (x .word)
-
-pub steps-count : (T : Transitions) (r : Run) → length (stepsOf T r) ≡ steps r
-unfolding stepsOf
-steps-count T (startsAt s) = refl
-steps-count T (goesOn r k) = length-append (stepsOf T r) (_ ∷ []) ∙ sum _ _ (steps-count T r)
-  where
-    sum : (a b : ℕ) → a ≡ b → a + 1 ≡ suc b
-    sum a b e = omega arith
 
 on-length : (r : Run) (xs : List TraceStep) → steps (onBy r xs) ≡ steps r + length xs
 unfolding onBy

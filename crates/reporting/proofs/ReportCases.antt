@@ -18,10 +18,10 @@ use Rattle.meaning.specs.OneRow.{stateNumber, spread, spreadWord, starts, break
 use Rattle.acceptance.specs.Sheets.{mapLength}
 use Rattle.exploration.specs.working.Transitions.{wordsFrom, movesFrom}
 use Rattle.exploration.specs.working.Exploring.{tryMoves, explore, takeIn, search}
-use Rattle.exploration.specs.working.Runs.{firstMove, runTo}
+use Rattle.exploration.specs.working.Runs.{firstMove, runTo, stepsOf}
 use Rattle.exploration.specs.working.Results as W
 use Rattle.exploration.specs.working.Written.{bitAt, mapFrom}
-use Rattle.exploration.specs.working.Found.{stepsOf, verdictFor, foundIn}
+use Rattle.exploration.specs.working.Found.{verdictFor, foundIn}
 use Rattle.lines.specs.Lines.{digitsUpTo, others, line}
 use Rattle.reporting.specs.Reports.{stepLines, commandName, verdictLines, reportLines}
 use Rattle.reporting.specs.Cases.{written, cases, AllCases}

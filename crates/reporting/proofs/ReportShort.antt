@@ -19,7 +19,6 @@ use Rattle.meaning.specs.Evidence.{StepFits}
 use Rattle.meaning.proofs.Lists.{weaken}
 use Rattle.acceptance.specs.Sheets.{systemOf}
 use Rattle.exploration.specs.Findings.{Verdict, safeBy, unsafeBy}
-use Rattle.exploration.proofs.FoundShort.{trace-sheet-length}
 use Rattle.search.proofs.SheetBytes.{word-lt}
 use Rattle.io.specs.Counts.{Counts}
 use Rattle.lines.specs.Lines.{decimalOf, line}
@@ -32,7 +31,7 @@ use Rattle.reporting.specs.Promises.{ReportsFit}
 use Rattle.reporting.specs.working.Reporting.{foundFor, reportOf}
 use Rattle.reporting.proofs.NameArrays.{told}
 use Rattle.reporting.proofs.ReportTells.{found-lines, refused-lines}
-use Rattle.reporting.proofs.TextReports.{regular, few, passes, sheet-short}
+use Rattle.reporting.proofs.TextReports.{sheet-length, regular, few, passes, sheet-short}
 
 -- How long lines of one, two, four and five words are.
 module _ (a : List ℕ) where
@@ -118,7 +117,7 @@ module _ (text : List ℕ) (x : Tree) (says : TextSaysTree text x) where
   found-short (unsafeBy s xs) e =
       let g = regular text x says in
       let p = passes text x says s xs e in
-      let n : length xs ≤ 4095 = omega (arith, sheet-short text x says s xs e, trace-sheet-length (systemOf (modelOf x)) s xs, few text x says) in
+      let n : length xs ≤ 4095 = omega (arith, sheet-short text x says s xs e, sheet-length (systemOf (modelOf x)) s xs, few text x says) in
       let l = stepLines (commandName x) 1 xs in
       omega (
         arith,

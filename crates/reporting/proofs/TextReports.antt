@@ -25,9 +25,9 @@ use Rattle.acceptance.specs.SheetTexts.{InRange, twoAt}
 use Rattle.acceptance.specs.working.SheetReading.{stepsIn}
 use Rattle.acceptance.proofs.SheetWritten.{two-little, steps-there}
 use Rattle.exploration.specs.Findings.{Verdict, safeBy, unsafeBy, evidenceOf, Finds}
-use Rattle.exploration.specs.working.Found.{transitionsOf}
-use Rattle.exploration.proofs.FindsRight.{own, finds}
-use Rattle.exploration.proofs.FoundShort.{found-short, trace-sheet-length}
+use Rattle.exploration.proofs.FindsRight.{finds}
+use Rattle.exploration.proofs.FoundShort.{trace-sheet-length}
+use Rattle.search.proofs.SearchTells as Left
 use Rattle.reporting.specs.Reports.{countsLine, unsafeLine, startLine, stepLine, stepLines, commandName, verdictLines, reportLines}
 use Rattle.reporting.specs.working.Reporting.{foundFor, reportOf}
 use Rattle.reporting.specs.working.Writing.{nameIn, Named, stepsOf, traceSteps, safeReport, traceReport, Printable}
@@ -40,8 +40,12 @@ module _ (M : System) (s : ℕ) (xs : List TraceStep) where
   unfolding sheetBytes headerBytes startBytes recordBytes little twoAt
   start-read h = two-little s h
 
+  pub sheet-length : length (sheetBytes M (trace s xs)) ≡ 17 + 10 * length xs
+  unfolding headerBytes recordBytes little
+  sheet-length = trace-sheet-length M s xs
+
   count-read : stepsOf (sheetBytes M (trace s xs)) ≡ length xs
-  count-read = omega (arith, trace-sheet-length M s xs)
+  count-read = omega (arith, sheet-length)
 
   head-long : length (headerBytes M ++ startBytes s) ≡ 17
   unfolding headerBytes startBytes recordBytes little
@@ -108,13 +112,13 @@ module _ (text : List ℕ) (x : Tree) (says : TextSaysTree text x) where
         weaken (StepFits m) (InRange (systemOf m)) (λ y k. record { command = k .command; word = k .word; after = k .after }) xs (passes .stepsFit)
 
     pub sheet-short : length sheet ≤ 7 + 10 * stateCount m
-    sheet-short = subst (λ y. length (sheetBytes (systemOf m) (evidenceOf y)) ≤ 7 + 10 * stateCount m) e (found-short (systemOf m) (transitionsOf (systemOf m)) m (own m))
+    sheet-short = subst (λ y. length (sheetBytes (systemOf m) (evidenceOf y)) ≤ 7 + 10 * stateCount m) e (Left.sheet-short m)
 
     shown : Printable text code sheet
     unfolding codeOf layoutOf
     shown =
         record {
-          long = omega (arith, trace-sheet-length (systemOf m) s xs);
+          long = omega (arith, sheet-length (systemOf m) s xs);
           few = omega (arith, regular .fewNames);
           named =
               subst (Every (λ (y : TraceStep). Named text (nameArray (namesOf x)) (m .sharedNames + m .rowNames + y .command)))

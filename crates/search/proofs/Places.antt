@@ -11,9 +11,7 @@ use Rattle.exploration.specs.Findings.{Verdict, safeBy, unsafeBy, evidenceOf}
 use Rattle.exploration.specs.working.Found.{foundIn, transitionsOf}
 use Rattle.search.specs.Left.{Left}
 use Rattle.search.specs.working.Searching.{verdictOf}
-use Rattle.search.proofs.SearchTells.{whatever-left}
-use Rattle.exploration.proofs.FindsRight.{own}
-use Rattle.exploration.proofs.FoundShort.{found-short}
+use Rattle.search.proofs.SearchTells.{sheet-short, whatever-left}
 use Rattle.search.proofs.SheetsPass.{few}
 
 verdict-bounded : (x : Verdict) (n : ℕ) → n ≤ 7 + 10 * 4096 → Bounded (wordingOf (verdictOf x n))
@@ -29,4 +27,4 @@ answers-bounded text first second sheet =
     (λ m says h. (omega arith, omega arith, omega arith))
     (λ m says r.
     let M = transitionsOf (systemOf m) in
-    verdict-bounded (foundIn M) (length (sheetBytes (systemOf m) (evidenceOf (foundIn M)))) (omega (arith, found-short (systemOf m) M m (own m), few text m says)))
+    verdict-bounded (foundIn M) (length (sheetBytes (systemOf m) (evidenceOf (foundIn M)))) (omega (arith, sheet-short m, few text m says)))

@@ -26,10 +26,10 @@ use Rattle.search.specs.Answers.{wordingOf}
 use Rattle.search.specs.Cases.{cases, AllCases}
 use Rattle.exploration.specs.working.Transitions.{wordsFrom, movesFrom}
 use Rattle.exploration.specs.working.Exploring.{tryMoves, explore, takeIn, search}
-use Rattle.exploration.specs.working.Runs.{firstMove, runTo}
+use Rattle.exploration.specs.working.Runs.{firstMove, runTo, stepsOf}
 use Rattle.exploration.specs.working.Results as W
 use Rattle.exploration.specs.working.Written.{bitAt, mapFrom}
-use Rattle.exploration.specs.working.Found.{stepsOf, verdictFor, foundIn}
+use Rattle.exploration.specs.working.Found.{verdictFor, foundIn}
 use Rattle.search.specs.working.Searching as S
 
 pub all-cases : AllCases

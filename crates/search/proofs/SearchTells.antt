@@ -19,7 +19,7 @@ use Rattle.notation.proofs.Regular.{all-regular}
 use Rattle.meaning.specs.Meaning.{Safe, Unsafe}
 use Rattle.meaning.specs.OneRow.{One, stateCount}
 use Rattle.notation.proofs.Booleans.{and-split, and-join}
-use Rattle.acceptance.specs.Sheets.{systemOf, sheetBytes}
+use Rattle.acceptance.specs.Sheets.{systemOf, little, recordBytes, headerBytes, sheetBytes}
 use Rattle.exploration.specs.Findings.{Verdict, safeBy, unsafeBy, evidenceOf, Finds}
 use Rattle.search.specs.Answers.{Wording, verdict, returned, wordingOf}
 use Rattle.search.specs.Left.{Left}
@@ -67,6 +67,11 @@ not-verdict n p k = (
   λ e. let z : _≡_ {A = ℕ} 0 117 = ap initial e in omega arith,
 )
 
+-- What is found has its place in a buffer with room.
+pub sheet-short : (m : Model) → length (sheetBytes (systemOf m) (evidenceOf (foundIn (transitionsOf (systemOf m))))) ≤ 7 + 10 * stateCount m
+unfolding headerBytes recordBytes little
+sheet-short m = omega (arith, found-short (systemOf m) (transitionsOf (systemOf m)) m (own m))
+
 module _ (m : Model) where
   said-safe : (x : Verdict) → Finds m x → (n : ℕ) → (wordingOf (verdictOf x n) ≡ verdict "safe" n) ↔ Safe m One
   unfolding verdictOf wordingOf
@@ -93,9 +98,6 @@ module _ (m : Model) where
           secondCleared = refl;
         }
 
-    found-fits : Room m first second sheet → length (sheetBytes (systemOf m) (evidenceOf (foundIn (transitionsOf (systemOf m))))) ≤ length sheet
-    found-fits r = le-trans (found-short (systemOf m) (transitionsOf (systemOf m)) m (own m)) (r .2)
-
     -- With room, and without.
     pub with-room : Room m first second sheet
         → searchFor (systemOf m) first second sheet ≡ leftWith (systemOf m) (foundIn (transitionsOf (systemOf m))) first second sheet
@@ -116,7 +118,7 @@ search-tells text m says first second sheet =
       roomThere = λ r.
           subst (SearchDone m first second sheet)
           (sym (said text m says first second sheet ∙ with-room m first second sheet r))
-          (left-with m first second sheet (foundIn (transitionsOf (systemOf m))) (finds m (all-regular text m says)) (found-fits m first second sheet r));
+          (left-with m first second sheet (foundIn (transitionsOf (systemOf m))) (finds m (all-regular text m says)) (le-trans (sheet-short m) (r .2)));
       roomMissing = λ h.
           subst (SearchRefused 8 0 first second sheet) (sym (said text m says first second sheet ∙ without-room m first second sheet h)) (left-alone 8 0 first second sheet);
     }

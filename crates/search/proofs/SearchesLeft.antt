@@ -2,7 +2,7 @@
 -- Assumes nothing.
 use mathlib.Core.Path.{_≡_, refl, sym, ap, _∙_, subst}
 use mathlib.Core.Bool.{Bool, true, false, cond, _&&_}
-use mathlib.Core.List.{List, _++_, map}
+use mathlib.Core.List.{List, [], _∷_, _++_, map}
 use Prim.Native.Nat.{ℕ, _+_, _-_, _*_, _^_, _<_, _≤_}
 use native.Mathlib.Omega.{arith}
 use lib.Dec.{leb, ltb}
@@ -12,22 +12,24 @@ use lib.Seq.{sets, length-sets}
 use borrow.Author.Tests.{le-leb, lt-leb}
 use Rattle.evaluation.proofs.Powers.{pow-small}
 use Rattle.evaluation.specs.working.CodeSystem.{Parted}
-use Rattle.acceptance.specs.Sheets.{System, size, mapLength}
+use Rattle.acceptance.specs.Sheets.{System, size, little, recordBytes, headerBytes, mapLength}
 use Rattle.acceptance.specs.working.Shapes.{Few}
 use Rattle.acceptance.specs.working.Test.{systemIn}
 use Rattle.exploration.specs.working.Transitions.{Transitions, Lawful}
 use Rattle.search.specs.working.CodeTransitions.{transitionsIn}
-use Rattle.exploration.specs.working.Runs.{runTo, steps}
+use Rattle.exploration.specs.working.Runs.{steps}
 use Rattle.exploration.specs.working.Tables.{Ran}
-use Rattle.exploration.specs.working.Written.{headBytes, countBytes, runBytes, mapFrom, RecordedTo}
+use Rattle.exploration.specs.working.Written.{headBytes, runBytes, mapFrom, RecordedTo}
 use Rattle.exploration.specs.working.Found.{foundIn, transitionsOf}
 use Rattle.search.specs.Left.{Left}
 use Rattle.search.specs.working.Searching.{roomy, leftWith, leftAlone, Ends, searchFor}
 use Rattle.search.specs.declared.finding.Finding.{Finding}
 use Rattle.search.specs.declared.finding.Finding.the-variants.{Safe, Unsafe, Refused}
 use Rattle.search.proofs.CodeSteps.{code-lawful}
-use Rattle.exploration.proofs.Whole.{ran-some, ran-recorded, answered-unsafe, answered-safe}
-use Rattle.search.proofs.SheetsFound.{left-unsafe, left-safe}
+use Rattle.exploration.proofs.Whole.{queue-cleared, parent-cleared, ran-some, ran-recorded, lastRun, ran-unsafe, ran-safe}
+use Rattle.exploration.proofs.TraceSteps.{steps-count}
+use Rattle.exploration.proofs.Map.{map-length}
+use Rattle.search.proofs.SheetsFound.{trace-left, map-left}
 
 -- Room for the header.
 pub header-asked : (shared row commands states n : ℕ) → shared + row ≤ 12 → commands ≤ 16 → states ≡ 2 ^ (shared + row) → 7 + 10 * states ≤ n
@@ -41,87 +43,80 @@ pub length-small : (k states n : ℕ) → k ≤ 12 → states ≡ 2 ^ k → n �
 unfolding mapLength
 length-small k states n h e f = let a = pow-small k states h e in omega arith
 
--- Room for a map of n bytes in a buffer that has room for every sheet.
-module _ (shared row commands states n : ℕ) (few : shared + row ≤ 12) (e : states ≡ 2 ^ (shared + row)) (f : n ≡ mapLength states)
-    (o₀ o₁ : List ℕ) (room : 7 + 10 * states ≤ length o₀) (h : o₁ ≡ sets o₀ 0 (countBytes shared row commands))
-  where
-    header-kept : length o₁ ≡ length o₀
-    header-kept = ap length h ∙ length-sets o₀ 0 (countBytes shared row commands)
-
-    some-state : 0 < states
-    some-state = rw e (pow-pos (shared + row))
-
-    map-room : (15 + n ≤ length o₁) × (n ≤ 512)
-    unfolding mapLength
-    map-room =
-        let a = pow-small (shared + row) states few e in
-        let b = header-kept in
-        let d = some-state in
-        (omega arith, omega arith)
-
-    pub head-asked : (9 + 6 ≤ length o₁) × (n < 65536)
-    head-asked = let r = map-room in (omega arith, omega arith)
-
-    pub map-asked : (m : ℕ) → states ≤ m → (o₂ : List ℕ) → o₂ ≡ sets o₁ 9 (headBytes n 2) → (states ≤ m) × (n ≤ 512) × (15 + n ≤ length o₂)
-    map-asked m s o₂ g =
-        let r = map-room in
-        (s, r .1, subst (λ (l : ℕ). 15 + n ≤ l) (sym (ap length g ∙ length-sets o₁ 9 (headBytes n 2))) (r .0))
-
--- Over what the search left in the tables.
+-- Over what the search left in the tables, in a buffer that has room for every sheet and its header.
 module _ (shared row commands : ℕ) (ops ends stars : List ℕ) (states : ℕ) (few : shared + row ≤ 12) (e : states ≡ 2 ^ (shared + row))
-    {q₀ p₀ q p : List ℕ} {n : ℕ} {b : Bool} (R : Ran (transitionsIn (shared + row) commands ops ends stars) q₀ p₀ q n p b)
+    (o₀ : List ℕ) (room : 7 + 10 * states ≤ length o₀)
   where
     abbrev T : Transitions
     T = transitionsIn (shared + row) commands ops ends stars
 
-    law : Lawful T
+    abbrev law : Lawful T
     law = code-lawful (shared + row) commands ops ends stars
 
     abbrev M : System
     M = systemIn shared row commands ops ends stars
 
-    small : size M ≤ 4096
-    small = pow-small (shared + row) (2 ^ (shared + row)) few refl
+    module _ {o₁ : List ℕ} (h : o₁ ≡ sets o₀ 0 (recordBytes 1 (shared ∷ row ∷ commands ∷ []))) where
+      header : o₁ ≡ sets o₀ 0 (headerBytes M)
+      unfolding headerBytes
+      header = h
 
-    pub second-room : states ≤ length p
-    second-room = rw e (R .kept .ready .parent-room)
+      header-kept : length o₁ ≡ length o₀
+      header-kept = ap length h ∙ length-sets o₀ 0 (recordBytes 1 (shared ∷ row ∷ commands ∷ []))
 
-    pub last-some : b ≡ true → 1 ≤ n
-    last-some f = ran-some law R f
+      -- Room for a map of n bytes.
+      module _ (n : ℕ) (f : n ≡ mapLength states) where
+        map-room : 9 + 6 + n ≤ length o₁
+        unfolding mapLength
+        map-room =
+            let s : 0 < states = rw e (pow-pos (shared + row)) in
+            let k = header-kept in
+            omega arith
 
-    pub last-within : b ≡ true → n - 1 < length q
-    last-within f = let a = last-some f in let d = R .kept .few in let g = R .kept .ready .queue-room in omega arith
+        pub head-asked : 9 + 6 ≤ length o₁
+        head-asked = omega (arith, map-room)
 
-    pub trace-asked : b ≡ true → Few commands stars → Parted commands ends → (o₀ o₁ : List ℕ) → 7 + 10 * states ≤ length o₀ → o₁ ≡ sets o₀ 0 (countBytes shared row commands)
-        → (shared + row ≤ 12) × Few commands stars × Parted commands ends × (2 ^ (shared + row) ≤ length p)
-        × RecordedTo T (take (2 ^ (shared + row)) p) (getD q (n - 1) 0) × (7 + 10 * 2 ^ (shared + row) ≤ length o₁)
-    trace-asked f F P o₀ o₁ r h =
-        let k : length o₁ ≡ length o₀ = ap length h ∙ length-sets o₀ 0 (countBytes shared row commands) in
-        (few, F, P, R .kept .ready .parent-room, ran-recorded law R f, subst (λ (l : ℕ). 7 + 10 * l ≤ length o₁) e (omega arith))
+        pub map-asked : (m : ℕ) → states ≤ m → (o₂ : List ℕ) → o₂ ≡ sets o₁ 9 (headBytes n 2) → (states ≤ m) × (n ≤ 512) × (9 + 6 + n ≤ length o₂)
+        map-asked m s o₂ g =
+            (s, length-small (shared + row) states n few e f, omega (arith, map-room, ap length g, length-sets o₁ 9 (headBytes n 2)))
 
-    sized : (l l₁ : List ℕ) → l₁ ≡ replicate states 0 ++ drop states l → l₁ ≡ replicate (2 ^ (shared + row)) 0 ++ drop (2 ^ (shared + row)) l
-    sized l l₁ h = subst (λ (k : ℕ). l₁ ≡ replicate k 0 ++ drop k l) e h
+      module _ {q₀ p₀ q p : List ℕ} {n : ℕ} {b : Bool} (R : Ran T q₀ p₀ q n p b) where
+        pub second-room : states ≤ length p
+        second-room = rw e (R .kept .ready .parent-room)
 
-    module _ (o₀ : List ℕ) {o₁ : List ℕ} (h : o₁ ≡ sets o₀ 0 (countBytes shared row commands)) {q₁ p₁ : List ℕ} (eq : q₁ ≡ replicate states 0 ++ drop states q)
-        (ep : p₁ ≡ replicate states 0 ++ drop states p) where
-      pub unsafe-left : b ≡ true → {o : List ℕ} {len : ℕ}
-          → (o ≡ sets o₁ 9 (runBytes T (runTo T (take (2 ^ (shared + row)) p) (2 ^ (shared + row)) (getD q (n - 1) 0))))
-          × (len ≡ 17 + 10 * steps (runTo T (take (2 ^ (shared + row)) p) (2 ^ (shared + row)) (getD q (n - 1) 0)))
-          → Ends (leftWith M (foundIn (transitionsOf M)) q₀ p₀ o₀) (Unsafe len) q₁ p₁ o
-      unsafe-left f w = left-unsafe M law small o₀ h (answered-unsafe law R f (w .0) refl (w .1) (sized q q₁ eq) (sized p p₁ ep)) f
+        pub last-some : b ≡ true → 1 ≤ n
+        last-some f = ran-some law R f
 
-      pub safe-left : b ≡ false → {k : ℕ} → k ≡ mapLength states → {o₂ o : List ℕ}
-          → o₂ ≡ sets o₁ 9 (headBytes k 2) → o ≡ sets o₂ 15 (mapFrom (map (ltb 0) (take states p)) 0 k) → Ends (leftWith M (foundIn (transitionsOf M)) q₀ p₀ o₀) (Safe (15 + k)) q₁ p₁ o
-      safe-left f {k} g {o₂} {o} x y =
-          let d : k ≡ mapLength (2 ^ (shared + row)) = g ∙ ap mapLength e in
-          left-safe M law small o₀ h
-          (answered-safe law R f {o₁ = o₂}
-          (subst (λ (u : ℕ). o₂ ≡ sets o₁ 9 (headBytes u 2)) d x)
-          (subst (λ (u : ℕ). o ≡ sets o₂ 15 (mapFrom (map (ltb 0) (take (2 ^ (shared + row)) p)) 0 u)) d (subst (λ (u : ℕ). o ≡ sets o₂ 15 (mapFrom (map (ltb 0) (take u p)) 0 k)) e y))
-          (ap (λ (u : ℕ). 15 + u) d)
-          (sized q q₁ eq)
-          (sized p p₁ ep))
-          f
+        pub last-within : b ≡ true → n - 1 < length q
+        last-within f = let a = last-some f in let d = R .kept .few in let g = R .kept .ready .queue-room in omega arith
+
+        pub trace-asked : b ≡ true → Few commands stars → Parted commands ends
+            → (shared + row ≤ 12) × Few commands stars × Parted commands ends × (2 ^ (shared + row) ≤ length p)
+            × RecordedTo T (take (2 ^ (shared + row)) p) (getD q (n - 1) 0) × (9 + 10 * 2 ^ (shared + row) ≤ length o₁ + 2)
+        trace-asked f F P = (few, F, P, R .kept .ready .parent-room, ran-recorded law R f, omega (arith, room, e, header-kept))
+
+        sized : (l l₁ : List ℕ) → l₁ ≡ replicate states 0 ++ drop states l → l₁ ≡ replicate (2 ^ (shared + row)) 0 ++ drop (2 ^ (shared + row)) l
+        sized l l₁ h = subst (λ (k : ℕ). l₁ ≡ replicate k 0 ++ drop k l) e h
+
+        module _ {q₁ p₁ : List ℕ} (eq : q₁ ≡ replicate states 0 ++ drop states q) (ep : p₁ ≡ replicate states 0 ++ drop states p) where
+          pub unsafe-left : (f : b ≡ true) → {o : List ℕ} {len : ℕ} → (o ≡ sets o₁ 9 (runBytes T (lastRun law R f))) × (len ≡ 9 + 8 + 10 * steps (lastRun law R f))
+              → Ends (leftWith M (foundIn (transitionsOf M)) q₀ p₀ o₀) (Unsafe len) q₁ p₁ o
+          unfolding headerBytes recordBytes little runBytes
+          unsafe-left f w =
+              trace-left M o₀ header q₀ p₀ (queue-cleared law R (sized q q₁ eq)) (parent-cleared law R (sized p p₁ ep)) (ran-unsafe law R f) (w .0)
+              (w .1 ∙ ap (λ (k : ℕ). 9 + 8 + 10 * k) (sym (steps-count T (lastRun law R f))))
+
+          pub safe-left : b ≡ false → {k : ℕ} → k ≡ mapLength states → {o₂ o : List ℕ}
+              → o₂ ≡ sets o₁ 9 (headBytes k 2) → o ≡ sets o₂ (9 + 6) (mapFrom (map (ltb 0) (take states p)) 0 k) → Ends (leftWith M (foundIn (transitionsOf M)) q₀ p₀ o₀) (Safe (9 + 6 + k)) q₁ p₁ o
+          unfolding headerBytes recordBytes little
+          safe-left f {k} g {o₂} {o} x y =
+              let d : k ≡ mapLength (2 ^ (shared + row)) = g ∙ ap mapLength e in
+              map-left M o₀ header q₀ p₀ (queue-cleared law R (sized q q₁ eq)) (parent-cleared law R (sized p p₁ ep)) (ran-safe law R f)
+              (d ∙ sym (map-length (map (ltb 0) (take (2 ^ (shared + row)) p)) 0 (mapLength (2 ^ (shared + row)))))
+              x
+              (y
+              ∙ ap (λ (u : ℕ). sets o₂ (9 + 6) (mapFrom (map (ltb 0) (take u p)) 0 k)) e
+              ∙ ap (λ (u : ℕ). sets o₂ (9 + 6) (mapFrom (map (ltb 0) (take (2 ^ (shared + row)) p)) 0 u)) d)
 
 -- Whether there is room.
 module _ (M : System) (states : ℕ) (e : states ≡ size M) (q p o : List ℕ) where

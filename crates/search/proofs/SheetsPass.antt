@@ -30,9 +30,8 @@ use Rattle.exploration.specs.working.Runs.{goesOn}
 use Rattle.exploration.specs.working.Found.{foundIn, transitionsOf}
 use Rattle.search.specs.working.Searching.{verdictOf, leftWith, leftAlone}
 use Rattle.exploration.proofs.RunsOfModels.{run-told, run-reaches, reaches-run}
-use Rattle.search.proofs.SearchTells.{not-safe, not-verdict, whatever-left}
+use Rattle.search.proofs.SearchTells.{sheet-short, not-safe, not-verdict, whatever-left}
 use Rattle.exploration.proofs.FindsRight.{own, finds}
-use Rattle.exploration.proofs.FoundShort.{found-short}
 use Rattle.search.proofs.SheetBytes.{map-sheet-bytes, trace-sheet-bytes}
 
 -- The map of exactly the states that runs reach passes where no run goes wrong.
@@ -123,4 +122,4 @@ sheets-pass text first second sheet =
     (λ m says h. refused-passes text 8 0 first second sheet)
     (λ m says r.
     let M = transitionsOf (systemOf m) in
-    front-passes text m says first second sheet (r .2) (foundIn M) (finds m (all-regular text m says)) (found-short (systemOf m) M m (own m)))
+    front-passes text m says first second sheet (r .2) (foundIn M) (finds m (all-regular text m says)) (sheet-short m))

@@ -23,6 +23,7 @@ use finding::Finding;
 use maps::write_map;
 use reader::Answer;
 use reader::read_into;
+use records::HEADER;
 use records::put_head;
 use records::put_header;
 use tables::clear;
@@ -49,17 +50,19 @@ fn search_roomy(
     let x = run(ops, ends, stars, commands, bits, states, first, second);
     if x.found {
         let t = first[x.count - 1];
-        let len = write_trace(ops, ends, stars, commands, bits, second, t, sheet);
+        let len = write_trace(ops, ends, stars, commands, bits, second, t, HEADER, sheet);
         clear(first, states);
         clear(second, states);
         return Finding::Unsafe(len);
     }
     let n = map_length(states);
-    put_head(sheet, 9, n, 2);
-    write_map(states, second, n, sheet);
+    put_head(sheet, HEADER, n, 2);
+    let at = HEADER + 6;
+    write_map(states, second, n, at, sheet);
     clear(first, states);
     clear(second, states);
-    Finding::Safe(15 + n)
+    let len = at + n;
+    Finding::Safe(len)
 }
 
 // The search over the flat form of a model. A call whose buffers have no room is refused and leaves them as they are.

@@ -38,12 +38,12 @@ fn map_byte(states: usize, parent: &[u16], i: usize) -> u8
         + 128 * met_bit(states, parent, s + 7)
 }
 
-// Writes the map's n bytes from index 15 on.
-pub fn write_map(states: usize, parent: &[u16], n: usize, out: &mut [u8])
-    requires { do ⌜ (states ≤ (← ⟦parent.len()⟧)) × (n ≤ 512) × (15 + n ≤ (← ⟦out.len()⟧)) ⌝ }
-    ensures { λ _. ⌜ now (out .exit) ≡ sets (now (out .entry)) 15 (mapFrom (map (ltb 0) (take states (now (parent .entry)))) 0 n) ⌝ }
+// Writes the map's n bytes from `at` on.
+pub fn write_map(states: usize, parent: &[u16], n: usize, at: usize, out: &mut [u8])
+    requires { do ⌜ (states ≤ (← ⟦parent.len()⟧)) × (n ≤ 512) × (at + n ≤ (← ⟦out.len()⟧)) ⌝ }
+    ensures { λ _. ⌜ now (out .exit) ≡ sets (now (out .entry)) at (mapFrom (map (ltb 0) (take states (now (parent .entry)))) 0 n) ⌝ }
 {
     for i in 0..n {
-        out[15 + i] = map_byte(states, parent, i);
+        out[at + i] = map_byte(states, parent, i);
     }
 }

@@ -60,7 +60,7 @@ fn first_move(
     }
 }
 
-// Writes the trace of the recorded run to t behind the header, its last step first; how long the sheet is then.
+// Writes the trace of the recorded run to t from `at` on, its last step first; where it ends.
 pub fn write_trace(
     ops: &[u16; 2048],
     ends: &[u16; 20],
@@ -69,16 +69,16 @@ pub fn write_trace(
     bits: usize,
     parent: &[u16],
     t: u16,
+    at: usize,
     out: &mut [u8],
 ) -> usize
-    requires { do ⌜ (bits ≤ 12) × Few commands (now stars) × Parted commands (now ends) × (2 ^ bits ≤ (← ⟦parent.len()⟧)) × RecordedTo (transitionsIn bits commands (now ops) (now ends) (now stars)) (take (2 ^ bits) (now parent)) t × (7 + 10 * 2 ^ bits ≤ (← ⟦out.len()⟧)) ⌝ }
-    ensures { λ r. ⌜ (now (out .exit) ≡ sets (now (out .entry)) 9 (runBytes (transitionsIn bits commands (now (ops .entry)) (now (ends .entry)) (now (stars .entry))) (runTo (transitionsIn bits commands (now (ops .entry)) (now (ends .entry)) (now (stars .entry))) (take (2 ^ bits) (now (parent .entry))) (2 ^ bits) t))) × (r ≡ 17 + 10 * steps (runTo (transitionsIn bits commands (now (ops .entry)) (now (ends .entry)) (now (stars .entry))) (take (2 ^ bits) (now (parent .entry))) (2 ^ bits) t)) ⌝ }
+    requires { do ⌜ (bits ≤ 12) × Few commands (now stars) × Parted commands (now ends) × (2 ^ bits ≤ (← ⟦parent.len()⟧)) × RecordedTo (transitionsIn bits commands (now ops) (now ends) (now stars)) (take (2 ^ bits) (now parent)) t × (at + 10 * 2 ^ bits ≤ (← ⟦out.len()⟧) + 2) ⌝ }
+    ensures { λ r. ⌜ (now (out .exit) ≡ sets (now (out .entry)) at (runBytes (transitionsIn bits commands (now (ops .entry)) (now (ends .entry)) (now (stars .entry))) (runTo (transitionsIn bits commands (now (ops .entry)) (now (ends .entry)) (now (stars .entry))) (take (2 ^ bits) (now (parent .entry))) (2 ^ bits) t))) × (r ≡ at + 8 + 10 * steps (runTo (transitionsIn bits commands (now (ops .entry)) (now (ends .entry)) (now (stars .entry))) (take (2 ^ bits) (now (parent .entry))) (2 ^ bits) t)) ⌝ }
 {
     let mut n: usize = 0;
     let mut s = t;
     'count: loop {
-        let at = s as usize;
-        let p = parent[at] - 1;
+        let p = parent[s as usize] - 1;
         if p == s {
             break 'count;
         }
@@ -88,15 +88,12 @@ pub fn write_trace(
     let mut i = n;
     let mut u = t;
     'write: while 0 < i {
-        let at = u as usize;
-        let p = parent[at] - 1;
-        let x = first_move(ops, ends, stars, commands, bits, p, u);
-        let k = x.command;
-        let w = x.word;
-        put_step(out, 7 + 10 * i, k, w, u);
-        u = p;
         i -= 1;
+        let p = parent[u as usize] - 1;
+        let x = first_move(ops, ends, stars, commands, bits, p, u);
+        put_step(out, at + 8 + 10 * i, x.command, x.word, u);
+        u = p;
     }
-    put_start(out, 9, u);
-    17 + 10 * n
+    put_start(out, at, u);
+    at + 8 + 10 * n
 }

@@ -1,23 +1,17 @@
 -- The verdict that the search finds, the transitions of a system, and when transitions are those of a model's table of one row.
 -- Assumes nothing.
 use mathlib.Core.Path.{_≡_}
-use mathlib.Core.List.{List, [], _∷_, _++_}
 use Prim.Native.Nat.{ℕ, _^_, _<_}
 use lib.ListN.{length}
 use Rattle.notation.specs.Model.{Model}
 use Rattle.meaning.specs.Meaning.{commandAt}
-use Rattle.meaning.specs.OneRow.{stateCount, wordCount, starts, breaks, next, TraceStep}
+use Rattle.meaning.specs.OneRow.{stateCount, wordCount, starts, breaks, next}
 use Rattle.acceptance.specs.Sheets.{System, size, mapLength}
 use Rattle.exploration.specs.Findings.{Verdict, safeBy, unsafeBy}
 use Rattle.exploration.specs.working.Transitions.{Transitions}
-use Rattle.exploration.specs.working.Runs.{Run, startsAt, goesOn, final, startOf}
+use Rattle.exploration.specs.working.Runs.{startOf, stepsOf}
 use Rattle.exploration.specs.working.Results.{Result, firstRun, reached, result}
 use Rattle.exploration.specs.working.Written.{mapFrom}
-
--- The steps of a run, each with the state after it.
-unfoldable pub stepsOf : Transitions → Run → List TraceStep
-stepsOf T (startsAt s) = []
-stepsOf T (goesOn r k) = stepsOf T r ++ (record { command = k .command; word = k .word; after = final T (goesOn r k) } ∷ [])
 
 -- The verdict of a result.
 unfoldable pub verdictFor : Transitions → Result → Verdict

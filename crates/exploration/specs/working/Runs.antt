@@ -3,10 +3,11 @@
 use Prim.Native.Nat.{ℕ, suc, zero, _+_, _-_, _<_}
 use mathlib.Core.Path.{_≡_}
 use mathlib.Core.Bool.{true, false, cond}
-use mathlib.Core.List.{List, [], _∷_}
+use mathlib.Core.List.{List, [], _∷_, _++_}
 use lib.ListN.{getD}
 use lib.Dec.{eqb}
 use mathlib.Core.Logic.{_⊎_}
+use Rattle.meaning.specs.OneRow.{TraceStep}
 use Rattle.exploration.specs.working.Transitions.{Transitions, Move, moves}
 
 pub data Run : Type 0 where
@@ -70,3 +71,12 @@ Traced M p (goesOn y m) =
 abbrev pub startOf : Run → ℕ
 startOf (startsAt s) = s
 startOf (goesOn r m) = startOf r
+
+-- A move with the state after it.
+abbrev pub stepOf : Move → ℕ → TraceStep
+stepOf k t = record { command = k .command; word = k .word; after = t }
+
+-- The steps of a run, each with the state after it.
+unfoldable pub stepsOf : Transitions → Run → List TraceStep
+stepsOf T (startsAt s) = []
+stepsOf T (goesOn r k) = stepsOf T r ++ (stepOf k (final T (goesOn r k)) ∷ [])

@@ -22,8 +22,9 @@ run-requires c κs = search needs
 sub-t : tie.Need-sub-t
 sub-t c =
     let after-run : tie.After-run = search in
+    let after-put-header : tie.After-put-header = search in
     let start : tie.Start = search in
-    last-some _ _ _ _ _ _ _ (start .pre .0) (start .pre .3) (after-run .run .ensures) (c .before .if1 .taken)
+    last-some _ _ _ _ _ _ _ (start .pre .0) (start .pre .3) _ (start .pre .6) (after-put-header .put-header .ensures) (after-run .run .ensures) (c .before .if1 .taken)
 
 mul-t : tie.Need-mul-t
 mul-t c = search needs
@@ -32,8 +33,9 @@ slice-read-t : tie.Need-slice-read-t
 slice-read-t c =
     let then1 : tie.Then1 = search in
     let after-run : tie.After-run = search in
+    let after-put-header : tie.After-put-header = search in
     let start : tie.Start = search in
-    last-within _ _ _ _ _ _ _ (start .pre .0) (start .pre .3) (after-run .run .ensures) (then1 .if1 .taken)
+    last-within _ _ _ _ _ _ _ (start .pre .0) (start .pre .3) _ (start .pre .6) (after-put-header .put-header .ensures) (after-run .run .ensures) (then1 .if1 .taken)
 
 write-trace-requires : tie.Need-write-trace-requires
 write-trace-requires c κs =
@@ -41,8 +43,8 @@ write-trace-requires c κs =
     let after-run : tie.After-run = search in
     let after-put-header : tie.After-put-header = search in
     let start : tie.Start = search in
-    trace-asked _ _ _ _ _ _ _ (start .pre .0) (start .pre .3) (after-run .run .ensures) (then1 .if1 .taken)
-    (start .pre .1) (start .pre .2) (start .args .sheet .now) _ (start .pre .6) (after-put-header .put-header .ensures)
+    trace-asked _ _ _ _ _ _ _ (start .pre .0) (start .pre .3) _ (start .pre .6) (after-put-header .put-header .ensures) (after-run .run .ensures) (then1 .if1 .taken)
+    (start .pre .1) (start .pre .2)
 
 clear-requires : tie.Need-clear-requires
 clear-requires c κs = search needs
@@ -51,8 +53,9 @@ clear-requires-2 : tie.Need-clear-requires-2
 clear-requires-2 c κs =
     let then1 : tie.Then1 = search in
     let after-run : tie.After-run = search in
+    let after-put-header : tie.After-put-header = search in
     let start : tie.Start = search in
-    second-room _ _ _ _ _ _ _ (start .pre .0) (start .pre .3) (after-run .run .ensures)
+    second-room _ _ _ _ _ _ _ (start .pre .0) (start .pre .3) _ (start .pre .6) (after-put-header .put-header .ensures) (after-run .run .ensures)
 
 same-length : tie.Need-same-length
 same-length c = search needs
@@ -72,8 +75,8 @@ returns c =
     let after-run : tie.After-run = search in
     let after-put-header : tie.After-put-header = search in
     let start : tie.Start = search in
-    unsafe-left _ _ _ _ _ _ _ (start .pre .0) (start .pre .3) (after-run .run .ensures) (start .args .sheet .now)
-    (after-put-header .put-header .ensures) (after-clear .clear .ensures) (after-clear2 .clear2 .ensures)
+    unsafe-left _ _ _ _ _ _ _ (start .pre .0) (start .pre .3) (start .args .sheet .now) (start .pre .6)
+    (after-put-header .put-header .ensures) (after-run .run .ensures) (after-clear .clear .ensures) (after-clear2 .clear2 .ensures)
     (then1 .if1 .taken) (after-write-trace .write-trace .ensures)
 
 map-length-requires : tie.Need-map-length-requires
@@ -83,8 +86,11 @@ put-head-requires : tie.Need-put-head-requires
 put-head-requires c κs =
     let after-put-header : tie.After-put-header = search in
     let start : tie.Start = search in
-    head-asked _ _ _ _ _ (start .pre .0) (start .pre .3) (c .before .map-length .ensures) (start .args .sheet .now) _
-    (start .pre .6) (after-put-header .put-header .ensures)
+    head-asked _ _ _ (start .args .ops .now) (start .args .ends .now) (start .args .stars .now) _ (start .pre .0) (start .pre .3) _ (start .pre .6)
+    (after-put-header .put-header .ensures) _ (c .before .map-length .ensures)
+
+add-at : tie.Need-add-at
+add-at c = search needs
 
 write-map-requires : tie.Need-write-map-requires
 write-map-requires c κs =
@@ -93,9 +99,9 @@ write-map-requires c κs =
     let after-run : tie.After-run = search in
     let after-put-header : tie.After-put-header = search in
     let start : tie.Start = search in
-    map-asked _ _ _ _ _ (start .pre .0) (start .pre .3) (after-map-length .map-length .ensures)
-    (start .args .sheet .now) _ (start .pre .6) (after-put-header .put-header .ensures) _
-    (second-room _ _ _ _ _ _ _ (start .pre .0) (start .pre .3) (after-run .run .ensures)) _
+    map-asked _ _ _ (start .args .ops .now) (start .args .ends .now) (start .args .stars .now) _ (start .pre .0) (start .pre .3) _ (start .pre .6)
+    (after-put-header .put-header .ensures) _ (after-map-length .map-length .ensures) _
+    (second-room _ _ _ _ _ _ _ (start .pre .0) (start .pre .3) _ (start .pre .6) (after-put-header .put-header .ensures) (after-run .run .ensures)) _
     (after-put-head .put-head .ensures)
 
 clear-requires-3 : tie.Need-clear-requires-3
@@ -105,11 +111,12 @@ clear-requires-4 : tie.Need-clear-requires-4
 clear-requires-4 c κs =
     let after-put-head : tie.After-put-head = search in
     let after-run : tie.After-run = search in
+    let after-put-header : tie.After-put-header = search in
     let start : tie.Start = search in
-    second-room _ _ _ _ _ _ _ (start .pre .0) (start .pre .3) (after-run .run .ensures)
+    second-room _ _ _ _ _ _ _ (start .pre .0) (start .pre .3) _ (start .pre .6) (after-put-header .put-header .ensures) (after-run .run .ensures)
 
-add-t47 : tie.Need-add-t47
-add-t47 c =
+add-len : tie.Need-add-len
+add-len c =
     let after-write-map-arg : tie.After-write-map-arg = search in
     let after-map-length : tie.After-map-length = search in
     let after-put-header-arg : tie.After-put-header-arg = search in
@@ -140,8 +147,8 @@ returns-2 c =
     let after-run : tie.After-run = search in
     let after-put-header : tie.After-put-header = search in
     let start : tie.Start = search in
-    safe-left _ _ _ _ _ _ _ (start .pre .0) (start .pre .3) (after-run .run .ensures) (start .args .sheet .now)
-    (after-put-header .put-header .ensures) (after-clear3 .clear3 .ensures) (after-clear4 .clear4 .ensures)
+    safe-left _ _ _ _ _ _ _ (start .pre .0) (start .pre .3) (start .args .sheet .now) (start .pre .6)
+    (after-put-header .put-header .ensures) (after-run .run .ensures) (after-clear3 .clear3 .ensures) (after-clear4 .clear4 .ensures)
     (else1 .if1 .left) (after-map-length .map-length .ensures) (after-put-head .put-head .ensures)
     (after-write-map .write-map .ensures)
 
@@ -164,10 +171,11 @@ search-roomy-spec =
     returns
     map-length-requires
     put-head-requires
+    add-at
     write-map-requires
     clear-requires-3
     clear-requires-4
-    add-t47
+    add-len
     same-length-4
     same-length-5
     same-length-6

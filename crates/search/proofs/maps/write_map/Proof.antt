@@ -13,21 +13,21 @@ use Rattle.search.proofs.maps.write_map.Statement.{statement}
 use Rattle.search.proofs.maps.write_map.Tie as tie
 
 abbrev Inv-loop : tie.InvT-loop
-Inv-loop m parent n out₀ i₀ out i =
+Inv-loop m parent n at out₀ i₀ out i =
     (i ≤ n) ×
-    (sets out (15 + i) (mapFrom (map (ltb 0) (take m parent)) i (n - i)) ≡ sets out₀ 15
+    (sets out (at + i) (mapFrom (map (ltb 0) (take m parent)) i (n - i)) ≡ sets out₀ at
     (mapFrom (map (ltb 0) (take m parent)) 0 n))
     × (length out ≡ length out₀)
 
 abbrev μ-loop : tie.MeasureT-loop
-μ-loop m parent n out₀ i₀ out i = n - i
+μ-loop m parent n at out₀ i₀ out i = n - i
 
 -- The places that the answers name.
 abbrev At-loop : Type 0
 At-loop = tie.At-loop Inv-loop μ-loop
 
 loop-holds : tie.Need-loop-holds Inv-loop μ-loop
-loop-holds c = (omega arith, map-start _ _ _, refl)
+loop-holds c = (omega arith, map-start _ _ _ _, refl)
 
 map-byte-requires : tie.Need-map-byte-requires Inv-loop μ-loop
 map-byte-requires c κs = omega arith
@@ -48,15 +48,15 @@ loop-again : tie.Need-loop-again Inv-loop μ-loop
 loop-again c =
     let at-loop : At-loop = search in (
       omega arith,
-      map-next _ _ _ _ _ (c .before .loop-test .taken) (c .map-byte .ensures) (at-loop .loop .inv .1),
-      length-set (at-loop .loop .out) (15 + at-loop .loop .i) (c .map-byte .result) ∙ at-loop .loop .inv .2,
+      map-next _ _ _ _ _ _ (c .before .loop-test .taken) (c .map-byte .ensures) (at-loop .loop .inv .1),
+      length-set (at-loop .loop .out) _ (c .map-byte .result) ∙ at-loop .loop .inv .2,
     )
 
 same-length : tie.Need-same-length Inv-loop μ-loop
 same-length c = c .before .loop .inv .2
 
 returns : tie.Need-returns Inv-loop μ-loop
-returns c = map-done _ _ _ _ (c .loop-test .left) (c .before .loop .inv .1)
+returns c = map-done _ _ _ _ _ (c .loop-test .left) (c .before .loop .inv .1)
 
 pub write-map-spec : {M : Type 1} → statement M
 write-map-spec =

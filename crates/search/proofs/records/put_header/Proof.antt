@@ -3,6 +3,7 @@
 use mathlib.Core.Path.{refl}
 use native.Mathlib.Omega.{arith}
 use lib.ListN.{length-set}
+use Rattle.acceptance.specs.Sheets.{little, recordBytes}
 use borrow.Author.Needs.{needs}
 use Rattle.search.proofs.records.put_header.Statement.{statement}
 use Rattle.search.proofs.records.put_header.Tie as tie
@@ -32,6 +33,7 @@ same-length : tie.Need-same-length
 same-length c = search needs
 
 returns : tie.Need-returns
+unfolding recordBytes little
 returns c =
     let after-put-head : tie.After-put-head = search in
     rw (after-put-head .put-head .ensures) refl

@@ -3,6 +3,7 @@
 use lib.ListN.{length-set}
 use native.Mathlib.Omega.{arith}
 use native.Mathlib.Numerals.{towards-suc}
+use Rattle.acceptance.specs.Sheets.{little, recordBytes, startBytes}
 use borrow.Author.Needs.{needs}
 use Rattle.search.proofs.records.put_start.Statement.{statement}
 use Rattle.search.proofs.records.put_start.Tie as tie
@@ -32,6 +33,7 @@ same-length : tie.Need-same-length
 same-length c = search needs
 
 returns : tie.Need-returns
+unfolding startBytes recordBytes little
 returns c =
     let after-put-head : tie.After-put-head = search in
     rw (after-put-head .put-head .ensures) (simp towards-suc)

@@ -3,31 +3,30 @@
 use Prim.Native.Nat.{ℕ, _+_, _-_, _*_, _^_, _<_}
 use mathlib.Core.Path.{_≡_, refl, _∙_, ap}
 use native.Mathlib.Omega.{arith}
-use lib.ListN.{take}
+use lib.ListN.{length, take}
 use Rattle.evaluation.proofs.Powers.{pow-small}
 use Rattle.search.specs.working.CodeTransitions.{transitionsIn}
 use Rattle.exploration.specs.working.Runs.{runTo, steps}
 use Rattle.exploration.specs.working.Transitions.{moveOf}
 use Rattle.search.proofs.CodeSteps.{code-lawful, words-within}
-use Rattle.exploration.proofs.Trace.{Walking, walking-start, walking-below, walking-one, walking-end, walking-next}
-use Rattle.exploration.proofs.Trace.{Writing, writing-start, writing-below, writing-one, writing-parent, Turn}
-use Rattle.exploration.proofs.Trace.{writing-next, writing-end, recorded-short}
+use Rattle.exploration.proofs.Trace.{recorded-short, recorded-below, recorded-one, Walking, walking-start, walking-end, walking-next}
+use Rattle.exploration.proofs.Trace.{Writing, writing-start, writing-parent, Turn, writing-next, writing-end}
 use Rattle.search.proofs.traces.write_trace.Statement.{statement}
 use Rattle.search.proofs.traces.write_trace.Tie as tie
 
 abbrev Inv-count : tie.InvT-count
-Inv-count ops ends stars commands bits parent t out n₀ s₀ n s =
-    Walking (transitionsIn bits commands ops ends stars) parent t n s
+Inv-count ops ends stars commands bits parent t at out n₀ s₀ n s =
+    Walking (transitionsIn bits commands ops ends stars) (code-lawful _ _ _ _ _) parent t n s
 
 abbrev μ-count : tie.MeasureT-count
-μ-count ops ends stars commands bits parent t out n₀ s₀ n s = 2 ^ bits - n
+μ-count ops ends stars commands bits parent t at out n₀ s₀ n s = 2 ^ bits - n
 
 abbrev Inv-write : tie.InvT-write
-Inv-write ops ends stars commands bits parent t out₀ n s i₀ u₀ out i u =
-    Writing (transitionsIn bits commands ops ends stars) parent t out₀ out i u
+Inv-write ops ends stars commands bits parent t at out₀ n s i₀ u₀ out i u =
+    Writing (transitionsIn bits commands ops ends stars) (code-lawful _ _ _ _ _) parent t at out₀ out i u
 
 abbrev μ-write : tie.MeasureT-write
-μ-write ops ends stars commands bits parent t out₀ n s i₀ u₀ out i u = i
+μ-write ops ends stars commands bits parent t at out₀ n s i₀ u₀ out i u = i
 
 -- The places that the answers name.
 abbrev At-count : Type 0
@@ -61,7 +60,7 @@ After-write = tie.After-write Inv-count μ-count Inv-write μ-write
 s-below : (c : At-count) →
     let start : Start = search in
     c .count .s < 2 ^ start .args .bits
-s-below c = walking-below (transitionsIn _ _ _ _ _) (code-lawful _ _ _ _ _) _ _ _ _ (c .count .inv)
+s-below c = recorded-below (transitionsIn _ _ _ _ _) (code-lawful _ _ _ _ _) _ (c .count .inv .here)
 
 counted : (c : Then1) →
     let at-count : At-count = search in
@@ -79,7 +78,7 @@ counted c =
 u-below : (c : In-write) →
     let start : Start = search in
     c .before .write .u < 2 ^ start .args .bits
-u-below c = writing-below (transitionsIn _ _ _ _ _) (code-lawful _ _ _ _ _) _ _ _ _ _ _ (c .before .write .inv)
+u-below c = recorded-below (transitionsIn _ _ _ _ _) (code-lawful _ _ _ _ _) _ (c .before .write .inv .here)
 
 turn : (c : After-first-move) →
     let at-write : At-write = search in
@@ -87,21 +86,21 @@ turn : (c : After-first-move) →
     Turn
     (transitionsIn (start .args .bits) (start .args .commands) (start .args .ops .now) (start .args .ends .now)
     (start .args .stars .now))
-    (code-lawful _ _ _ _ _) _ _ _ _ _ _ (at-write .write .inv)
+    (code-lawful _ _ _ _ _) _ _ _ _ _ _ _ (at-write .write .inv)
     (moveOf (c .first-move .result .command) (c .first-move .result .word))
 turn c =
     let in-write : In-write = search in
     let at-write : At-write = search in
-    writing-next (transitionsIn _ _ _ _ _) (code-lawful _ _ _ _ _) _ _ _ _ _ _ (at-write .write .inv)
+    writing-next (transitionsIn _ _ _ _ _) (code-lawful _ _ _ _ _) _ _ _ _ _ _ _ (at-write .write .inv)
     (in-write .write-test .taken) _ (c .first-move .ensures)
 
 count-holds : tie.Need-count-holds Inv-count μ-count Inv-write μ-write
 count-holds c =
     let start : Start = search in
-    walking-start (transitionsIn _ _ _ _ _) _ _ (start .pre .4)
+    walking-start (transitionsIn _ _ _ _ _) (code-lawful _ _ _ _ _) _ _ (start .pre .4)
 
-cast-at : tie.Need-cast-at Inv-count μ-count Inv-write μ-write
-cast-at c =
+cast-p : tie.Need-cast-p Inv-count μ-count Inv-write μ-write
+cast-p c =
     let start : Start = search in
     let bits = start .args .bits in
     omega (arith, s-below c, pow-small bits (2 ^ bits) (start .pre .0) refl)
@@ -118,7 +117,7 @@ shared-slice-read-p c =
     omega (arith, s-below (c .before), start .pre .3)
 
 sub-p : tie.Need-sub-p Inv-count μ-count Inv-write μ-write
-sub-p c = walking-one (transitionsIn _ _ _ _ _) (code-lawful _ _ _ _ _) _ _ _ _ (c .before .count .inv)
+sub-p c = recorded-one (transitionsIn _ _ _ _ _) (code-lawful _ _ _ _ _) _ (c .before .count .inv .here)
 
 add-n : tie.Need-add-n Inv-count μ-count Inv-write μ-write
 add-n c =
@@ -141,11 +140,14 @@ write-holds : tie.Need-write-holds Inv-count μ-count Inv-write μ-write
 write-holds c =
     let at-count : At-count = search in
     let start : Start = search in
-    writing-start (transitionsIn (start .args .bits) _ _ _ _) _ _ _ (at-count .count .n) (start .pre .4) (counted c)
+    writing-start (transitionsIn (start .args .bits) _ _ _ _) (code-lawful _ _ _ _ _) _ _ _ _ (at-count .count .n) (start .pre .4) (counted c)
     (omega (arith, counted c, recorded-short (transitionsIn _ _ _ _ _) _ _ (start .pre .4), start .pre .5))
 
-cast-at-2 : tie.Need-cast-at-2 Inv-count μ-count Inv-write μ-write
-cast-at-2 c =
+sub-i : tie.Need-sub-i Inv-count μ-count Inv-write μ-write
+sub-i c = omega arith
+
+cast-p-2 : tie.Need-cast-p-2 Inv-count μ-count Inv-write μ-write
+cast-p-2 c =
     let start : Start = search in
     let bits = start .args .bits in
     omega (arith, u-below c, pow-small bits (2 ^ bits) (start .pre .0) refl)
@@ -164,7 +166,7 @@ shared-slice-read-p-2 c =
 sub-p-2 : tie.Need-sub-p-2 Inv-count μ-count Inv-write μ-write
 sub-p-2 c =
     let at-write : At-write = search in
-    writing-one (transitionsIn _ _ _ _ _) (code-lawful _ _ _ _ _) _ _ _ _ _ _ (at-write .write .inv)
+    recorded-one (transitionsIn _ _ _ _ _) (code-lawful _ _ _ _ _) _ (at-write .write .inv .here)
 
 first-move-requires : tie.Need-first-move-requires Inv-count μ-count Inv-write μ-write
 first-move-requires c κs =
@@ -173,23 +175,37 @@ first-move-requires c κs =
       start .pre .0,
       start .pre .1,
       start .pre .2,
-      writing-parent (transitionsIn _ _ _ _ _) (code-lawful _ _ _ _ _) _ _ _
+      writing-parent (transitionsIn _ _ _ _ _) (code-lawful _ _ _ _ _) _ _ _ _
           _ _ _ (at-write .write .inv) (c .before .write-test .taken),
     )
 
-mul-put-step : tie.Need-mul-put-step Inv-count μ-count Inv-write μ-write
-mul-put-step c =
+out-fits : (c : Start) → length (c .args .out .now) < 18446744073709551616
+out-fits c = omega arith
+
+-- The records have room, so their places are numbers of the machine.
+step-place : (c : After-first-move) →
     let at-write : At-write = search in
     let start : Start = search in
-    let bits = start .args .bits in
-    omega (arith, at-write .write .inv .short, pow-small bits (2 ^ bits) (start .pre .0) refl)
+    start .args .at + 8 + 10 * (at-write .write .i - 1) < 18446744073709551616
+step-place c =
+    let at-write : At-write = search in
+    let start : Start = search in
+    omega (arith, at-write .write .inv .room, at-write .write .inv .kept, out-fits start)
 
 add-put-step : tie.Need-add-put-step Inv-count μ-count Inv-write μ-write
 add-put-step c =
-    let at-write : At-write = search in
-    let start : Start = search in
-    let bits = start .args .bits in
-    omega (arith, at-write .write .inv .short, pow-small bits (2 ^ bits) (start .pre .0) refl)
+    let after-first-move : After-first-move = search in
+    omega (arith, step-place after-first-move)
+
+mul-put-step : tie.Need-mul-put-step Inv-count μ-count Inv-write μ-write
+mul-put-step c =
+    let after-first-move : After-first-move = search in
+    omega (arith, step-place after-first-move)
+
+add-put-step-2 : tie.Need-add-put-step-2 Inv-count μ-count Inv-write μ-write
+add-put-step-2 c =
+    let after-first-move : After-first-move = search in
+    omega (arith, step-place after-first-move)
 
 put-step-requires : tie.Need-put-step-requires Inv-count μ-count Inv-write μ-write
 put-step-requires c κs =
@@ -205,9 +221,6 @@ put-step-requires c κs =
       ),
     )
 
-sub-i : tie.Need-sub-i Inv-count μ-count Inv-write μ-write
-sub-i c = omega arith
-
 write-less : tie.Need-write-less Inv-count μ-count Inv-write μ-write
 write-less c = omega arith
 
@@ -222,6 +235,11 @@ put-start-requires c κs =
     let at-write : At-write = search in
     omega (arith, at-write .write .inv .room)
 
+add-result : tie.Need-add-result Inv-count μ-count Inv-write μ-write
+add-result c =
+    let at-write : At-write = search in
+    omega (arith, at-write .write .inv .room, at-write .write .inv .kept)
+
 mul-result : tie.Need-mul-result Inv-count μ-count Inv-write μ-write
 mul-result c =
     let at-count : At-count = search in
@@ -229,12 +247,11 @@ mul-result c =
     let bits = start .args .bits in
     omega (arith, at-count .count .inv .short, pow-small bits (2 ^ bits) (start .pre .0) refl)
 
-add-result : tie.Need-add-result Inv-count μ-count Inv-write μ-write
-add-result c =
+add-result-2 : tie.Need-add-result-2 Inv-count μ-count Inv-write μ-write
+add-result-2 c =
     let at-count : At-count = search in
     let start : Start = search in
-    let bits = start .args .bits in
-    omega (arith, at-count .count .inv .short, pow-small bits (2 ^ bits) (start .pre .0) refl)
+    omega (arith, at-count .count .inv .short, start .pre .5)
 
 same-length : tie.Need-same-length Inv-count μ-count Inv-write μ-write
 same-length c =
@@ -247,10 +264,11 @@ returns c =
     let after-put-start : After-put-start = search in
     let after-write : After-write = search in
     let at-write : At-write = search in
-    let then1 : Then1 = search in (
-      after-put-start .put-start .ensures ∙ writing-end (transitionsIn _ _ _ _ _) (code-lawful _ _ _ _ _) _ _ _ _ _ _
+    let then1 : Then1 = search in
+    let start : Start = search in (
+      after-put-start .put-start .ensures ∙ writing-end (transitionsIn _ _ _ _ _) (code-lawful _ _ _ _ _) _ _ _ _ _ _ _
           (at-write .write .inv) (after-write .write-test .left),
-      ap (λ (n : ℕ). 17 + 10 * n) (counted then1),
+      ap (λ (n : ℕ). start .args .at + 8 + 10 * n) (counted then1),
     )
 
 pub write-trace-spec : {M : Type 1} → statement M
@@ -262,7 +280,7 @@ write-trace-spec =
     Inv-write
     μ-write
     count-holds
-    cast-at
+    cast-p
     mul-p
     shared-slice-read-p
     sub-p
@@ -270,19 +288,21 @@ write-trace-spec =
     count-less
     count-again
     write-holds
-    cast-at-2
+    sub-i
+    cast-p-2
     mul-p-2
     shared-slice-read-p-2
     sub-p-2
     first-move-requires
-    mul-put-step
     add-put-step
+    mul-put-step
+    add-put-step-2
     put-step-requires
-    sub-i
     write-less
     write-again
     put-start-requires
-    mul-result
     add-result
+    mul-result
+    add-result-2
     same-length
     returns)
