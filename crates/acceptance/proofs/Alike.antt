@@ -9,7 +9,7 @@ use lib.Dec.{eqb}
 use Rattle.meaning.specs.OneRow.{lastOf}
 use Rattle.meaning.specs.Evidence.{inMap}
 use Rattle.meaning.specs.working.Conditions.{every, implies, wordsStay, closedAt, testA, testB, testC, testE}
-use Rattle.acceptance.specs.Sheets.{System, mapLength}
+use Rattle.acceptance.specs.Sheets.{System, headerLength, mapLength}
 use Rattle.acceptance.specs.SheetTexts.{twoAt, stepIn}
 use Rattle.acceptance.specs.working.SheetReading.{mapIn, stepsIn, stepCount, sheetOf, StepsStand}
 use Rattle.acceptance.specs.working.Test.{mapAnswer, walk, traceAnswer, outcomeOf}
@@ -25,19 +25,19 @@ unfolding every
 every-alike zero f g e = refl
 every-alike (suc n) f g e = ap₂ _&&_ (every-alike n f g (λ i h. e i (omega arith))) (e n (omega arith))
 
-module _ (shared row commands : ℕ) (f f′ : ℕ → ℕ) (p p′ q q′ : ℕ → Bool) (n n′ : ℕ → ℕ → ℕ → ℕ)
+module _ (bits kind : ℕ) (counts : List ℕ) (commands : ℕ) (f f′ : ℕ → ℕ) (p p′ q q′ : ℕ → Bool) (n n′ : ℕ → ℕ → ℕ → ℕ)
     (stars-alike : (k : ℕ) → k < commands → f k ≡ f′ k)
-    (starts-alike : (s : ℕ) → s < 2 ^ (shared + row) → p s ≡ p′ s)
-    (breaks-alike : (s : ℕ) → s < 2 ^ (shared + row) → q s ≡ q′ s)
-    (step-alike : (s k w : ℕ) → s < 2 ^ (shared + row) → k < commands → n s k w ≡ n′ s k w) where
+    (starts-alike : (s : ℕ) → s < 2 ^ bits → p s ≡ p′ s)
+    (breaks-alike : (s : ℕ) → s < 2 ^ bits → q s ≡ q′ s)
+    (step-alike : (s k w : ℕ) → s < 2 ^ bits → k < commands → n s k w ≡ n′ s k w) where
   abbrev states : ℕ
-  states = 2 ^ (shared + row)
+  states = 2 ^ bits
 
   abbrev M : System
-  M = record { shared = shared; row = row; commands = commands; stars = f; starts = p; breaks = q; step = n }
+  M = record { bits = bits; kind = kind; counts = counts; commands = commands; stars = f; starts = p; breaks = q; step = n }
 
   abbrev N : System
-  N = record { shared = shared; row = row; commands = commands; stars = f′; starts = p′; breaks = q′; step = n′ }
+  N = record { bits = bits; kind = kind; counts = counts; commands = commands; stars = f′; starts = p′; breaks = q′; step = n′ }
 
   a-alike : (map : List ℕ) → testA states p map ≡ testA states p′ map
   unfolding testA
@@ -57,7 +57,7 @@ module _ (shared row commands : ℕ) (f f′ : ℕ → ℕ) (p p′ q q′ : ℕ
   unfolding testC closedAt
   c-alike map = every-alike states _ _ λ s h. ap (implies (inMap map s)) (every-alike commands _ _ λ k l. words-alike map s k h l)
 
-  map-alike : (map : List ℕ) → mapAnswer states commands f p q n map ≡ mapAnswer states commands f′ p′ q′ n′ map
+  map-alike : (map : List ℕ) → mapAnswer M map ≡ mapAnswer N map
   unfolding mapAnswer
   map-alike map = rw (a-alike map, b-alike map, c-alike map) refl
 
@@ -68,33 +68,36 @@ module _ (shared row commands : ℕ) (f f′ : ℕ → ℕ) (p p′ q q′ : ℕ
     e-alike s at zero h S = refl
     e-alike s at (suc i) h S =
         let x = step-parts _ _ _ _ (S .1) in
-        ap₂ _&&_ (ap (eqb (stepIn b (at + 6) .after)) (step-alike s (stepIn b (at + 6) .command) (stepIn b (at + 6) .word) h (x .0)))
-        (e-alike (stepIn b (at + 6) .after) (at + 10) i (x .2) (S .2))
+        ap₂ _&&_ (ap (eqb (stepIn b (at + 6) .after)) (step-alike s (stepIn b (at + 6) .command) (stepIn b (at + 6) .word) h (x .command)))
+        (e-alike (stepIn b (at + 6) .after) (at + 10) i (x .after) (S .2))
 
     last-below : (s at i : ℕ) → s < states → StepsStand states commands f b at i → lastOf s (stepsIn b at i) < states
     unfolding lastOf stepsIn StepsStand
     last-below s at zero h S = h
     last-below s at (suc i) h S =
-        last-below (stepIn b (at + 6) .after) (at + 10) i (step-parts _ _ _ _ (S .1) .2) (S .2)
+        last-below (stepIn b (at + 6) .after) (at + 10) i (step-parts _ _ _ _ (S .1) .after) (S .2)
 
-    trace-alike : (s at i : ℕ) → s < states → StepsStand states commands f b at i → traceAnswer p q n s (stepsIn b at i) ≡ traceAnswer p′ q′ n′ s (stepsIn b at i)
+    trace-alike : (s at i : ℕ) → s < states → StepsStand states commands f b at i → traceAnswer M s (stepsIn b at i) ≡ traceAnswer N s (stepsIn b at i)
     unfolding traceAnswer walk
     trace-alike s at i h S = rw (starts-alike s h, e-alike s at i h S, breaks-alike (lastOf s (stepsIn b at i)) (last-below s at i h S)) refl
+
+    abbrev at : ℕ
+    at = headerLength M
 
     pub outcome-alike : outcomeOf M b ≡ outcomeOf N b
     outcome-alike = go (shapeOf (sheetOf M b)) refl
       where
         same : shapeOf (sheetOf M b) ≡ shapeOf (sheetOf N b)
-        same = ap shapeOf (sheet-alike shared row commands f f′ stars-alike b)
+        same = ap shapeOf (sheet-alike bits kind counts commands f f′ stars-alike b)
 
         go : (x : Shape) → x ≡ shapeOf (sheetOf M b) → outcomeOf M b ≡ outcomeOf N b
         go (Bad k i) e = sym (whole-refused M b k i e) ∙ whole-refused N b k i (e ∙ same)
         go Map e =
-            sym (whole-map M b states refl e (mapLength states) refl _ refl)
-            ∙ map-alike (mapIn b 15 (mapLength states))
-            ∙ whole-map N b states refl (e ∙ same) (mapLength states) refl _ refl
+            sym (whole-map M b e (mapLength states) refl _ refl)
+            ∙ map-alike (mapIn b (at + 6) (mapLength states))
+            ∙ whole-map N b (e ∙ same) (mapLength states) refl _ refl
         go Trace e =
-            let S = trace-stands M b states refl e in
-            sym (whole-trace M b states refl e _ refl)
-            ∙ trace-alike (twoAt b 15) 17 (stepCount b 17) (S .start) (S .steps)
-            ∙ whole-trace N b states refl (e ∙ same) _ refl
+            let S = trace-stands M b e in
+            sym (whole-trace M b e _ refl)
+            ∙ trace-alike (twoAt b (at + 6)) (at + 8) (stepCount b (at + 8)) (S .start) (S .steps)
+            ∙ whole-trace N b (e ∙ same) _ refl

@@ -21,7 +21,7 @@ use Rattle.acceptance.specs.Promises.{TestTells, PassTells, TextComesFir
 use Rattle.acceptance.specs.working.Test.{outcomeOf, testIn, testOf}
 use Rattle.acceptance.specs.declared.outcome.Outcome.{Outcome}
 use Rattle.acceptance.specs.declared.outcome.Outcome.the-variants.{SafeHolds, TraceHolds, FailsA, FailsB, FailsC, FailsD, FailsE, FailsF, Refused}
-use Rattle.acceptance.proofs.TestMeans.{steps-fit, all-given}
+use Rattle.acceptance.proofs.TestMeans.{all-given}
 
 -- No two outcomes are called the same: the first letter tells the outcome.
 abbrev named : ℕ → Outcome
@@ -90,7 +90,7 @@ pass-tells text m says b bytes =
           t .0,
           t .1,
           t .2,
-          record { startFits = t .2 .fits .0; stepsFit = steps-fit m (t .1) (t .2 .fits .1); starts = t .3 .0; steps = t .3 .1; breaks = t .3 .2 },
+          record { startFits = t .2 .fits .0; stepsFit = t .2 .fits .1; starts = t .3 .0; steps = t .3 .1; breaks = t .3 .2 },
         ),
         λ t. T .traceHolds .1 (t .0, t .1, t .2, (t .3 .starts, t .3 .steps, t .3 .breaks)),
       );

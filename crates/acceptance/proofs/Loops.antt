@@ -17,11 +17,9 @@ use Rattle.meaning.specs.Evidence.{inMap}
 use Rattle.meaning.specs.working.Conditions.{every, implies, wordsStay, testA, testB, testC, closedAt}
 use Rattle.evaluation.specs.working.CodeMachine.{runOf, startOf}
 use Rattle.evaluation.specs.working.Batches.{afterOf}
-use Rattle.evaluation.specs.working.CodeSystem.{beginOf, segmentOf, nextIn}
+use Rattle.evaluation.specs.working.CodeSystem.{segmentOf, nextIn, Bounds}
 use Rattle.evaluation.proofs.OneRowCode.{cut}
 use Rattle.acceptance.specs.working.SheetReading.{mapIn}
-use Rattle.acceptance.specs.working.Shapes.{starsIn}
-use Rattle.acceptance.proofs.SheetLaws.{stars-word}
 
 -- The bit that the code reads is that of the map.
 pub bit-in : (b : List ℕ) (p n s byte : ℕ) → s / 8 < n → byte ≡ getD b (p + s / 8) 0 → eqb (byte / 2 ^ (s % 8) % 2) 1 ≡ inMap (mapIn b p n) s
@@ -118,14 +116,13 @@ module _ (breaks : ℕ → Bool) (map : List ℕ) (s : ℕ) where
   b-fail n h f g = every-fail _ _ _ h (implies-bad _ _ f (ap not g))
 
 -- What the code finds of the words of command k is what C asks of them.
-pub words-told : (ops ends stars map : List ℕ) (n s k from to x words : ℕ) (r : Bool) → from ≡ beginOf ends (4 + k) → to ≡ getD ends (4 + k) 0
-    → x ≡ getD stars k 0 → words ≡ 2 ^ x → r ≡ every words (λ w. inMap map (afterOf (slice from to ops) s n w))
-    → r ≡ wordsStay (nextIn ops ends n) map s k (2 ^ starsIn stars k)
+pub words-told : (ops map : List ℕ) {ends : List ℕ} (n s k : ℕ) {from to : ℕ} (words count : ℕ) {r : Bool} → Bounds ends (4 + k) from to
+    → words ≡ count → r ≡ every words (λ w. inMap map (afterOf (slice from to ops) s n w)) → r ≡ wordsStay (nextIn ops ends n) map s k count
 unfolding wordsStay nextIn
-words-told ops ends stars map n s k from to x words r e f g h t =
+words-told ops map {ends = ends} n s k words count B e t =
     t
-    ∙ ap (λ (os : List ℕ). every words (λ w. inMap map (afterOf os s n w))) (cut ops ends (4 + k) from to e f)
-    ∙ ap (λ (m : ℕ). every m (λ w. inMap map (afterOf (segmentOf ops ends (4 + k)) s n w))) (stars-word stars k x words g h)
+    ∙ ap (λ (os : List ℕ). every words (λ w. inMap map (afterOf os s n w))) (cut ops B)
+    ∙ ap (λ (m : ℕ). every m (λ w. inMap map (afterOf (segmentOf ops ends (4 + k)) s n w))) e
 
 -- C, one command and one state more at a time.
 module _ (commands : ℕ) (stars : ℕ → ℕ) (step : ℕ → ℕ → ℕ → ℕ) (map : List ℕ) (s : ℕ) where

@@ -6,14 +6,14 @@ use mathlib.Core.List.{List}
 use Prim.Native.Nat.{ℕ, _≤_}
 use native.Mathlib.Omega.{arith}
 use Rattle.meaning.specs.Evidence.{Sheet}
-use Rattle.acceptance.specs.Sheets.{System, size}
+use Rattle.acceptance.specs.Sheets.{System}
 use Rattle.acceptance.specs.working.SheetReading.{Reading, refused, holds, sheetOf}
-use Rattle.acceptance.specs.SheetTexts.{SheetSays, AreBytes, SheetRefused}
+use Rattle.acceptance.specs.SheetTexts.{NumbersFit, SheetSays, AreBytes, SheetRefused}
 use Rattle.acceptance.specs.Promises.{SheetAnswered, OneAnswer}
 use Rattle.acceptance.proofs.SheetRefusals.{refused-iff-reads}
 use Rattle.acceptance.proofs.SheetSplit.{says-iff-reads}
 
-module _ (M : System) (few : size M ≤ 65536) (b : List ℕ) (bytes : AreBytes b) where
+module _ (M : System) (few : NumbersFit M) (b : List ℕ) (bytes : AreBytes b) where
   reads : (x : Sheet) → SheetSays M b x → sheetOf M b ≡ holds x
   reads x w = says-iff-reads M few b bytes x .0 w
 

@@ -11,11 +11,11 @@ use Rattle.acceptance.specs.working.SheetReading.{refused, holds, demand
 
 -- One shared name, two row names, one command with two stars.
 abbrev g : System
-g = record { shared = 1; row = 2; commands = 1; stars = λ c. 2; starts = λ s. true; breaks = λ s. true; step = λ s c w. 0 }
+g = record { bits = 3; kind = 1; counts = 1 ∷ 2 ∷ 1 ∷ []; commands = 1; stars = λ c. 2; starts = λ s. true; breaks = λ s. true; step = λ s c w. 0 }
 
 -- One row name less: four states, so that four bits of a map are unused.
 abbrev small : System
-small = record { shared = 1; row = 1; commands = 1; stars = λ c. 2; starts = λ s. true; breaks = λ s. true; step = λ s c w. 0 }
+small = record { bits = 2; kind = 1; counts = 1 ∷ 1 ∷ 1 ∷ []; commands = 1; stars = λ c. 2; starts = λ s. true; breaks = λ s. true; step = λ s c w. 0 }
 
 -- Records by their bytes.
 abbrev head : List ℕ

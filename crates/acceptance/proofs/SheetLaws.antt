@@ -2,21 +2,26 @@
 -- Assumes nothing.
 use mathlib.Core.Path.{_≡_, refl, sym, ap, _∙_}
 use mathlib.Core.Bool.{Bool, true, false, _&&_, not-eq-not}
-use mathlib.Core.List.{List}
+use mathlib.Core.List.{List, [], _∷_}
 use Prim.Native.Nat.{ℕ, suc, _+_, _-_, _*_, _/_, _^_, _<_, _≤_}
 use native.Mathlib.Omega.{arith}
 use lib.ListN.{length, getD}
 use lib.Dec.{eqb, ltb}
-use lib.Pow.{pow-mono}
 use borrow.Author.Tests.{ltb-true, leb-true, eqb-true, eq-eqb, ne-eqb, lt-ltb, le-ltb, le-leb, lt-leb}
 use Rattle.meaning.specs.OneRow.{TraceStep}
+use Rattle.meaning.specs.Evidence.{InRange}
+use Rattle.evaluation.specs.working.CodeSystem.{starsIn}
 use Rattle.notation.proofs.Booleans.{and-split}
 use Rattle.acceptance.specs.SheetTexts.{twoAt, fourAt, isRecord, sameCounts, unusedClear, stepIn, stepFits}
 use Rattle.acceptance.specs.Sheets.{mapLength}
 use Rattle.acceptance.specs.working.SheetReading.{Reading, refused, demand, either, stepsAt, stepCount, mapAt, traceAt, bodyAt, sheetIn}
-use Rattle.acceptance.specs.working.Shapes.{shapeOf, starsIn}
+use Rattle.acceptance.specs.working.Shapes.{shapeOf}
 use Rattle.acceptance.specs.declared.sheets.Shape.{Shape}
 use Rattle.acceptance.specs.declared.sheets.Shape.the-variants.{Bad, Map, Trace}
+
+and-true : (a : Bool) → a && true ≡ a
+and-true true = refl
+and-true false = refl
 
 three-split : (a b c : Bool) → a && (b && c) ≡ true → (a ≡ true) × (b ≡ true) × (c ≡ true)
 three-split a b c e =
@@ -37,31 +42,37 @@ module _ (b : List ℕ) (p kind n : ℕ) where
   pub record-whole : p + 6 + n ≤ length b → fourAt b p ≡ n → twoAt b (p + 4) ≡ kind → isRecord b p kind n ≡ true
   record-whole h e k = sym (record-last h e) ∙ eq-eqb _ _ k
 
--- The same of the counts in a header.
-module _ (shared row commands : ℕ) (b : List ℕ) (p : ℕ) where
-  pub counts-parts : sameCounts shared row commands b p ≡ true → (getD b p 0 ≡ shared) × (getD b (p + 1) 0 ≡ row) × (getD b (p + 2) 0 ≡ commands)
+-- The counts in a header, one by one.
+module _ (n : ℕ) (ns : List ℕ) (b : List ℕ) (p : ℕ) where
+  pub count-parts : sameCounts (n ∷ ns) b p ≡ true → (getD b p 0 ≡ n) × (sameCounts ns b (p + 1) ≡ true)
   unfolding sameCounts
-  counts-parts e = let s = three-split _ _ _ e in (eqb-true _ _ (s .0), eqb-true _ _ (s .1), eqb-true _ _ (s .2))
+  count-parts e = let s = and-split _ _ e in (eqb-true _ _ (s .0), s .1)
 
-  pub counts-last : getD b p 0 ≡ shared → getD b (p + 1) 0 ≡ row → eqb (getD b (p + 2) 0) commands ≡ sameCounts shared row commands b p
+  pub count-other : (x : ℕ) → x ≡ getD b p 0 → (x ≡ n → ⊥) → false ≡ sameCounts (n ∷ ns) b p
+  count-other x e h = sym (not-eq-not .0 (λ q. h (e ∙ count-parts q .0)))
+
+  pub count-same : (x : ℕ) (r : Bool) → x ≡ getD b p 0 → x ≡ n → r ≡ sameCounts ns b (p + 1) → r ≡ sameCounts (n ∷ ns) b p
   unfolding sameCounts
-  counts-last e f = rw (eq-eqb _ _ e, eq-eqb _ _ f)
+  count-same x r e h f = rw (eq-eqb _ _ (sym e ∙ h)) f
 
-  pub counts-whole : getD b p 0 ≡ shared → getD b (p + 1) 0 ≡ row → getD b (p + 2) 0 ≡ commands → sameCounts shared row commands b p ≡ true
-  counts-whole e f g = sym (counts-last e f) ∙ eq-eqb _ _ g
+pub count-last : (n x : ℕ) (b : List ℕ) (p : ℕ) → x ≡ getD b p 0 → eqb x n ≡ sameCounts (n ∷ []) b p
+unfolding sameCounts
+count-last n x b p e = rw e (sym (and-true _))
 
 -- The same of a step's numbers.
 module _ (states commands : ℕ) (stars : ℕ → ℕ) (x : TraceStep) where
-  pub step-parts : stepFits states commands stars x ≡ true → (x .command < commands) × (x .word < 2 ^ stars (x .command)) × (x .after < states)
+  pub step-parts : stepFits states commands stars x ≡ true → InRange states commands (λ k. 2 ^ stars k) x
   unfolding stepFits
-  step-parts e = let s = three-split _ _ _ e in (ltb-true _ _ (s .0), ltb-true _ _ (s .1), ltb-true _ _ (s .2))
+  step-parts e =
+      let s = three-split _ _ _ e in
+      record { command = ltb-true _ _ (s .0); word = ltb-true _ _ (s .1); after = ltb-true _ _ (s .2) }
 
   pub step-last : x .command < commands → x .word < 2 ^ stars (x .command) → ltb (x .after) states ≡ stepFits states commands stars x
   unfolding stepFits
   step-last c w = rw (lt-ltb _ _ c, lt-ltb _ _ w)
 
-  pub step-whole : x .command < commands → x .word < 2 ^ stars (x .command) → x .after < states → stepFits states commands stars x ≡ true
-  step-whole c w a = sym (step-last c w) ∙ lt-ltb _ _ a
+  pub step-whole : InRange states commands (λ k. 2 ^ stars k) x → stepFits states commands stars x ≡ true
+  step-whole h = sym (step-last (h .command) (h .word)) ∙ lt-ltb _ _ (h .after)
 
 -- A record has one kind.
 pub kinds-apart : (b : List ℕ) (p n k : ℕ) → isRecord b p 3 n ≡ true → isRecord b p 2 k ≡ false
@@ -100,28 +111,28 @@ module _ (t : Bool) (n p : ℕ) (rest : Unit {0} → Reading) where
 -- The unused bits.
 pub clear-few : (states byte : ℕ) (b n : ℕ) → states < 8 → b ≡ byte → n ≡ 2 ^ states → ltb b n ≡ unusedClear states byte
 unfolding unusedClear
-clear-few states byte b n h e f = rw (lt-ltb states 8 h, e, f)
+clear-few states byte b n h e f = rw (lt-leb 8 states h, e, f)
 
 pub clear-many : (states byte : ℕ) → 8 ≤ states → true ≡ unusedClear states byte
 unfolding unusedClear
-clear-many states byte h = rw (le-ltb states 8 h)
+clear-many states byte h = rw (le-leb 8 states h)
 
 -- A step's numbers, as they are read from the bytes.
 module _ (states commands : ℕ) (stars : List ℕ) (b : List ℕ) (p : ℕ) where
   pub fits-command : (c : ℕ) → c ≡ getD b p 0 → commands ≤ c → false ≡ stepFits states commands (starsIn stars) (stepIn b p)
   unfolding stepIn
-  fits-command c e h = sym (not-eq-not .0 (λ q. omega (arith, step-parts _ _ _ _ q .0)))
+  fits-command c e h = sym (not-eq-not .0 (λ q. omega (arith, step-parts _ _ _ _ q .command)))
 
-  module _ (c w n : ℕ) (e : c ≡ getD b p 0) (h : c < commands) (f : w ≡ getD b (p + 1) 0) (g : n ≡ 2 ^ getD stars c 0) where
-    limit : n ≡ 2 ^ getD stars (getD b p 0) 0
-    limit = g ∙ ap (λ (x : ℕ). 2 ^ getD stars x 0) e
+  module _ (c w n : ℕ) (e : c ≡ getD b p 0) (h : c < commands) (f : w ≡ getD b (p + 1) 0) (g : n ≡ 2 ^ starsIn stars c) where
+    limit : n ≡ 2 ^ starsIn stars (getD b p 0)
+    limit = g ∙ ap (λ (x : ℕ). 2 ^ starsIn stars x) e
 
     pub fits-word : n ≤ w → false ≡ stepFits states commands (starsIn stars) (stepIn b p)
-    unfolding stepIn starsIn
-    fits-word k = sym (not-eq-not .0 (λ q. omega (arith, step-parts _ _ _ _ q .1, limit)))
+    unfolding stepIn
+    fits-word k = sym (not-eq-not .0 (λ q. omega (arith, step-parts _ _ _ _ q .word, limit)))
 
     pub fits-state : (t : ℕ) → w < n → t ≡ twoAt b (p + 2) → ltb t states ≡ stepFits states commands (starsIn stars) (stepIn b p)
-    unfolding stepIn starsIn
+    unfolding stepIn
     fits-state t k i = ap (λ (x : ℕ). ltb x states) i ∙ step-last _ _ _ _ (omega arith) (omega (arith, limit))
 
 pub same-test : (x y k : ℕ) → x ≡ y → eqb x k ≡ eqb y k
@@ -183,9 +194,9 @@ steps-left states commands stars b p n i rest h e f =
     let q : n - (i + 1) ≡ (n - i) - 1 = omega arith in
     ap (λ (x : ℕ). stepsAt states commands stars b (p + 10) x rest) q ∙ steps-next states commands stars b p (n - i) rest (omega arith) e f
 
-pub steps-start : (states commands : ℕ) (stars : ℕ → ℕ) (b : List ℕ) (p n : ℕ) (rest : Reading)
-    → stepsAt states commands stars b p (n - 0) rest ≡ stepsAt states commands stars b p n rest
-steps-start states commands stars b p n rest = let q : n - 0 ≡ n = omega arith in ap (λ (x : ℕ). stepsAt states commands stars b p x rest) q
+pub steps-start : (states commands : ℕ) (stars : ℕ → ℕ) (b : List ℕ) (p n m : ℕ) (rest : Reading) → n ≡ m
+    → stepsAt states commands stars b p (n - 0) rest ≡ stepsAt states commands stars b p m rest
+steps-start states commands stars b p n m rest e = let q : n - 0 ≡ m = omega arith in ap (λ (x : ℕ). stepsAt states commands stars b p x rest) q
 
 -- Sizes.
 pub map-length-pos : (states n : ℕ) → n ≡ mapLength states → 1 ≤ n
@@ -211,30 +222,27 @@ pub body-none : (states commands : ℕ) (stars : ℕ → ℕ) (b : List ℕ) (p 
 unfolding bodyAt either shapeOf
 body-none states commands stars b p n e h k = let z : isRecord b p 2 (mapLength states) ≡ false = rw e at h in rw (z, k)
 
-module _ (shared row commands : ℕ) (stars : ℕ → ℕ) (b : List ℕ) where
-  pub sheet-long : 65536 < length b → Bad 9 65536 ≡ shapeOf (sheetIn shared row commands stars b)
+module _ (bits kind : ℕ) (counts : List ℕ) (commands : ℕ) (stars : ℕ → ℕ) (b : List ℕ) where
+  abbrev sheet : Reading
+  sheet = sheetIn bits kind counts commands stars b
+
+  pub sheet-long : 65536 < length b → Bad 9 65536 ≡ shapeOf sheet
   unfolding sheetIn
   sheet-long h = shape-no _ _ _ _ (lt-leb _ _ h)
 
   module _ (h : length b ≤ 65536) where
-    pub sheet-header : isRecord b 0 1 3 ≡ false → Bad 9 0 ≡ shapeOf (sheetIn shared row commands stars b)
+    pub sheet-header : isRecord b 0 kind (length counts) ≡ false → Bad 9 0 ≡ shapeOf sheet
     unfolding sheetIn
     sheet-header e = shape-go _ _ _ _ _ (le-leb _ _ h) (shape-no _ _ _ _ e)
 
-    module _ (e : isRecord b 0 1 3 ≡ true) where
-      pub sheet-counts : sameCounts shared row commands b 6 ≡ false → Bad 10 0 ≡ shapeOf (sheetIn shared row commands stars b)
+    module _ (e : isRecord b 0 kind (length counts) ≡ true) where
+      pub sheet-counts : sameCounts counts b 6 ≡ false → Bad 10 0 ≡ shapeOf sheet
       unfolding sheetIn
       sheet-counts f = shape-go _ _ _ _ _ (le-leb _ _ h) (shape-go _ _ _ _ _ e (shape-no _ _ _ _ f))
 
-      pub sheet-body : sameCounts shared row commands b 6 ≡ true → (r : Shape) (states : ℕ) → states ≡ 2 ^ (shared + row)
-          → r ≡ shapeOf (bodyAt states commands stars b 9) → r ≡ shapeOf (sheetIn shared row commands stars b)
+      pub sheet-body : sameCounts counts b 6 ≡ true → (r : Shape) (states : ℕ) → states ≡ 2 ^ bits
+          → r ≡ shapeOf (bodyAt states commands stars b (6 + length counts)) → r ≡ shapeOf sheet
       unfolding sheetIn
-      sheet-body f r states q g = shape-go _ _ _ _ _ (le-leb _ _ h) (shape-go _ _ _ _ _ e (shape-go _ _ _ _ _ f (g ∙ ap (λ (x : ℕ). shapeOf (bodyAt x commands stars b 9)) q)))
-
--- The number of a command's choice words.
-pub stars-word : (stars : List ℕ) (k x n : ℕ) → x ≡ getD stars k 0 → n ≡ 2 ^ x → n ≡ 2 ^ starsIn stars k
-unfolding starsIn
-stars-word stars k x n e f = f ∙ ap (λ (y : ℕ). 2 ^ y) e
-
-pub words-few : (x n : ℕ) {y : ℕ} → y ≤ 8 → x ≡ y → n ≡ 2 ^ x → n ≤ 256
-words-few x n h e f = rw f (pow-mono {i = x} {j = 8} (omega arith))
+      sheet-body f r states q g =
+          shape-go _ _ _ _ _ (le-leb _ _ h) (shape-go _ _ _ _ _ e (shape-go _ _ _ _ _ f
+          (g ∙ ap (λ (x : ℕ). shapeOf (bodyAt x commands stars b (6 + length counts))) q)))

@@ -11,7 +11,7 @@ use lib.ListN.{length}
 use borrow.Author.Tests.{leb-true, eqb-true, ltb-true}
 use Rattle.meaning.specs.Evidence.{Sheet, safe, trace}
 use Rattle.acceptance.specs.SheetTexts.{twoAt, isRecord, sameCounts}
-use Rattle.acceptance.specs.Sheets.{System, size, mapLength}
+use Rattle.acceptance.specs.Sheets.{System, size, headerLength, mapLength}
 use Rattle.acceptance.specs.working.SheetReading.{Reading, refused, holds, demand, either, mapIn, mapAt, stepsIn, stepsAt, stepCount, traceAt, bodyAt, sheetIn, sheetOf, StepsStand, TraceStands, MapStands}
 use Rattle.acceptance.specs.working.Shapes.{shapeOf}
 use Rattle.acceptance.specs.working.Test.{judge}
@@ -82,9 +82,9 @@ module _ (states commands : ℕ) (stars : ℕ → ℕ) (b : List ℕ) (p : ℕ) 
 -- What is known of the sheet up to its second record.
 pub record Opened (M : System) (b : List ℕ) (x : Sheet) : Type 0 where
   pub short : length b ≤ 65536
-  pub header : isRecord b 0 1 3 ≡ true
-  pub counts : sameCounts (M .shared) (M .row) (M .commands) b 6 ≡ true
-  pub body : bodyAt (size M) (M .commands) (M .stars) b 9 ≡ holds x
+  pub header : isRecord b 0 (M .kind) (length (M .counts)) ≡ true
+  pub counts : sameCounts (M .counts) b 6 ≡ true
+  pub body : bodyAt (size M) (M .commands) (M .stars) b (headerLength M) ≡ holds x
 
 pub sheet-inv : (M : System) (b : List ℕ) (x : Sheet) → sheetOf M b ≡ holds x → Opened M b x
 unfolding sheetIn
@@ -123,34 +123,34 @@ trace-shaped (holds (trace s xs)) e = (trace s xs, refl, tt)
 
 -- A map was found, or a trace.
 pub record MapFound (M : System) (b : List ℕ) : Type 0 where
-  pub stands : MapStands (size M) b 9
-  pub reads : sheetOf M b ≡ holds (safe (mapIn b 15 (mapLength (size M))))
+  pub stands : MapStands (size M) b (headerLength M)
+  pub reads : sheetOf M b ≡ holds (safe (mapIn b (headerLength M + 6) (mapLength (size M))))
 
 pub record TraceFound (M : System) (b : List ℕ) : Type 0 where
-  pub stands : TraceStands (size M) (M .commands) (M .stars) b 9
+  pub stands : TraceStands (size M) (M .commands) (M .stars) b (headerLength M)
   pub short : length b ≤ 65536
-  pub reads : sheetOf M b ≡ holds (trace (twoAt b 15) (stepsIn b 17 (stepCount b 17)))
+  pub reads : sheetOf M b ≡ holds (theTrace (size M) (M .commands) (M .stars) b (headerLength M))
 
 module _ (M : System) (b : List ℕ) where
   pub map-found : Map ≡ shapeOf (sheetOf M b) → MapFound M b
   map-found e = go (map-shaped (sheetOf M b) e)
     where
-      pick : (x : Sheet) → sheetOf M b ≡ holds x → IsSafe x → Stands (size M) (M .commands) (M .stars) b 9 x → MapFound M b
+      pick : (x : Sheet) → sheetOf M b ≡ holds x → IsSafe x → Stands (size M) (M .commands) (M .stars) b (headerLength M) x → MapFound M b
       pick x r i (inl q) = record { stands = q .0; reads = r ∙ ap holds (q .1) }
       pick x r i (inr q) = absurd (subst IsSafe (q .1) i)
 
       go : (x : Sheet) × (sheetOf M b ≡ holds x) × IsSafe x → MapFound M b
-      go t = pick (t .0) (t .1) (t .2) (body-inv (size M) (M .commands) (M .stars) b 9 (t .0) (sheet-inv M b (t .0) (t .1) .body))
+      go t = pick (t .0) (t .1) (t .2) (body-inv (size M) (M .commands) (M .stars) b (headerLength M) (t .0) (sheet-inv M b (t .0) (t .1) .body))
 
   pub trace-found : Trace ≡ shapeOf (sheetOf M b) → TraceFound M b
   trace-found e = go (trace-shaped (sheetOf M b) e)
     where
-      pick : (x : Sheet) → sheetOf M b ≡ holds x → IsTrace x → Stands (size M) (M .commands) (M .stars) b 9 x → TraceFound M b
+      pick : (x : Sheet) → sheetOf M b ≡ holds x → IsTrace x → Stands (size M) (M .commands) (M .stars) b (headerLength M) x → TraceFound M b
       pick x r i (inl q) = absurd (subst IsTrace (q .1) i)
       pick x r i (inr q) = record { stands = q .0; short = sheet-inv M b x r .short; reads = r ∙ ap holds (q .1) }
 
       go : (x : Sheet) × (sheetOf M b ≡ holds x) × IsTrace x → TraceFound M b
-      go t = pick (t .0) (t .1) (t .2) (body-inv (size M) (M .commands) (M .stars) b 9 (t .0) (sheet-inv M b (t .0) (t .1) .body))
+      go t = pick (t .0) (t .1) (t .2) (body-inv (size M) (M .commands) (M .stars) b (headerLength M) (t .0) (sheet-inv M b (t .0) (t .1) .body))
 
 -- A map has a bit for each state.
 pub eighths : (k : ℕ) → 2 ^ k ≤ 8 * mapLength (2 ^ k)

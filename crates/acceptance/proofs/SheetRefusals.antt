@@ -10,7 +10,7 @@ use lib.Dec.{eqb}
 use borrow.Author.Tests.{ne-eqb, le-leb, lt-leb, leb-true, leb-false, eqb-false}
 use Rattle.meaning.specs.Evidence.{Sheet, safe, trace}
 use Rattle.acceptance.specs.SheetTexts.{twoAt, isRecord, sameCounts, unusedClear, stepIn, stepFits, Stage, atHeader, atBody, atEnd, atStep, Allowed, header, map, start, step, MayEnd, Clean, begin, next, SheetRefused, tooLong, misplaced, outOfRange}
-use Rattle.acceptance.specs.Sheets.{System, size, mapLength}
+use Rattle.acceptance.specs.Sheets.{System, size, headerLength, mapLength}
 use Rattle.acceptance.specs.working.SheetReading.{Reading, refused, holds, demand, either, mapIn, mapAt, stepsIn, stepsAt, stepCount, traceAt, bodyAt, sheetIn, sheetOf}
 use Rattle.acceptance.specs.Promises.{RefusedIffReads}
 use Rattle.acceptance.proofs.SheetLaws.{record-parts, kinds-apart, demand-go, demand-no}
@@ -37,7 +37,7 @@ module _ (M : System) (b : List ℕ) where
   clearAt p = unusedClear (size M) (getD b (p + 6) 0)
 
   abbrev countsAt : ℕ → Bool
-  countsAt p = sameCounts (M .shared) (M .row) (M .commands) b p
+  countsAt p = sameCounts (M .counts) b p
 
   abbrev fitsAt : ℕ → Bool
   fitsAt p = stepFits (size M) (M .commands) (M .stars) (stepIn b (p + 6))
@@ -56,7 +56,7 @@ module _ (M : System) (b : List ℕ) where
 
   -- The reading from a stage on.
   unfoldable from : Stage → ℕ → Sheet → Reading
-  from atHeader p x = demand (isRecord b p 1 3) 9 p λ _. demand (countsAt (p + 6)) 10 p λ _. bodyFrom (p + 9)
+  from atHeader p x = demand (isRecord b p (M .kind) (length (M .counts))) 9 p λ _. demand (countsAt (p + 6)) 10 p λ _. bodyFrom (p + 6 + length (M .counts))
   from atBody p x = bodyFrom p
   from atEnd p x = demand (eqb (length b) p) 9 p λ _. holds x
   from atStep p x = stepsFrom p (stepCount b p) (holds x)
@@ -81,7 +81,7 @@ module _ (M : System) (b : List ℕ) where
 
   pub within : (p : ℕ) (s : Stage) → Clean M b p s → p ≤ length b
   within p s (begin h) = omega arith
-  within p s (next c (header e) h) = omega (arith, record-parts b _ 1 3 e .0)
+  within p s (next c (header e) h) = omega (arith, record-parts b _ _ _ e .0)
   within p s (next c (map e u) h) = record-parts b _ 2 _ e .0
   within p s (next c (start e) h) = omega (arith, record-parts b _ 3 2 e .0)
   within p s (next c (step e) h) = omega (arith, record-parts b _ 4 4 e .0)
@@ -153,7 +153,7 @@ module _ (M : System) (b : List ℕ) where
   no-step : (p : ℕ) → isRecord b p 4 4 ≡ false → NoneAllowed p atStep
   no-step p f r q t (step e) = true≢false (sym e ∙ f)
 
-  no-header : (p : ℕ) → isRecord b p 1 3 ≡ false → NoneAllowed p atHeader
+  no-header : (p : ℕ) → isRecord b p (M .kind) (length (M .counts)) ≡ false → NoneAllowed p atHeader
   no-header p f r q t (header e) = true≢false (sym e ∙ f)
 
   no-body : (p : ℕ) → mapHere p ≡ false → isRecord b p 3 2 ≡ false → NoneAllowed p atBody
@@ -211,7 +211,7 @@ module _ (M : System) (b : List ℕ) where
       demanded _ _ _ _ (λ f. tooLong (leb-false _ _ f)) λ l.
       demanded _ _ _ _ (λ f. misplaced (begin (leb-true _ _ l)) (no-header 0 f) (λ x _. x)) λ r.
       demanded _ _ _ _ (λ f. outOfRange (begin (leb-true _ _ l)) (header r) f) λ g.
-      body-refused 9 (next (begin (leb-true _ _ l)) (header r) g)
+      body-refused (headerLength M) (next (begin (leb-true _ _ l)) (header r) g)
 
 pub refused-iff-reads : RefusedIffReads
 refused-iff-reads M b n p = (refused-reads M b n p, reads-refused M b n p)

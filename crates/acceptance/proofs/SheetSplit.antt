@@ -11,12 +11,12 @@ use lib.ListN.{length, getD, take, drop, length-drop, drop-of-length-le}
 use lib.Seq.{getD-take, getD-drop, drop-cons, drop-drop, length-take-le}
 use Rattle.meaning.specs.Evidence.{Sheet}
 use Rattle.meaning.specs.OneRow.{TraceStep}
-use Rattle.acceptance.specs.SheetTexts.{twoAt, fourAt, isRecord, sameCounts, unusedClear, stepIn, stepFits, InRange, SheetSays, AreBytes}
-use Rattle.acceptance.specs.Sheets.{System, size, mapLength, little, recordBytes, headerBytes, stepBytes, stepsBytes, sheetBytes, mapBytes, startBytes}
+use Rattle.acceptance.specs.SheetTexts.{twoAt, fourAt, isRecord, sameCounts, unusedClear, stepIn, InSystem, SheetSays, AreBytes}
+use Rattle.acceptance.specs.Sheets.{System, size, headerLength, mapLength, little, recordBytes, headerBytes, stepBytes, stepsBytes, sheetBytes, mapBytes, startBytes}
 use Rattle.acceptance.specs.working.SheetReading.{mapIn, stepsIn, stepCount, StepsStand, TraceStands, MapStands}
 use Rattle.notation.specs.Regular.{Every}
 use Rattle.acceptance.specs.Promises.{SaysIffReads}
-use Rattle.acceptance.proofs.SheetLaws.{record-parts, counts-parts, step-parts, map-length-pos}
+use Rattle.acceptance.proofs.SheetLaws.{record-parts, count-parts, step-parts, map-length-pos}
 use Rattle.acceptance.proofs.SheetOpened.{Stands, body-inv, sheet-inv, theMap, theTrace}
 use Rattle.acceptance.proofs.SheetWritten.{reads-written}
 
@@ -118,21 +118,20 @@ module _ (b : List ℕ) (bytes : AreBytes b) where
   start-two q h = ap (take 2) (next b q (q + 1) (omega arith) refl ∙ ap (λ (l : List ℕ). getD b q 0 ∷ l) (next b (q + 1) (q + 2) (omega arith) (omega arith))) ∙ sym (two-bytes q)
 
   -- The header.
-  module _ (M : System) (e : isRecord b 0 1 3 ≡ true) (f : sameCounts (M .shared) (M .row) (M .commands) b 6 ≡ true) where
-    header-three : take 3 (drop 6 b) ≡ M .shared ∷ M .row ∷ M .commands ∷ []
-    header-three =
-        let z = room 0 1 3 e in
-        let c = counts-parts _ _ _ _ _ f in
-        ap (take 3)
-        (next b 6 7 (omega arith) refl
-        ∙ ap (λ (l : List ℕ). getD b 6 0 ∷ l) (next b 7 8 (omega arith) refl
-        ∙ ap (λ (l : List ℕ). getD b 7 0 ∷ l) (next b 8 9 (omega arith) refl)))
-        ∙ ap (λ (x : ℕ). x ∷ getD b 7 0 ∷ getD b 8 0 ∷ []) (c .0)
-        ∙ ap (λ (x : ℕ). M .shared ∷ x ∷ getD b 8 0 ∷ []) (c .1) ∙ ap (λ (x : ℕ). M .shared ∷ M .row ∷ x ∷ []) (c .2)
+  counts-split : (ns : List ℕ) (p : ℕ) → p + length ns ≤ length b → sameCounts ns b p ≡ true → take (length ns) (drop p b) ≡ ns
+  counts-split [] p h e = refl
+  counts-split (n ∷ ns) p h e =
+      let c = count-parts n ns b p e in
+      ap (take (suc (length ns))) (next b p (p + 1) (omega arith) refl)
+      ∙ ap (λ (x : ℕ). x ∷ take (length ns) (drop (p + 1) b)) (c .0)
+      ∙ ap (λ (l : List ℕ). n ∷ l) (counts-split ns (p + 1) (omega arith) (c .1))
 
-    pub header-split : b ≡ headerBytes M ++ drop 9 b
-    unfolding headerBytes
-    header-split = record-split 0 1 3 e ∙ ap (λ (l : List ℕ). recordBytes 1 l ++ drop 9 b) header-three
+  pub header-split : (M : System) → isRecord b 0 (M .kind) (length (M .counts)) ≡ true → sameCounts (M .counts) b 6 ≡ true
+      → b ≡ headerBytes M ++ drop (headerLength M) b
+  unfolding headerBytes
+  header-split M e f =
+      record-split 0 (M .kind) (length (M .counts)) e
+      ∙ ap (λ (l : List ℕ). recordBytes (M .kind) l ++ drop (headerLength M) b) (counts-split (M .counts) 6 (room 0 (M .kind) (length (M .counts)) e) f)
 
 steps-cover : (b : List ℕ) (p : ℕ) → p ≤ length b → length b ≤ p + 10 * stepCount b p
 unfolding stepCount
@@ -140,54 +139,55 @@ steps-cover b p h = omega arith
 
 -- The contents are in range.
 module _ (M : System) (b : List ℕ) where
-  step-ranges : (x : TraceStep) → stepFits (size M) (M .commands) (M .stars) x ≡ true → InRange M x
-  step-ranges x e = let s = step-parts _ _ _ x e in record { command = s .0; word = s .1; after = s .2 }
-
-  steps-range : (n p : ℕ) → StepsStand (size M) (M .commands) (M .stars) b p n → Every (InRange M) (stepsIn b p n)
+  steps-range : (n p : ℕ) → StepsStand (size M) (M .commands) (M .stars) b p n → Every (InSystem M) (stepsIn b p n)
   unfolding StepsStand stepsIn
   steps-range zero p S = tt
-  steps-range (suc n) p S = (step-ranges _ (S .1), steps-range n (p + 10) (S .2))
+  steps-range (suc n) p S = (step-parts _ _ _ _ (S .1), steps-range n (p + 10) (S .2))
 
-  module _ (bytes : AreBytes b) (short : length b ≤ 65536) (e : isRecord b 0 1 3 ≡ true) (f : sameCounts (M .shared) (M .row) (M .commands) b 6 ≡ true) where
-    says-map : MapStands (size M) b 9 → SheetSays M b (theMap (size M) (M .commands) (M .stars) b 9)
+  module _ (bytes : AreBytes b) (short : length b ≤ 65536) (e : isRecord b 0 (M .kind) (length (M .counts)) ≡ true) (f : sameCounts (M .counts) b 6 ≡ true) where
+    abbrev at : ℕ
+    at = headerLength M
+
+    says-map : MapStands (size M) b at → SheetSays M b (theMap (size M) (M .commands) (M .stars) b at)
     unfolding sheetBytes mapBytes startBytes mapIn
     says-map S =
         let n = mapLength (size M) in
-        let s : length (drop 15 b) ≡ length b - 15 = length-drop 15 b in
-        let first : getD (take (mapLength (size M)) (drop 15 b)) 0 0 ≡ getD b 15 0 =
-        getD-take (mapLength (size M)) (drop 15 b) 0 0 (map-length-pos (size M) _ refl) ∙ getD-drop 15 b 0 0 in
-        let end : drop (15 + mapLength (size M)) b ≡ [] = drop-of-length-le b {i = 15 + mapLength (size M)} (omega (arith, S .end)) in
+        let s : length (drop (at + 6) b) ≡ length b - (at + 6) = length-drop (at + 6) b in
+        let first : getD (take (mapLength (size M)) (drop (at + 6) b)) 0 0 ≡ getD b (at + 6) 0 =
+        getD-take (mapLength (size M)) (drop (at + 6) b) 0 0 (map-length-pos (size M) _ refl) ∙ getD-drop (at + 6) b 0 0 ∙ (let z : at + 6 + 0 ≡ at + 6 = omega arith in ap (λ (x : ℕ). getD b x 0) z) in
+        let end : drop (at + 6 + mapLength (size M)) b ≡ [] = drop-of-length-le b {i = at + 6 + mapLength (size M)} (omega (arith, S .end)) in
         record {
           bytes =
               header-split b bytes M e f
               ∙ ap (λ (l : List ℕ). headerBytes M ++ l)
-              (record-split b bytes 9 2 (mapLength (size M)) (S .head)
-              ∙ ap (λ (l : List ℕ). recordBytes 2 (take (mapLength (size M)) (drop 15 b)) ++ l) end ∙ append-nil _);
+              (record-split b bytes at 2 (mapLength (size M)) (S .head)
+              ∙ ap (λ (l : List ℕ). recordBytes 2 (take (mapLength (size M)) (drop (at + 6) b)) ++ l) end ∙ append-nil _);
           short = short;
-          fits = (length-take-le (mapLength (size M)) (drop 15 b) (omega (arith, S .end)), subst (λ (x : ℕ). unusedClear (size M) x ≡ true) (sym first) (S .clear));
+          fits = (length-take-le (mapLength (size M)) (drop (at + 6) b) (omega (arith, S .end)), subst (λ (x : ℕ). unusedClear (size M) x ≡ true) (sym first) (S .clear));
         }
 
-    says-trace : TraceStands (size M) (M .commands) (M .stars) b 9 → SheetSays M b (theTrace (size M) (M .commands) (M .stars) b 9)
+    says-trace : TraceStands (size M) (M .commands) (M .stars) b at → SheetSays M b (theTrace (size M) (M .commands) (M .stars) b at)
     unfolding sheetBytes mapBytes startBytes
     says-trace S =
-        let r : 9 + 6 + 2 ≤ length b = record-parts b 9 3 2 (S .head) .0 in
-        let w : length b ≤ 17 + 10 * stepCount b 17 = steps-cover b 17 r in
-        let end : drop (17 + 10 * stepCount b 17) b ≡ [] = drop-of-length-le b {i = 17 + 10 * stepCount b 17} w in
+        let r : at + 6 + 2 ≤ length b = record-parts b at 3 2 (S .head) .0 in
+        let w : length b ≤ at + 8 + 10 * stepCount b (at + 8) = steps-cover b (at + 8) (omega (arith, r)) in
+        let end : drop (at + 8 + 10 * stepCount b (at + 8)) b ≡ [] = drop-of-length-le b {i = at + 8 + 10 * stepCount b (at + 8)} w in
         record {
           bytes =
               header-split b bytes M e f
               ∙ ap (λ (l : List ℕ). headerBytes M ++ l)
-              (record-split b bytes 9 3 2 (S .head)
-              ∙ ap (λ (l : List ℕ). recordBytes 3 l ++ drop 17 b) (start-two b bytes 15 r)
-              ∙ ap (λ (l : List ℕ). recordBytes 3 (little 2 (twoAt b 15)) ++ l)
-              (steps-split b bytes (size M) (M .commands) (M .stars) (stepCount b 17) 17 (S .steps)
-              ∙ ap (λ (l : List ℕ). stepsBytes (stepsIn b 17 (stepCount b 17)) ++ l) end
+              (record-split b bytes at 3 2 (S .head)
+              ∙ (let z : at + 6 + 2 ≡ at + 8 = omega arith in ap (λ (x : ℕ). recordBytes 3 (take 2 (drop (at + 6) b)) ++ drop x b) z)
+              ∙ ap (λ (l : List ℕ). recordBytes 3 l ++ drop (at + 8) b) (start-two b bytes (at + 6) r)
+              ∙ ap (λ (l : List ℕ). recordBytes 3 (little 2 (twoAt b (at + 6))) ++ l)
+              (steps-split b bytes (size M) (M .commands) (M .stars) (stepCount b (at + 8)) (at + 8) (S .steps)
+              ∙ ap (λ (l : List ℕ). stepsBytes (stepsIn b (at + 8) (stepCount b (at + 8))) ++ l) end
               ∙ append-nil _));
           short = short;
-          fits = (S .start, steps-range (stepCount b 17) 17 (S .steps));
+          fits = (S .start, steps-range (stepCount b (at + 8)) (at + 8) (S .steps));
         }
 
-    says-of : (x : Sheet) → Stands (size M) (M .commands) (M .stars) b 9 x → SheetSays M b x
+    says-of : (x : Sheet) → Stands (size M) (M .commands) (M .stars) b at x → SheetSays M b x
     says-of x (inl q) = subst (λ (y : Sheet). SheetSays M b y) (sym (q .1)) (says-map (q .0))
     says-of x (inr q) = subst (λ (y : Sheet). SheetSays M b y) (sym (q .1)) (says-trace (q .0))
 
@@ -195,5 +195,5 @@ pub says-iff-reads : SaysIffReads
 says-iff-reads M few b bytes x = (
   λ w. reads-written M few b x w,
   λ e. let o = sheet-inv M b x e in
-      says-of M b bytes (o .short) (o .header) (o .counts) x (body-inv (size M) (M .commands) (M .stars) b 9 x (o .body)),
+      says-of M b bytes (o .short) (o .header) (o .counts) x (body-inv (size M) (M .commands) (M .stars) b (headerLength M) x (o .body)),
 )

@@ -1,19 +1,20 @@
 -- A sheet that was written is read back; and the first six bytes of a short record, as a writer stores them.
 -- Assumes nothing.
-use Rattle.acceptance.proofs.SheetLaws.{record-whole, counts-whole, step-whole, kinds-apart}
-use mathlib.Core.Path.{_≡_, refl, ap, _∙_, subst}
+use Rattle.acceptance.proofs.SheetLaws.{record-whole, step-whole, kinds-apart}
+use mathlib.Core.Path.{_≡_, refl, sym, ap, _∙_, subst}
 use mathlib.Core.Bool.{true}
 use mathlib.Core.List.{List, [], _∷_, _++_, append-assoc, append-nil}
 use Prim.Native.Nat.{ℕ, _+_, _*_, _/_, _%_, _<_, _≤_}
 use native.Mathlib.Omega.{arith}
 use native.Mathlib.Nat.{add-assoc}
-use lib.ListN.{length, getD, length-append}
-use lib.Seq.{getD-append-add, take-all}
+use lib.ListN.{length, getD, take, drop, length-append}
+use lib.Seq.{getD-append-add, drop-append-add, take-all}
 use borrow.Author.Tests.{eq-eqb, le-leb, lt-ltb}
+use Rattle.notation.proofs.Booleans.{and-join}
 use Rattle.meaning.specs.Evidence.{Sheet, safe, trace}
 use Rattle.meaning.specs.OneRow.{TraceStep}
-use Rattle.acceptance.specs.SheetTexts.{twoAt, fourAt, isRecord, sameCounts, unusedClear, stepIn, stepFits, InRange, SheetSays}
-use Rattle.acceptance.specs.Sheets.{System, size, mapLength, little, recordBytes, headerBytes, stepBytes, stepsBytes, sheetBytes, mapBytes, startBytes}
+use Rattle.acceptance.specs.SheetTexts.{twoAt, fourAt, isRecord, sameCounts, unusedClear, stepIn, stepFits, InSystem, NumbersFit, SheetSays}
+use Rattle.acceptance.specs.Sheets.{System, size, headerLength, mapLength, little, recordBytes, headerBytes, stepBytes, stepsBytes, sheetBytes, mapBytes, startBytes}
 use Rattle.acceptance.specs.working.SheetReading.{holds, demand, either, mapIn, mapAt, stepsIn, stepCount, traceAt, bodyAt, sheetIn, sheetOf, StepsStand}
 use Rattle.notation.specs.Regular.{Every}
 use Rattle.acceptance.proofs.SheetOpened.{steps-of}
@@ -87,6 +88,12 @@ module _ (kind : ℕ) (pre payload post : List ℕ) (k : kind < 65536) (n : leng
         let z : length pre + (6 + j) ≡ q = omega arith in
         subst (λ (x : ℕ). twoAt whole x ≡ twoAt (payload ++ post) j) z (two-past pre (recordBytes kind payload ++ post) (6 + j) ∙ two-in kind payload post k n j)
 
+    pub payload-there : drop (p + 6) whole ≡ payload ++ post
+    unfolding recordBytes little
+    payload-there =
+        let z : length pre + 6 ≡ p + 6 = omega arith in
+        subst (λ (x : ℕ). drop x whole ≡ payload ++ post) z (drop-append-add pre (recordBytes kind payload ++ post) 6)
+
 -- The steps.
 step-eq : (x y : TraceStep) → x .command ≡ y .command → x .word ≡ y .word → x .after ≡ y .after → x ≡ y
 step-eq x y c w a = λ t. record { command = c t; word = w t; after = a t }
@@ -100,8 +107,8 @@ unfolding stepsBytes
 steps-length [] = refl
 steps-length (x ∷ xs) = omega (arith, length-append (stepBytes x) (stepsBytes xs), step-length x, steps-length xs)
 
-module _ (M : System) (few : size M ≤ 65536) where
-  module _ (pre post : List ℕ) (x : TraceStep) (fits : InRange M x) (p : ℕ) (e : length pre ≡ p) where
+module _ (M : System) (few : NumbersFit M) where
+  module _ (pre post : List ℕ) (x : TraceStep) (fits : InSystem M x) (p : ℕ) (e : length pre ≡ p) where
     abbrev payload : List ℕ
     payload = x .command ∷ x .word ∷ little 2 (x .after)
 
@@ -118,14 +125,14 @@ module _ (M : System) (few : size M ≤ 65536) where
         let c = get-there 4 pre payload post (omega arith) (omega arith) p e 0 (p + 6) (omega arith) in
         let w = get-there 4 pre payload post (omega arith) (omega arith) p e 1 (p + 6 + 1) (omega arith) in
         let t = two-there 4 pre payload post (omega arith) (omega arith) p e 2 (p + 6 + 2) (omega arith) in
-        let u = two-little (x .after) (omega (arith, fits .after)) in
+        let u = two-little (x .after) (omega (arith, fits .after, few .states)) in
         step-eq _ _ c w (t ∙ u)
 
     step-in-range : stepFits (size M) (M .commands) (M .stars) (stepIn withStep (p + 6)) ≡ true
-    step-in-range = rw step-read (step-whole _ _ _ _ (fits .command) (fits .word) (fits .after))
+    step-in-range = rw step-read (step-whole _ _ _ _ fits)
 
   -- All of them, behind `pre`.
-  pub steps-there : (xs : List TraceStep) (pre : List ℕ) (p : ℕ) → length pre ≡ p → Every (InRange M) xs
+  pub steps-there : (xs : List TraceStep) (pre : List ℕ) (p : ℕ) → length pre ≡ p → Every (InSystem M) xs
       → StepsStand (size M) (M .commands) (M .stars) (pre ++ stepsBytes xs) p (length xs) × (stepsIn (pre ++ stepsBytes xs) p (length xs) ≡ xs)
   unfolding StepsStand stepsIn stepsBytes
   steps-there [] pre p e fits = (tt, refl)
@@ -141,92 +148,118 @@ module _ (M : System) (few : size M ≤ 65536) where
       )
 
   -- The header.
-  header-length : length (headerBytes M) ≡ 9
+  header-length : length (headerBytes M) ≡ headerLength M
   unfolding headerBytes recordBytes little
-  header-length = refl
+  header-length = omega arith
+
+  counts-there : (ns pre post : List ℕ) (p : ℕ) → length pre ≡ p → sameCounts ns (pre ++ (ns ++ post)) p ≡ true
+  unfolding sameCounts
+  counts-there [] pre post p e = refl
+  counts-there (n ∷ ns) pre post p e =
+      let z : length pre + 0 ≡ p = omega arith in
+      let q : length (pre ++ (n ∷ [])) ≡ p + 1 = omega (arith, length-append pre (n ∷ [])) in
+      and-join _ _ (eq-eqb _ _ (subst (λ (x : ℕ). getD (pre ++ (n ∷ (ns ++ post))) x 0 ≡ n) z (get-past pre (n ∷ (ns ++ post)) 0)))
+      (subst (λ (l : List ℕ). sameCounts ns l (p + 1) ≡ true) (append-assoc pre (n ∷ []) (ns ++ post)) (counts-there ns (pre ++ (n ∷ [])) post (p + 1) q))
 
   module _ (post : List ℕ) where
-    header-record : isRecord (headerBytes M ++ post) 0 1 3 ≡ true
+    header-record : isRecord (headerBytes M ++ post) 0 (M .kind) (length (M .counts)) ≡ true
     unfolding headerBytes
-    header-record = record-there 1 [] (M .shared ∷ M .row ∷ M .commands ∷ []) post (omega arith) (omega arith) 0 refl
+    header-record = record-there (M .kind) [] (M .counts) post (few .kind) (few .counts) 0 refl
 
-    header-counts : sameCounts (M .shared) (M .row) (M .commands) (headerBytes M ++ post) 6 ≡ true
+    header-counts : sameCounts (M .counts) (headerBytes M ++ post) 6 ≡ true
     unfolding headerBytes recordBytes little
-    header-counts = counts-whole _ _ _ (headerBytes M ++ post) 6 refl refl refl
+    header-counts = counts-there (M .counts) (little 4 (length (M .counts)) ++ little 2 (M .kind)) post 6 refl
 
-    pub header-read : length (headerBytes M ++ post) ≤ 65536 → sheetOf M (headerBytes M ++ post) ≡ bodyAt (size M) (M .commands) (M .stars) (headerBytes M ++ post) 9
+    pub header-read : length (headerBytes M ++ post) ≤ 65536
+        → sheetOf M (headerBytes M ++ post) ≡ bodyAt (size M) (M .commands) (M .stars) (headerBytes M ++ post) (headerLength M)
     unfolding sheetIn demand
     header-read h = rw (le-leb _ _ h, header-record, header-counts)
 
   -- A map.
   module _ (map : List ℕ) (long : length map ≡ mapLength (size M)) (clear : unusedClear (size M) (getD map 0 0) ≡ true) (h : length map < 65536) where
     abbrev mapSheet : List ℕ
-    mapSheet = headerBytes M ++ recordBytes 2 map
+    mapSheet = headerBytes M ++ (recordBytes 2 map ++ [])
 
-    map-record : isRecord mapSheet 9 2 (mapLength (size M)) ≡ true
+    map-record : isRecord mapSheet (headerLength M) 2 (mapLength (size M)) ≡ true
     map-record =
-        subst (λ (n : ℕ). isRecord mapSheet 9 2 n ≡ true) long
-        (subst (λ (l : List ℕ). isRecord (headerBytes M ++ l) 9 2 (length map) ≡ true) (append-nil (recordBytes 2 map))
-        (record-there 2 (headerBytes M) map [] (omega arith) h 9 header-length))
+        subst (λ (n : ℕ). isRecord mapSheet (headerLength M) 2 n ≡ true) long
+        (record-there 2 (headerBytes M) map [] (omega arith) h (headerLength M) header-length)
 
-    map-clear : unusedClear (size M) (getD mapSheet 15 0) ≡ true
-    unfolding headerBytes recordBytes little
-    map-clear = clear
+    map-clear : unusedClear (size M) (getD mapSheet (headerLength M + 6) 0) ≡ true
+    map-clear =
+        subst (λ (x : ℕ). unusedClear (size M) x ≡ true)
+        (sym (get-there 2 (headerBytes M) map [] (omega arith) h (headerLength M) header-length 0 (headerLength M + 6) (omega arith)
+        ∙ ap (λ (l : List ℕ). getD l 0 0) (append-nil map)))
+        clear
 
-    map-end : length mapSheet ≡ 15 + mapLength (size M)
-    unfolding headerBytes recordBytes little
-    map-end = omega (arith, long)
+    map-end : length mapSheet ≡ headerLength M + 6 + mapLength (size M)
+    map-end =
+        omega (arith, long, length-append (headerBytes M) (recordBytes 2 map ++ []), front-length 2 map [] (omega arith) h, header-length)
 
-    map-back : mapIn mapSheet 15 (mapLength (size M)) ≡ map
-    unfolding mapIn headerBytes recordBytes little
-    map-back = take-all (mapLength (size M)) map (omega (arith, long))
+    map-back : mapIn mapSheet (headerLength M + 6) (mapLength (size M)) ≡ map
+    unfolding mapIn
+    map-back =
+        ap (take (mapLength (size M))) (payload-there 2 (headerBytes M) map [] (omega arith) h (headerLength M) header-length ∙ append-nil map)
+        ∙ take-all (mapLength (size M)) map (omega (arith, long))
 
-    pub map-read : bodyAt (size M) (M .commands) (M .stars) mapSheet 9 ≡ holds (safe map)
+    pub map-read : bodyAt (size M) (M .commands) (M .stars) mapSheet (headerLength M) ≡ holds (safe map)
     unfolding bodyAt either mapAt demand
     map-read = rw (map-record, map-clear, eq-eqb _ _ map-end) (ap (λ (l : List ℕ). holds (safe l)) map-back)
 
   -- A trace.
-  module _ (s : ℕ) (xs : List TraceStep) (small : s < size M) (fits : Every (InRange M) xs) where
+  module _ (s : ℕ) (xs : List TraceStep) (small : s < size M) (fits : Every (InSystem M) xs) where
     abbrev traceSheet : List ℕ
     traceSheet = headerBytes M ++ (recordBytes 3 (little 2 s) ++ stepsBytes xs)
 
-    trace-record : isRecord traceSheet 9 3 2 ≡ true
+    trace-record : isRecord traceSheet (headerLength M) 3 2 ≡ true
     unfolding little
-    trace-record = record-there 3 (headerBytes M) (little 2 s) (stepsBytes xs) (omega arith) (omega arith) 9 header-length
+    trace-record = record-there 3 (headerBytes M) (little 2 s) (stepsBytes xs) (omega arith) (omega arith) (headerLength M) header-length
 
-    trace-start : twoAt traceSheet 15 ≡ s
+    pub trace-start : twoAt traceSheet (headerLength M + 6) ≡ s
     unfolding little twoAt
-    trace-start = two-there 3 (headerBytes M) (little 2 s) (stepsBytes xs) (omega arith) (omega arith) 9 header-length 0 15 refl ∙ two-little s (omega arith)
+    trace-start =
+        two-there 3 (headerBytes M) (little 2 s) (stepsBytes xs) (omega arith) (omega arith) (headerLength M) header-length 0 (headerLength M + 6) (omega arith)
+        ∙ two-little s (omega (arith, few .states))
 
-    trace-count : stepCount traceSheet 17 ≡ length xs
-    unfolding stepCount headerBytes recordBytes little
-    trace-count = omega (arith, steps-length xs)
-
-    trace-pre : length (headerBytes M ++ recordBytes 3 (little 2 s)) ≡ 17
+    pub trace-pre : length (headerBytes M ++ recordBytes 3 (little 2 s)) ≡ headerLength M + 8
     unfolding headerBytes recordBytes little
-    trace-pre = refl
+    trace-pre = omega (arith, length-append (headerBytes M) (recordBytes 3 (little 2 s)))
 
-    abbrev trace-there : StepsStand (size M) (M .commands) (M .stars) traceSheet 17 (length xs) × (stepsIn traceSheet 17 (length xs) ≡ xs)
+    pub trace-count : stepCount traceSheet (headerLength M + 8) ≡ length xs
+    unfolding stepCount
+    trace-count =
+        omega (
+          arith,
+          steps-length xs,
+          trace-pre,
+          ap length (append-assoc (headerBytes M) (recordBytes 3 (little 2 s)) (stepsBytes xs)),
+          length-append (headerBytes M ++ recordBytes 3 (little 2 s)) (stepsBytes xs),
+        )
+
+    abbrev trace-there : StepsStand (size M) (M .commands) (M .stars) traceSheet (headerLength M + 8) (length xs) × (stepsIn traceSheet (headerLength M + 8) (length xs) ≡ xs)
     trace-there =
-        subst (λ (l : List ℕ). StepsStand (size M) (M .commands) (M .stars) l 17 (length xs) × (stepsIn l 17 (length xs) ≡ xs))
+        subst (λ (l : List ℕ). StepsStand (size M) (M .commands) (M .stars) l (headerLength M + 8) (length xs) × (stepsIn l (headerLength M + 8) (length xs) ≡ xs))
         (append-assoc (headerBytes M) (recordBytes 3 (little 2 s)) (stepsBytes xs))
-        (steps-there xs (headerBytes M ++ recordBytes 3 (little 2 s)) 17 trace-pre fits)
+        (steps-there xs (headerBytes M ++ recordBytes 3 (little 2 s)) (headerLength M + 8) trace-pre fits)
 
-    pub trace-read : bodyAt (size M) (M .commands) (M .stars) traceSheet 9 ≡ holds (trace s xs)
+    pub trace-read : bodyAt (size M) (M .commands) (M .stars) traceSheet (headerLength M) ≡ holds (trace s xs)
     unfolding bodyAt either traceAt demand
     trace-read =
-        rw (kinds-apart _ 9 2 (mapLength (size M)) trace-record, trace-record, trace-start, lt-ltb s (size M) small, trace-count)
-        (steps-of (size M) (M .commands) (M .stars) traceSheet 17 (length xs) _ (trace-there .0) ∙ ap (λ (l : List TraceStep). holds (trace s l)) (trace-there .1))
+        rw (kinds-apart _ (headerLength M) 2 (mapLength (size M)) trace-record, trace-record, trace-start, lt-ltb s (size M) small, trace-count)
+        (steps-of (size M) (M .commands) (M .stars) traceSheet (headerLength M + 8) (length xs) _ (trace-there .0) ∙ ap (λ (l : List TraceStep). holds (trace s l)) (trace-there .1))
 
 map-short : (n : ℕ) (states : ℕ) → states ≤ 65536 → n ≡ mapLength states → n < 65536
 unfolding mapLength
 map-short n states h e = omega arith
 
-pub reads-written : (M : System) → size M ≤ 65536 → (b : List ℕ) (x : Sheet) → SheetSays M b x → sheetOf M b ≡ holds x
+pub reads-written : (M : System) → NumbersFit M → (b : List ℕ) (x : Sheet) → SheetSays M b x → sheetOf M b ≡ holds x
 unfolding sheetBytes mapBytes startBytes
 reads-written M few b (safe map) w =
-    let h : length (headerBytes M ++ recordBytes 2 map) ≤ 65536 = subst (λ (l : List ℕ). length l ≤ 65536) (w .bytes) (w .short) in
-    ap (sheetOf M) (w .bytes) ∙ header-read M few (recordBytes 2 map) h ∙ map-read M few map (w .fits .0) (w .fits .1) (map-short _ _ few (w .fits .0))
+    let e : b ≡ headerBytes M ++ (recordBytes 2 map ++ []) = w .bytes ∙ ap (λ (l : List ℕ). headerBytes M ++ l) (sym (append-nil (recordBytes 2 map))) in
+    ap (sheetOf M) e
+    ∙ header-read M few (recordBytes 2 map ++ []) (subst (λ (l : List ℕ). length l ≤ 65536) e (w .short))
+    ∙ map-read M few map (w .fits .0) (w .fits .1) (map-short _ _ (few .states) (w .fits .0))
 reads-written M few b (trace s xs) w =
-    let h : length (headerBytes M ++ (recordBytes 3 (little 2 s) ++ stepsBytes xs)) ≤ 65536 = subst (λ (l : List ℕ). length l ≤ 65536) (w .bytes) (w .short) in
-    ap (sheetOf M) (w .bytes) ∙ header-read M few (recordBytes 3 (little 2 s) ++ stepsBytes xs) h ∙ trace-read M few s xs (w .fits .0) (w .fits .1)
+    ap (sheetOf M) (w .bytes)
+    ∙ header-read M few (recordBytes 3 (little 2 s) ++ stepsBytes xs) (subst (λ (l : List ℕ). length l ≤ 65536) (w .bytes) (w .short))
+    ∙ trace-read M few s xs (w .fits .0) (w .fits .1)

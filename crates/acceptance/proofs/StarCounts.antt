@@ -41,8 +41,10 @@ module _ (states commands : ℕ) (f g : ℕ → ℕ) (same : (k : ℕ) → k < c
       ap (λ (r : Reading). either (isRecord b p 2 (mapLength states)) (λ _. mapAt states b p) λ _. either (isRecord b p 3 2) (λ _. r) λ _. refused 9 p)
       (trace-alike p)
 
-pub sheet-alike : (shared row commands : ℕ) (f g : ℕ → ℕ) → ((k : ℕ) → k < commands → f k ≡ g k) → (b : List ℕ) → sheetIn shared row commands f b ≡ sheetIn shared row commands g b
+pub sheet-alike : (bits kind : ℕ) (counts : List ℕ) (commands : ℕ) (f g : ℕ → ℕ) → ((k : ℕ) → k < commands → f k ≡ g k) → (b : List ℕ)
+    → sheetIn bits kind counts commands f b ≡ sheetIn bits kind counts commands g b
 unfolding sheetIn
-sheet-alike shared row commands f g same b =
-    ap (λ (r : Reading). demand (leb (length b) longest) 9 longest λ _. demand (isRecord b 0 1 3) 9 0 λ _. demand (sameCounts shared row commands b 6) 10 0 λ _. r)
-    (body-alike (2 ^ (shared + row)) commands f g same b 9)
+sheet-alike bits kind counts commands f g same b =
+    ap
+    (λ (r : Reading). demand (leb (length b) longest) 9 longest λ _. demand (isRecord b 0 kind (length counts)) 9 0 λ _. demand (sameCounts counts b 6) 10 0 λ _. r)
+    (body-alike (2 ^ bits) commands f g same b (6 + length counts))

@@ -12,14 +12,13 @@ use Rattle.notation.specs.Regular.{Regular, Every}
 use Rattle.meaning.specs.OneRow.{stateCount, starts, breaks, next, TraceStep, lastOf}
 use Rattle.meaning.specs.Evidence.{safe, trace, ConditionA, ConditionB, ConditionC, ConditionD, ConditionE, ConditionF, StepFits}
 use Rattle.acceptance.specs.Sheets.{System, size, systemOf}
-use Rattle.acceptance.specs.SheetTexts.{InRange, AreBytes, SheetSays, SheetRefused}
+use Rattle.acceptance.specs.SheetTexts.{NumbersFit, AreBytes, SheetSays, SheetRefused}
 use Rattle.acceptance.specs.Promises.{MapThat, TraceThat}
 use Rattle.meaning.specs.working.Conditions.{testA, testB, testC, testE}
 use Rattle.acceptance.specs.working.SheetReading.{Reading, refused, holds, sheetOf}
 use Rattle.acceptance.specs.working.Test.{mapAnswer, walk, traceAnswer, answerIn, judge, outcomeOf}
 use Rattle.acceptance.specs.declared.outcome.Outcome.{Outcome}
 use Rattle.acceptance.specs.declared.outcome.Outcome.the-variants.{SafeHolds, TraceHolds, FailsA, FailsB, FailsC, FailsD, FailsE, FailsF, Refused}
-use Rattle.meaning.proofs.Lists.{weaken}
 use Rattle.meaning.proofs.Accept.{all-tests-tell}
 use Rattle.evaluation.proofs.Powers.{pow-small}
 use Rattle.acceptance.proofs.SheetRefusals.{refused-iff-reads}
@@ -115,13 +114,6 @@ no-iff : (t : Bool) (P : Type 0) → (t ≡ true) ↔ P → (t ≡ false) ↔ (�
 no-iff true P i = (λ e. absurd (true≢false e), λ n. absurd (n (i .0 refl)))
 no-iff false P i = (λ e p. true≢false (sym (i .1 p)), λ n. refl)
 
-module _ (m : Model) where
-  pub steps-fit : (xs : List TraceStep) → Every (InRange (systemOf m)) xs → Every (StepFits m) xs
-  steps-fit xs f = weaken (InRange (systemOf m)) (StepFits m) (λ x h. record { command = h .command; word = h .word; after = h .after }) xs f
-
-  e-iff : (s : ℕ) (xs : List TraceStep) → Every (InRange (systemOf m)) xs → (testE (next m) s xs ≡ true) ↔ ConditionE m s xs
-  e-iff s xs f = all-tests-tell m .tellsE s xs (steps-fit xs f)
-
 -- What was read where an outcome was given.
 module _ (M : System) (b : List ℕ) where
   given : (r : Reading) → sheetOf M b ≡ r → outcomeOf M b ≡ judge M r
@@ -153,7 +145,7 @@ module _ (M : System) (b : List ℕ) where
     λ r. given (refused n p) (refused-iff-reads M b n p .0 r),
   )
 
-  module _ (few : size M ≤ 65536) (bytes : AreBytes b) where
+  module _ (few : NumbersFit M) (bytes : AreBytes b) where
     abbrev MapSaid : Outcome → Type 0
     MapSaid o = (map : List ℕ) × SheetSays M b (safe map) × (answerIn M (safe map) ≡ o)
 
@@ -181,7 +173,7 @@ module _ (M : System) (b : List ℕ) where
     trace-gives o s xs w e = given (holds (trace s xs)) (says-iff-reads M few b bytes (trace s xs) .0 w) ∙ e
 
 -- An outcome over the model's system, where it is known when contents have it.
-module _ (m : Model) (few : stateCount m ≤ 65536) (b : List ℕ) (bytes : AreBytes b) where
+module _ (m : Model) (few : NumbersFit (systemOf m)) (b : List ℕ) (bytes : AreBytes b) where
   map-iff : (o : Outcome) → kind o ≡ 0 → (P : List ℕ → Type 0)
       → ((map : List ℕ) → (answerIn (systemOf m) (safe map) ≡ o) ↔ P map) → (outcomeOf (systemOf m) b ≡ o) ↔ MapThat m b P
   map-iff o k P i = (
@@ -190,7 +182,7 @@ module _ (m : Model) (few : stateCount m ≤ 65536) (b : List ℕ) (bytes : AreB
   )
 
   trace-iff : (o : Outcome) → kind o ≡ 1 → (P : ℕ → List TraceStep → Type 0)
-      → ((s : ℕ) (xs : List TraceStep) → Every (InRange (systemOf m)) xs → (answerIn (systemOf m) (trace s xs) ≡ o) ↔ P s xs)
+      → ((s : ℕ) (xs : List TraceStep) → Every (StepFits m) xs → (answerIn (systemOf m) (trace s xs) ≡ o) ↔ P s xs)
       → (outcomeOf (systemOf m) b ≡ o) ↔ TraceThat m b P
   trace-iff o k P i = (
     λ q. let t = trace-from (systemOf m) b few bytes o k q (sheetOf (systemOf m) b) refl in (t .0, t .1, t .2, i (t .0) (t .1) (t .2 .fits .1) .0 (t .3)),
@@ -236,12 +228,12 @@ module _ (m : Model) (s : ℕ) (xs : List TraceStep) where
   trace-failed : (o : Outcome) → answerIn (systemOf m) (trace s xs) ≡ o → firstOf (starts m s) (testE (next m) s xs) (breaks m (lastOf s xs)) ≡ failed o
   trace-failed o e = sym (trace-answered (systemOf m) s xs .1) ∙ ap failed e
 
-  module _ (f : Every (InRange (systemOf m)) xs) where
+  module _ (f : Every (StepFits m) xs) where
     trace-holds-iff : (answerIn (systemOf m) (trace s xs) ≡ TraceHolds) ↔ (ConditionD m s × ConditionE m s xs × ConditionF m s xs)
     unfolding answerIn traceAnswer walk failed
     trace-holds-iff = (
-      λ e. let q = none-failed _ _ _ (trace-failed TraceHolds e) in (all-tests-tell m .tellsD s .0 (q .0), e-iff m s xs f .0 (q .1), all-tests-tell m .tellsF s xs .0 (q .2)),
-      λ t. rw (all-tests-tell m .tellsD s .1 (t .0), e-iff m s xs f .1 (t .1), all-tests-tell m .tellsF s xs .1 (t .2)),
+      λ e. let q = none-failed _ _ _ (trace-failed TraceHolds e) in (all-tests-tell m .tellsD s .0 (q .0), all-tests-tell m .tellsE s xs f .0 (q .1), all-tests-tell m .tellsF s xs .0 (q .2)),
+      λ t. rw (all-tests-tell m .tellsD s .1 (t .0), all-tests-tell m .tellsE s xs f .1 (t .1), all-tests-tell m .tellsF s xs .1 (t .2)),
     )
 
     fails-d-iff : (answerIn (systemOf m) (trace s xs) ≡ FailsD) ↔ (¬ (ConditionD m s))
@@ -254,19 +246,20 @@ module _ (m : Model) (s : ℕ) (xs : List TraceStep) where
     fails-e-iff : (answerIn (systemOf m) (trace s xs) ≡ FailsE) ↔ (ConditionD m s × ¬ (ConditionE m s xs))
     unfolding answerIn traceAnswer walk failed
     fails-e-iff = (
-      λ e. let q = second-failed _ _ _ (trace-failed FailsE e) in (all-tests-tell m .tellsD s .0 (q .0), no-iff _ _ (e-iff m s xs f) .0 (q .1)),
-      λ t. rw (all-tests-tell m .tellsD s .1 (t .0), no-iff _ _ (e-iff m s xs f) .1 (t .1)),
+      λ e. let q = second-failed _ _ _ (trace-failed FailsE e) in (all-tests-tell m .tellsD s .0 (q .0), no-iff _ _ (all-tests-tell m .tellsE s xs f) .0 (q .1)),
+      λ t. rw (all-tests-tell m .tellsD s .1 (t .0), no-iff _ _ (all-tests-tell m .tellsE s xs f) .1 (t .1)),
     )
 
     fails-f-iff : (answerIn (systemOf m) (trace s xs) ≡ FailsF) ↔ (ConditionD m s × ConditionE m s xs × ¬ (ConditionF m s xs))
     unfolding answerIn traceAnswer walk failed
     fails-f-iff = (
-      λ e. let q = third-failed _ _ _ (trace-failed FailsF e) in (all-tests-tell m .tellsD s .0 (q .0), e-iff m s xs f .0 (q .1), no-iff _ _ (all-tests-tell m .tellsF s xs) .0 (q .2)),
-      λ t. rw (all-tests-tell m .tellsD s .1 (t .0), e-iff m s xs f .1 (t .1), no-iff _ _ (all-tests-tell m .tellsF s xs) .1 (t .2)),
+      λ e. let q = third-failed _ _ _ (trace-failed FailsF e) in (all-tests-tell m .tellsD s .0 (q .0), all-tests-tell m .tellsE s xs f .0 (q .1), no-iff _ _ (all-tests-tell m .tellsF s xs) .0 (q .2)),
+      λ t. rw (all-tests-tell m .tellsD s .1 (t .0), all-tests-tell m .tellsE s xs f .1 (t .1), no-iff _ _ (all-tests-tell m .tellsF s xs) .1 (t .2)),
     )
 
-pub few-states : (m : Model) → Regular m → stateCount m ≤ 65536
-few-states m g = omega (arith, pow-small (m .sharedNames + m .rowNames) (stateCount m) (g .fewNames) refl)
+pub numbers-fit : (m : Model) → Regular m → NumbersFit (systemOf m)
+numbers-fit m g =
+    record { states = omega (arith, pow-small (m .sharedNames + m .rowNames) (stateCount m) (g .fewNames) refl); kind = omega arith; counts = omega arith }
 
 -- Each outcome for the bytes b, and exactly where it is given.
 pub record Given (m : Model) (b : List ℕ) : Type 0 where
@@ -283,7 +276,7 @@ pub record Given (m : Model) (b : List ℕ) : Type 0 where
 pub all-given : (m : Model) → Regular m → (b : List ℕ) → AreBytes b → Given m b
 unfolding kind
 all-given m g b bytes =
-    let few = few-states m g in
+    let few = numbers-fit m g in
     record {
       refusal = refusal-means (systemOf m) b;
       safeHolds = map-iff m few b bytes SafeHolds refl _ (safe-holds-iff m);

@@ -16,18 +16,16 @@ use Rattle.notation.specs.working.Answer.{answer}
 use Rattle.notation.proofs.Texts.{says-iff-answer}
 use Rattle.notation.proofs.Regular.{all-regular}
 use Rattle.meaning.specs.Meaning.{commandAt, idle}
-use Rattle.meaning.specs.OneRow.{starts, breaks, next}
 use Rattle.meaning.proofs.Lists.{every-at}
 use Rattle.reader.specs.declared.Answer.the-variants as A
 use Rattle.reader.specs.declared.Code.{Code}
 use Rattle.reader.specs.declared.Reading.{Reading}
 use Rattle.reader.specs.Read.{filled, codeOf, readingIn, readingOf}
 use Rattle.evaluation.specs.Promises.{Computes}
-use Rattle.evaluation.specs.working.CodeSystem.{startsIn, breaksIn, nextIn, Parted}
+use Rattle.evaluation.specs.working.CodeSystem.{starsIn, Sound}
 use Rattle.evaluation.proofs.FlatForms.{flat-computes, ends-counted, mapped}
 use Rattle.acceptance.specs.Sheets.{systemOf}
-use Rattle.acceptance.specs.working.Shapes.{starsIn, Few}
-use Rattle.acceptance.specs.working.Test.{outcomeOf, testIn, testOf, systemIn}
+use Rattle.acceptance.specs.working.Test.{outcomeOf, testIn, testOf, planOf, systemIn}
 use Rattle.acceptance.specs.declared.outcome.Outcome.{Outcome}
 use Rattle.acceptance.specs.declared.outcome.Outcome.the-variants.{Refused}
 use Rattle.acceptance.proofs.Alike.{outcome-alike}
@@ -37,16 +35,10 @@ filled-front : (n : ℕ) (l : List ℕ) → length l ≤ n → filled n l ≡ l 
 filled-front n l h =
     sets-eq l (replicate n 0) 0 (omega (arith, length-replicate {A = ℕ} n 0)) ∙ (let q : 0 + length l ≡ length l = omega arith in ap (λ (k : ℕ). l ++ drop k (replicate n 0)) q)
 
-stars-read : (stars : List ℕ) (k : ℕ) → getD stars k 0 ≡ starsIn stars k
-unfolding starsIn
-stars-read stars k = refl
-
 -- The flat form of a model in arrays is ready for the test, and the outcome over it is that of the model.
 pub record Flat (c : Code) (m : Model) : Type 0 where
-  pub fewNames : c .shared + c .row ≤ 12
-  pub few : Few (c .commands) (c .stars)
-  pub parted : Parted (c .commands) (c .ends)
-  pub same : (b : List ℕ) → outcomeOf (systemIn (c .shared) (c .row) (c .commands) (c .ops) (c .ends) (c .stars)) b ≡ outcomeOf (systemOf m) b
+  pub sound : Sound (planOf c)
+  pub same : (b : List ℕ) → outcomeOf (systemIn (c .ops) (planOf c)) b ≡ outcomeOf (systemOf m) b
 
 module _ (m : Model) (g : Regular m) (ns : List Name) where
   abbrev pub counts : List ℕ
@@ -74,26 +66,19 @@ module _ (m : Model) (g : Regular m) (ns : List Name) where
       (flat-computes m g (drop (length code) (replicate 2048 0)) (drop (length ends) (replicate 20 0))))
 
   pub flat : Flat (codeOf (layoutOf m) ns) m
-  unfolding codeOf layoutOf
+  unfolding codeOf layoutOf starsIn
   flat =
       record {
-        fewNames = g .fewNames;
-        few =
+        sound =
             record {
+              fewBits = g .fewNames;
+              named = omega arith;
               fewCommands = g .fewCommands;
-              fewStars = λ k h. omega (arith, counted k h, every-at (λ c. length (stars c) ≤ 8) (m .commands) idle k (g .fewStars) h);
+              fewStars = λ k h. omega (arith, star-count k h, every-at (λ c. length (stars c) ≤ 8) (m .commands) idle k (g .fewStars) h);
+              parted = flat-code .parted;
             };
-        parted = flat-code .parted;
-        same = λ b.
-            outcome-alike (m .sharedNames) (m .rowNames) (length (m .commands)) (starsIn (filled 16 counts)) (λ k. length (stars (commandAt m k)))
-            (startsIn (filled 2048 (layoutOf m .code)) (filled 20 (layoutOf m .ends))) (starts m)
-            (breaksIn (filled 2048 (layoutOf m .code)) (filled 20 (layoutOf m .ends))) (breaks m)
-            (nextIn (filled 2048 (layoutOf m .code)) (filled 20 (layoutOf m .ends)) (m .sharedNames + m .rowNames)) (next m)
-            star-count (flat-code .starts) (flat-code .breaks) (flat-code .next) b;
+        same = λ b. outcome-alike _ _ _ _ _ _ _ _ _ _ _ _ star-count (flat-code .starts) (flat-code .breaks) (flat-code .next) b;
       }
-    where
-      counted : (k : ℕ) → k < length (m .commands) → getD (filled 16 counts) k 0 ≡ length (stars (commandAt m k))
-      counted k h = stars-read (filled 16 counts) k ∙ star-count k h
 
 -- A text that was read says a model, whose flat form is the code and whose outcome is the test's.
 pub record Said (text : List ℕ) (c : Code) : Type 0 where
@@ -128,7 +113,7 @@ module _ (text b : List ℕ) (r : Reading) where
 
     -- The outcome for a text that was read is that over its code, and for one that was refused it is the refusal.
     pub test-read : A.Read ≡ r .answer → (o : Outcome)
-        → o ≡ outcomeOf (systemIn (r .code .shared) (r .code .row) (r .code .commands) (r .code .ops) (r .code .ends) (r .code .stars)) b → o ≡ testOf text b
+        → o ≡ outcomeOf (systemIn (r .code .ops) (planOf (r .code))) b → o ≡ testOf text b
     test-read h o q = let s = was-read h in q ∙ s .flat .same b ∙ s .test b
 
     pub test-refused : (n i : ℕ) → A.Refused n i ≡ r .answer → Refused n i ≡ testOf text b

@@ -2,13 +2,13 @@
 -- Assumes nothing.
 use Rattle.acceptance.specs.Promises.{UnusedTell}
 use mathlib.Core.Path.{_≡_, refl, sym, subst}
-use mathlib.Core.Bool.{Bool, true, false, cond}
+use mathlib.Core.Bool.{Bool, true, false, _||_}
 use Prim.Native.Nat.{ℕ, zero, suc, _+_, _-_, _*_, _/_, _%_, _^_, _<_, _≤_}
 use native.Mathlib.Omega.{arith}
 use native.Mathlib.Nat.{div-lt-iff-lt-mul, pow-suc, lt-of-lt-of-le, div-eq-of-lt}
 use lib.Pow.{pow-pos, pow-mono}
-use lib.Dec.{ltb}
-use borrow.Author.Tests.{eqb-false, lt-ltb, ltb-true}
+use lib.Dec.{leb, ltb}
+use borrow.Author.Tests.{eqb-false, lt-ltb, ltb-true, lt-leb, leb-false}
 use Rattle.meaning.specs.Bits.{bit}
 use Rattle.acceptance.specs.SheetTexts.{unusedClear}
 
@@ -36,16 +36,16 @@ down (suc d) n k h f =
 
 pub unused-bits : UnusedTell
 unfolding unusedClear
-unused-bits states byte h = (to, of (ltb states 8) refl)
+unused-bits states byte h = (to, of (leb 8 states) refl)
   where
     to : unusedClear states byte ≡ true → (j : ℕ) → states ≤ j → j < 8 → bit byte j ≡ false
-    to e j a c = low-bits byte states (ltb-true _ _ (subst (λ (t : Bool). cond t (ltb byte (2 ^ states)) true ≡ true) (lt-ltb states 8 (omega arith)) e)) j a
+    to e j a c = low-bits byte states (ltb-true _ _ (subst (λ (t : Bool). t || ltb byte (2 ^ states) ≡ true) (lt-leb 8 states (omega arith)) e)) j a
 
     few : states < 8 → ((j : ℕ) → states ≤ j → j < 8 → bit byte j ≡ false) → byte < 2 ^ states
     few l f =
         let e : (8 - states) + states ≡ 8 = omega arith in
         down (8 - states) byte states (subst (λ (x : ℕ). byte < 2 ^ x) (sym e) h) (λ j a c. f j a (omega arith))
 
-    of : (t : Bool) → ltb states 8 ≡ t → ((j : ℕ) → states ≤ j → j < 8 → bit byte j ≡ false) → unusedClear states byte ≡ true
-    of true e f = rw e (lt-ltb _ _ (few (ltb-true _ _ e) f))
-    of false e f = rw e
+    of : (t : Bool) → leb 8 states ≡ t → ((j : ℕ) → states ≤ j → j < 8 → bit byte j ≡ false) → unusedClear states byte ≡ true
+    of true e f = rw e
+    of false e f = rw e (lt-ltb _ _ (few (leb-false _ _ e) f))

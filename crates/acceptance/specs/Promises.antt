@@ -10,9 +10,9 @@ use Rattle.notation.specs.Texts.{TextSays, TextRefused}
 use Rattle.meaning.specs.Bits.{bit}
 use Rattle.meaning.specs.OneRow.{TraceStep}
 use Rattle.meaning.specs.Evidence.{Sheet, safe, trace, Passes, Promise, ConditionA, ConditionB, ConditionC, ConditionD, ConditionE, ConditionF}
-use Rattle.acceptance.specs.Sheets.{System, size, systemOf}
+use Rattle.acceptance.specs.Sheets.{System, systemOf}
 use Rattle.acceptance.specs.Outcomes.{Wording, words, letter, returned, wordingOf}
-use Rattle.acceptance.specs.SheetTexts.{longest, unusedClear, AreBytes, SheetSays, SheetRefused}
+use Rattle.acceptance.specs.SheetTexts.{longest, unusedClear, NumbersFit, AreBytes, SheetSays, SheetRefused}
 use Rattle.acceptance.specs.working.SheetReading.{refused, holds, sheetOf}
 use Rattle.acceptance.specs.working.Test.{testOf}
 
@@ -22,7 +22,7 @@ UnusedTell = (states byte : ℕ) → byte < 256 → (unusedClear states byte ≡
 
 -- The reading finds contents exactly where the bytes say them.
 abbrev pub SaysIffReads : Type 0
-SaysIffReads = (M : System) → size M ≤ 65536 → (b : List ℕ) → AreBytes b → (x : Sheet) → SheetSays M b x ↔ (sheetOf M b ≡ holds x)
+SaysIffReads = (M : System) → NumbersFit M → (b : List ℕ) → AreBytes b → (x : Sheet) → SheetSays M b x ↔ (sheetOf M b ≡ holds x)
 
 -- The reading refuses exactly with the first refusal.
 abbrev pub RefusedIffReads : Type 0
@@ -36,7 +36,7 @@ pub record SheetAnswered (M : System) (b : List ℕ) : Type 0 where
   pub notBoth : (x : Sheet) (n p : ℕ) → SheetSays M b x → ¬ (SheetRefused M b n p)
 
 abbrev pub OneAnswer : Type 0
-OneAnswer = (M : System) → size M ≤ 65536 → (b : List ℕ) → AreBytes b → SheetAnswered M b
+OneAnswer = (M : System) → NumbersFit M → (b : List ℕ) → AreBytes b → SheetAnswered M b
 
 -- What the test answers for a text and a sheet.
 abbrev pub answerTo : List ℕ → List ℕ → Wording

@@ -1,14 +1,14 @@
 -- Which bytes say which contents of a sheet, and which first refusal they have if they say none.
 -- Assumes nothing.
 use mathlib.Core.Path.{_≡_}
-use mathlib.Core.Bool.{Bool, true, false, cond, _&&_}
-use mathlib.Core.List.{List}
+use mathlib.Core.Bool.{Bool, true, false, _&&_, _||_}
+use mathlib.Core.List.{List, [], _∷_}
 use Prim.Native.Nat.{ℕ, _+_, _*_, _^_, _<_, _≤_}
 use lib.Dec.{eqb, leb, ltb}
 use lib.ListN.{length, getD}
 use Rattle.notation.specs.Regular.{Every}
 use Rattle.meaning.specs.OneRow.{TraceStep}
-use Rattle.meaning.specs.Evidence.{Sheet, safe, trace}
+use Rattle.meaning.specs.Evidence.{Sheet, safe, trace, InRange}
 use Rattle.acceptance.specs.Sheets.{System, size, mapLength, sheetBytes}
 
 -- The most bytes that a sheet may have.
@@ -26,13 +26,14 @@ fourAt b p = twoAt b p + 65536 * twoAt b (p + 2)
 unfoldable pub isRecord : List ℕ → ℕ → ℕ → ℕ → Bool
 isRecord b p kind n = leb (p + 6 + n) (length b) && (eqb (fourAt b p) n && eqb (twoAt b (p + 4)) kind)
 
--- Whether the counts in a header's payload at p are these.
-unfoldable pub sameCounts : ℕ → ℕ → ℕ → List ℕ → ℕ → Bool
-sameCounts shared row commands b p = eqb (getD b p 0) shared && (eqb (getD b (p + 1) 0) row && eqb (getD b (p + 2) 0) commands)
+-- Whether the bytes from p on begin with these counts.
+unfoldable pub sameCounts : List ℕ → List ℕ → ℕ → Bool
+sameCounts [] b p = true
+sameCounts (n ∷ ns) b p = eqb (getD b p 0) n && sameCounts ns b (p + 1)
 
 -- Whether the bits that no state uses are 0. Only a map of fewer than eight states has such bits, in its one byte.
 unfoldable pub unusedClear : ℕ → ℕ → Bool
-unusedClear states byte = cond (ltb states 8) (ltb byte (2 ^ states)) true
+unusedClear states byte = leb 8 states || ltb byte (2 ^ states)
 
 -- The step that a payload at p gives.
 unfoldable pub stepIn : List ℕ → ℕ → TraceStep
@@ -43,21 +44,25 @@ unfoldable pub stepFits : ℕ → ℕ → (ℕ → ℕ) → TraceStep → Bool
 stepFits states commands stars x = ltb (x .command) commands && (ltb (x .word) (2 ^ stars (x .command)) && ltb (x .after) states)
 
 -- The same as a statement.
-pub record InRange (M : System) (x : TraceStep) : Type 0 where
-  pub command : x .command < M .commands
-  pub word : x .word < 2 ^ M .stars (x .command)
-  pub after : x .after < size M
+abbrev pub InSystem : System → TraceStep → Type 0
+InSystem M x = InRange (size M) (M .commands) (λ k. 2 ^ M .stars k) x
 
 -- The contents can stand in a sheet for the model: a map has its length and clear unused bits, a trace has its numbers in range.
 abbrev pub SheetFits : System → Sheet → Type 0
 SheetFits M (safe map) = (length map ≡ mapLength (size M)) × (unusedClear (size M) (getD map 0 0) ≡ true)
-SheetFits M (trace s xs) = (s < size M) × Every (InRange M) xs
+SheetFits M (trace s xs) = (s < size M) × Every (InSystem M) xs
 
 -- The bytes say these contents: they are the contents' bytes, not too many, and the contents fit the model.
 pub record SheetSays (M : System) (b : List ℕ) (x : Sheet) : Type 0 where
   pub bytes : b ≡ sheetBytes M x
   pub short : length b ≤ longest
   pub fits : SheetFits M x
+
+-- The numbers of a system fit the fields that a sheet has for them.
+pub record NumbersFit (M : System) : Type 0 where
+  pub states : size M ≤ 65536
+  pub kind : M .kind < 65536
+  pub counts : length (M .counts) < 65536
 
 -- All the numbers of the list are bytes.
 abbrev pub AreBytes : List ℕ → Type 0
@@ -70,7 +75,7 @@ pub data Stage : Type 0 where
 -- The record at p may stand there at this stage: its kind, its length and its unused bits are as they must be.
 -- It tells whether its numbers are in range, where the next record stands, and the stage there.
 pub data Allowed (M : System) (b : List ℕ) (p : ℕ) : Stage → Bool → ℕ → Stage → Type 0 where
-  header : isRecord b p 1 3 ≡ true → Allowed M b p atHeader (sameCounts (M .shared) (M .row) (M .commands) b (p + 6)) (p + 9) atBody
+  header : isRecord b p (M .kind) (length (M .counts)) ≡ true → Allowed M b p atHeader (sameCounts (M .counts) b (p + 6)) (p + 6 + length (M .counts)) atBody
   map : isRecord b p 2 (mapLength (size M)) ≡ true → unusedClear (size M) (getD b (p + 6) 0) ≡ true → Allowed M b p atBody true (p + 6 + mapLength (size M)) atEnd
   start : isRecord b p 3 2 ≡ true → Allowed M b p atBody (ltb (twoAt b (p + 6)) (size M)) (p + 8) atStep
   step : isRecord b p 4 4 ≡ true → Allowed M b p atStep (stepFits (size M) (M .commands) (M .stars) (stepIn b (p + 6))) (p + 10) atStep

@@ -2,17 +2,19 @@
 -- Assumes nothing.
 use mathlib.Core.Bool.{Bool}
 use mathlib.Core.List.{List, [], _∷_, _++_}
-use Prim.Native.Nat.{ℕ, zero, suc, _+_, _/_, _%_, _^_, max}
+use Prim.Native.Nat.{ℕ, zero, suc, _+_, _*_, _/_, _%_, _^_, max}
 use lib.ListN.{length}
 use Rattle.notation.specs.Model.{Model, stars}
 use Rattle.meaning.specs.Meaning.{commandAt}
 use Rattle.meaning.specs.OneRow.{starts, breaks, next, TraceStep}
 use Rattle.meaning.specs.Evidence.{Sheet, safe, trace}
 
--- All that the test and the search see of a model: how many names, commands and stars it has, and its table of one row on numbers.
+-- All that the test and the search see of a model: how many bits a state has, the kind and the counts of a sheet's header,
+-- how many commands and stars there are, and the table of one row on numbers.
 pub record System : Type 0 where
-  pub shared : ℕ
-  pub row : ℕ
+  pub bits : ℕ
+  pub kind : ℕ
+  pub counts : List ℕ
   pub commands : ℕ
   pub stars : ℕ → ℕ
   pub starts : ℕ → Bool
@@ -21,20 +23,28 @@ pub record System : Type 0 where
 
 -- How many states it has.
 abbrev pub size : System → ℕ
-size M = 2 ^ (M .shared + M .row)
+size M = 2 ^ M .bits
 
--- The system of a model.
+-- The system of a model. Its header has kind 1 and counts shared names, row names and commands.
 abbrev pub systemOf : Model → System
 systemOf m =
     record {
-      shared = m .sharedNames;
-      row = m .rowNames;
+      bits = m .sharedNames + m .rowNames;
+      kind = 1;
+      counts = m .sharedNames ∷ m .rowNames ∷ length (m .commands) ∷ [];
       commands = length (m .commands);
       stars = λ k. length (stars (commandAt m k));
       starts = starts m;
       breaks = breaks m;
       step = next m;
     }
+
+-- How many bytes a header has, and how many the longest sheet that the search writes: after the header a start state and a step for each state but one.
+abbrev pub headerLength : System → ℕ
+headerLength M = 6 + length (M .counts)
+
+abbrev pub sheetRoom : System → ℕ
+sheetRoom M = 4 + length (M .counts) + 10 * size M
 
 -- A number in so many bytes, little-endian: the lowest byte comes first.
 unfoldable pub little : ℕ → ℕ → List ℕ
@@ -45,9 +55,9 @@ little (suc k) n = n % 256 ∷ little k (n / 256)
 unfoldable pub recordBytes : ℕ → List ℕ → List ℕ
 recordBytes kind payload = little 4 (length payload) ++ little 2 kind ++ payload
 
--- Kind 1, the header: the counts of shared names, row names and commands.
+-- The header.
 unfoldable pub headerBytes : System → List ℕ
-headerBytes M = recordBytes 1 (M .shared ∷ M .row ∷ M .commands ∷ [])
+headerBytes M = recordBytes (M .kind) (M .counts)
 
 -- Kind 2, the map.
 unfoldable pub mapBytes : List ℕ → List ℕ

@@ -1,8 +1,13 @@
 // Numbers in a sheet's bytes, and how long a map is: what the crates above need of sheets too.
 ghost use mathlib.Core.Path.{_≡_};
-ghost use Prim.Native.Nat.{_+_, _<_, _≤_};
+ghost use Prim.Native.Nat.{_+_, _*_, _<_, _≤_};
+ghost use lib.ListN.{length};
 ghost use Rattle.acceptance.specs.Sheets.{mapLength};
 ghost use Rattle.acceptance.specs.SheetTexts.{twoAt, AreBytes};
+ghost use Rattle.acceptance.specs.working.SheetReading.{stepCount};
+
+// How many bytes a header has: six, and three counts.
+pub const HEADER: usize = 9;
 
 // That what was handed over are bytes: to have read one of them tells it of all.
 pub fn bytes_known(b: &[u8])
@@ -38,4 +43,12 @@ pub fn map_length(states: usize) -> usize
         return 1;
     }
     n
+}
+
+// How many records of steps are begun from p on.
+pub fn step_count(b: &[u8], p: usize) -> usize
+    requires { do ⌜ (p ≤ (← ⟦b.len()⟧)) × ((← ⟦b.len()⟧) ≤ 65536) ⌝ }
+    ensures { λ r. ⌜ (r ≡ stepCount (now (b .entry)) p) × (p + 10 * r < length (now (b .entry)) + 10) ⌝ }
+{
+    (b.len() + 9 - p) / 10
 }

@@ -6,12 +6,12 @@ mod sheets;
 mod traces;
 
 ghost use mathlib.Core.Path.{_≡_};
-ghost use Prim.Native.Nat.{_+_, _≤_};
-ghost use Rattle.evaluation.specs.working.CodeSystem.{Parted};
+ghost use Rattle.evaluation.specs.working.CodeSystem.{Sound};
 ghost use Rattle.acceptance.specs.SheetTexts.{AreBytes};
-ghost use Rattle.acceptance.specs.working.Shapes.{Few};
 ghost use Rattle.acceptance.specs.working.Test.{systemIn, outcomeOf, testOf};
 use evaluation::numbers::power;
+use evaluation::plan::Plan;
+use fields::HEADER;
 use fields::bytes_known;
 use fields::map_length;
 use maps::test_map;
@@ -23,33 +23,15 @@ use sheets::shape_of;
 use traces::test_trace;
 
 // The outcome for a sheet and the flat form of a model.
-fn test_sheet(
-    b: &[u8],
-    shared: usize,
-    row: usize,
-    commands: usize,
-    ops: &[u16; 2048],
-    ends: &[u16; 20],
-    stars: &[u16; 16],
-) -> Outcome
-    requires { ⌜ (shared + row ≤ 12) × Few commands (now stars) × Parted commands (now ends) ⌝ }
-    ensures { λ r. ⌜ r ≡ outcomeOf (systemIn shared row commands (now (ops .entry)) (now (ends .entry)) (now (stars .entry))) (now (b .entry)) ⌝ }
+fn test_sheet(b: &[u8], ops: &[u16; 2048], plan: Plan) -> Outcome
+    requires { ⌜ Sound plan ⌝ }
+    ensures { λ r. ⌜ r ≡ outcomeOf (systemIn (now (ops .entry)) plan) (now (b .entry)) ⌝ }
 {
-    let bits = shared + row;
-    let shape = shape_of(b, shared, row, commands, stars);
+    let shape = shape_of(b, plan);
     match shape {
         Shape::Bad(n, p) => Outcome::Refused(n, p),
-        Shape::Map => test_map(
-            b,
-            15,
-            map_length(power(bits)),
-            bits,
-            commands,
-            ops,
-            ends,
-            stars,
-        ),
-        Shape::Trace => test_trace(b, 9, bits, commands, ops, ends, stars),
+        Shape::Map => test_map(b, HEADER + 6, map_length(power(plan.bits)), ops, plan),
+        Shape::Trace => test_trace(b, HEADER, ops, plan),
     }
 }
 
@@ -67,14 +49,17 @@ pub fn test(text: &[u8], sheet: &[u8]) -> Outcome
     let answer = told.answer;
     match answer {
         Answer::Refused(n, p) => Outcome::Refused(n, p),
-        Answer::Read => test_sheet(
-            sheet,
-            told.shared,
-            told.row,
-            told.commands,
-            &ops,
-            &ends,
-            &stars,
-        ),
+        Answer::Read => {
+            let bits = told.shared + told.row;
+            let plan = Plan {
+                ends: ends,
+                stars: stars,
+                shared: told.shared,
+                row: told.row,
+                commands: told.commands,
+                bits: bits,
+            };
+            test_sheet(sheet, &ops, plan)
+        }
     }
 }

@@ -5,19 +5,19 @@ ghost use lib.Seq.{slice};
 ghost use Rattle.meaning.specs.Evidence.{inMap};
 ghost use Rattle.meaning.specs.working.Conditions.{every, testA, testB, testC, closedAt};
 ghost use Rattle.evaluation.specs.working.Batches.{afterOf};
-ghost use Rattle.evaluation.specs.working.CodeSystem.{startsIn, breaksIn, nextIn, Parted};
+ghost use Rattle.evaluation.specs.working.CodeSystem.{startsIn, breaksIn, nextIn, starsIn, Sound};
 ghost use Rattle.acceptance.specs.working.SheetReading.{mapIn};
-ghost use Rattle.acceptance.specs.working.Shapes.{starsIn, Few};
-ghost use Rattle.acceptance.specs.working.Test.{mapAnswer};
+ghost use Rattle.acceptance.specs.working.Test.{systemIn, mapAnswer};
 use crate::fields::wide;
 use crate::outcome::Outcome;
 use evaluation::lanes::fill;
 use evaluation::lanes::pick;
-use evaluation::numbers::count;
 use evaluation::numbers::power;
-use evaluation::one_row::begin;
 use evaluation::one_row::breaks;
+use evaluation::one_row::segment;
 use evaluation::one_row::starts;
+use evaluation::one_row::word_count;
+use evaluation::plan::Plan;
 
 // Whether state s is a member.
 fn in_map(b: &[u8], p: usize, n: usize, s: usize) -> bool
@@ -29,21 +29,13 @@ fn in_map(b: &[u8], p: usize, n: usize, s: usize) -> bool
 }
 
 // A: every start state is a member.
-fn holds_a(
-    b: &[u8],
-    p: usize,
-    n: usize,
-    bits: usize,
-    commands: usize,
-    ops: &[u16; 2048],
-    ends: &[u16; 20],
-) -> bool
-    requires { do ⌜ (p + n ≤ (← ⟦b.len()⟧)) × (2 ^ bits ≤ 8 * n) × (bits ≤ 12) × (commands ≤ 16) × Parted commands (now ends) ⌝ }
-    ensures { λ r. ⌜ r ≡ testA (2 ^ bits) (startsIn (now (ops .entry)) (now (ends .entry))) (mapIn (now (b .entry)) p n) ⌝ }
+fn holds_a(b: &[u8], p: usize, n: usize, ops: &[u16; 2048], plan: Plan) -> bool
+    requires { do ⌜ (p + n ≤ (← ⟦b.len()⟧)) × (2 ^ plan .bits ≤ 8 * n) × Sound plan ⌝ }
+    ensures { λ r. ⌜ r ≡ testA (2 ^ plan .bits) (startsIn (now (ops .entry)) (plan .ends)) (mapIn (now (b .entry)) p n) ⌝ }
 {
-    let states = power(bits);
+    let states = power(plan.bits);
     'states: for s in 0..states {
-        if starts(ops, ends, commands, s) {
+        if starts(ops, plan, s) {
             let member = in_map(b, p, n, s);
             if !member {
                 return false;
@@ -54,22 +46,14 @@ fn holds_a(
 }
 
 // B: no member violates `keep`.
-fn holds_b(
-    b: &[u8],
-    p: usize,
-    n: usize,
-    bits: usize,
-    commands: usize,
-    ops: &[u16; 2048],
-    ends: &[u16; 20],
-) -> bool
-    requires { do ⌜ (p + n ≤ (← ⟦b.len()⟧)) × (2 ^ bits ≤ 8 * n) × (bits ≤ 12) × (commands ≤ 16) × Parted commands (now ends) ⌝ }
-    ensures { λ r. ⌜ r ≡ testB (2 ^ bits) (breaksIn (now (ops .entry)) (now (ends .entry))) (mapIn (now (b .entry)) p n) ⌝ }
+fn holds_b(b: &[u8], p: usize, n: usize, ops: &[u16; 2048], plan: Plan) -> bool
+    requires { do ⌜ (p + n ≤ (← ⟦b.len()⟧)) × (2 ^ plan .bits ≤ 8 * n) × Sound plan ⌝ }
+    ensures { λ r. ⌜ r ≡ testB (2 ^ plan .bits) (breaksIn (now (ops .entry)) (plan .ends)) (mapIn (now (b .entry)) p n) ⌝ }
 {
-    let states = power(bits);
+    let states = power(plan.bits);
     'states: for s in 0..states {
         if in_map(b, p, n, s) {
-            if breaks(ops, ends, commands, s) {
+            if breaks(ops, plan, s) {
                 return false;
             }
         }
@@ -107,25 +91,24 @@ fn words_stay(
 }
 
 // Whether all commands under all words lead from s to members.
-fn closed_at(
-    b: &[u8],
-    p: usize,
-    n: usize,
-    bits: usize,
-    commands: usize,
-    ops: &[u16; 2048],
-    ends: &[u16; 20],
-    stars: &[u16; 16],
-    s: usize,
-) -> bool
-    requires { do ⌜ (p + n ≤ (← ⟦b.len()⟧)) × (2 ^ bits ≤ 8 * n) × (bits ≤ 12) × (s < 2 ^ bits) × Few commands (now stars) × Parted commands (now ends) ⌝ }
-    ensures { λ r. ⌜ r ≡ closedAt commands (starsIn (now (stars .entry))) (nextIn (now (ops .entry)) (now (ends .entry)) bits) (mapIn (now (b .entry)) p n) s ⌝ }
+fn closed_at(b: &[u8], p: usize, n: usize, ops: &[u16; 2048], plan: Plan, s: usize) -> bool
+    requires { do ⌜ (p + n ≤ (← ⟦b.len()⟧)) × (2 ^ plan .bits ≤ 8 * n) × (s < 2 ^ plan .bits) × Sound plan ⌝ }
+    ensures { λ r. ⌜ r ≡ closedAt (plan .commands) (starsIn (plan .stars)) (nextIn (now (ops .entry)) (plan .ends) (plan .bits)) (mapIn (now (b .entry)) p n) s ⌝ }
 {
+    let commands = plan.commands;
     'commands: for k in 0..commands {
-        let from = begin(ends, 4 + k);
-        let to = count(ends[4 + k]);
-        let words = power(count(stars[k]));
-        let stay = words_stay(b, p, n, bits, ops, from, to, words, s);
+        let code = segment(plan, 4 + k);
+        let stay = words_stay(
+            b,
+            p,
+            n,
+            plan.bits,
+            ops,
+            code.from,
+            code.to,
+            word_count(plan, k),
+            s,
+        );
         if !stay {
             return false;
         }
@@ -134,23 +117,14 @@ fn closed_at(
 }
 
 // C: no step leads out of the map.
-fn holds_c(
-    b: &[u8],
-    p: usize,
-    n: usize,
-    bits: usize,
-    commands: usize,
-    ops: &[u16; 2048],
-    ends: &[u16; 20],
-    stars: &[u16; 16],
-) -> bool
-    requires { do ⌜ (p + n ≤ (← ⟦b.len()⟧)) × (2 ^ bits ≤ 8 * n) × (bits ≤ 12) × Few commands (now stars) × Parted commands (now ends) ⌝ }
-    ensures { λ r. ⌜ r ≡ testC (2 ^ bits) commands (starsIn (now (stars .entry))) (nextIn (now (ops .entry)) (now (ends .entry)) bits) (mapIn (now (b .entry)) p n) ⌝ }
+fn holds_c(b: &[u8], p: usize, n: usize, ops: &[u16; 2048], plan: Plan) -> bool
+    requires { do ⌜ (p + n ≤ (← ⟦b.len()⟧)) × (2 ^ plan .bits ≤ 8 * n) × Sound plan ⌝ }
+    ensures { λ r. ⌜ r ≡ testC (2 ^ plan .bits) (plan .commands) (starsIn (plan .stars)) (nextIn (now (ops .entry)) (plan .ends) (plan .bits)) (mapIn (now (b .entry)) p n) ⌝ }
 {
-    let states = power(bits);
+    let states = power(plan.bits);
     'states: for s in 0..states {
         if in_map(b, p, n, s) {
-            let closed = closed_at(b, p, n, bits, commands, ops, ends, stars, s);
+            let closed = closed_at(b, p, n, ops, plan, s);
             if !closed {
                 return false;
             }
@@ -160,28 +134,19 @@ fn holds_c(
 }
 
 // The outcome for a map: the first of the three that fails, if one does.
-pub fn test_map(
-    b: &[u8],
-    p: usize,
-    n: usize,
-    bits: usize,
-    commands: usize,
-    ops: &[u16; 2048],
-    ends: &[u16; 20],
-    stars: &[u16; 16],
-) -> Outcome
-    requires { do ⌜ (p + n ≤ (← ⟦b.len()⟧)) × (2 ^ bits ≤ 8 * n) × (bits ≤ 12) × Few commands (now stars) × Parted commands (now ends) ⌝ }
-    ensures { λ r. ⌜ r ≡ mapAnswer (2 ^ bits) commands (starsIn (now (stars .entry))) (startsIn (now (ops .entry)) (now (ends .entry))) (breaksIn (now (ops .entry)) (now (ends .entry))) (nextIn (now (ops .entry)) (now (ends .entry)) bits) (mapIn (now (b .entry)) p n) ⌝ }
+pub fn test_map(b: &[u8], p: usize, n: usize, ops: &[u16; 2048], plan: Plan) -> Outcome
+    requires { do ⌜ (p + n ≤ (← ⟦b.len()⟧)) × (2 ^ plan .bits ≤ 8 * n) × Sound plan ⌝ }
+    ensures { λ r. ⌜ r ≡ mapAnswer (systemIn (now (ops .entry)) plan) (mapIn (now (b .entry)) p n) ⌝ }
 {
-    let starts_in = holds_a(b, p, n, bits, commands, ops, ends);
+    let starts_in = holds_a(b, p, n, ops, plan);
     if !starts_in {
         return Outcome::FailsA;
     }
-    let kept = holds_b(b, p, n, bits, commands, ops, ends);
+    let kept = holds_b(b, p, n, ops, plan);
     if !kept {
         return Outcome::FailsB;
     }
-    let closed = holds_c(b, p, n, bits, commands, ops, ends, stars);
+    let closed = holds_c(b, p, n, ops, plan);
     if !closed {
         return Outcome::FailsC;
     }

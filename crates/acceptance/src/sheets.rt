@@ -1,15 +1,19 @@
 // A sheet's bytes: whether they are refused with 9 or 10, and if not, which kind of sheet they are.
 ghost use mathlib.Core.Path.{_≡_};
 ghost use Prim.Native.Nat.{_+_, _<_, _≤_};
+ghost use Rattle.evaluation.specs.working.CodeSystem.{starsIn, Sound};
 ghost use Rattle.acceptance.specs.Sheets.{mapLength};
 ghost use Rattle.acceptance.specs.SheetTexts.{isRecord, sameCounts, unusedClear, stepIn, stepFits};
-ghost use Rattle.acceptance.specs.working.SheetReading.{mapAt, traceAt, bodyAt, sheetIn};
-ghost use Rattle.acceptance.specs.working.Shapes.{shapeOf, starsIn, Few};
+ghost use Rattle.acceptance.specs.working.SheetReading.{mapAt, traceAt, bodyAt, countsIn, sheetBy};
+ghost use Rattle.acceptance.specs.working.Shapes.{shapeOf};
+use crate::fields::HEADER;
 use crate::fields::map_length;
+use crate::fields::step_count;
 use crate::fields::two_at;
 use crate::fields::wide;
-use evaluation::numbers::count;
 use evaluation::numbers::power;
+use evaluation::one_row::word_count;
+use evaluation::plan::Plan;
 
 // The most bytes that a sheet may have.
 const MAX_SHEET: usize = 65536;
@@ -38,17 +42,17 @@ fn is_record(b: &[u8], p: usize, kind: usize, n: usize) -> bool
 }
 
 // Whether the header's counts are these.
-fn same_counts(b: &[u8], shared: usize, row: usize, commands: usize) -> bool
+fn same_counts(b: &[u8], plan: Plan) -> bool
     requires { do ⌜ 9 ≤ (← ⟦b.len()⟧) ⌝ }
-    ensures { λ r. ⌜ r ≡ sameCounts shared row commands (now (b .entry)) 6 ⌝ }
+    ensures { λ r. ⌜ r ≡ sameCounts (countsIn plan) (now (b .entry)) 6 ⌝ }
 {
-    if wide(b[6]) != shared {
+    if wide(b[6]) != plan.shared {
         return false;
     }
-    if wide(b[7]) != row {
+    if wide(b[7]) != plan.row {
         return false;
     }
-    wide(b[8]) == commands
+    wide(b[8]) == plan.commands
 }
 
 // Whether the bits of a map's first byte that no state uses are 0.
@@ -78,16 +82,16 @@ fn map_shape(b: &[u8], states: usize, p: usize, n: usize) -> Shape
 }
 
 // Whether the numbers of the step whose payload stands at p are in range.
-fn step_fits(b: &[u8], states: usize, commands: usize, stars: &[u16; 16], p: usize) -> bool
-    requires { do ⌜ (p + 4 ≤ (← ⟦b.len()⟧)) × Few commands (now stars) ⌝ }
-    ensures { λ r. ⌜ r ≡ stepFits states commands (starsIn (now (stars .entry))) (stepIn (now (b .entry)) p) ⌝ }
+fn step_fits(b: &[u8], states: usize, plan: Plan, p: usize) -> bool
+    requires { do ⌜ (p + 4 ≤ (← ⟦b.len()⟧)) × Sound plan ⌝ }
+    ensures { λ r. ⌜ r ≡ stepFits states (plan .commands) (starsIn (plan .stars)) (stepIn (now (b .entry)) p) ⌝ }
 {
     let c = wide(b[p]);
-    if commands <= c {
+    if plan.commands <= c {
         return false;
     }
     let w = wide(b[p + 1]);
-    let n = power(count(stars[c]));
+    let n = word_count(plan, c);
     if n <= w {
         return false;
     }
@@ -95,21 +99,21 @@ fn step_fits(b: &[u8], states: usize, commands: usize, stars: &[u16; 16], p: usi
 }
 
 // The sheet from its start state on, whose record stands at p.
-fn trace_shape(b: &[u8], states: usize, commands: usize, stars: &[u16; 16], p: usize) -> Shape
-    requires { do ⌜ (p + 8 ≤ (← ⟦b.len()⟧)) × ((← ⟦b.len()⟧) ≤ 65536) × Few commands (now stars) ⌝ }
-    ensures { λ r. ⌜ r ≡ shapeOf (traceAt states commands (starsIn (now (stars .entry))) (now (b .entry)) p) ⌝ }
+fn trace_shape(b: &[u8], states: usize, plan: Plan, p: usize) -> Shape
+    requires { do ⌜ (p + 8 ≤ (← ⟦b.len()⟧)) × ((← ⟦b.len()⟧) ≤ 65536) × Sound plan ⌝ }
+    ensures { λ r. ⌜ r ≡ shapeOf (traceAt states (plan .commands) (starsIn (plan .stars)) (now (b .entry)) p) ⌝ }
 {
     if states <= two_at(b, p + 6) {
         return Shape::Bad(10, p);
     }
-    let n = (b.len() + 9 - (p + 8)) / 10;
+    let n = step_count(b, p + 8);
     let mut at = p + 8;
     for i in 0..n {
         let here = is_record(b, at, 4, 4);
         if !here {
             return Shape::Bad(9, at);
         }
-        let fits = step_fits(b, states, commands, stars, at + 6);
+        let fits = step_fits(b, states, plan, at + 6);
         if !fits {
             return Shape::Bad(10, at);
         }
@@ -119,9 +123,9 @@ fn trace_shape(b: &[u8], states: usize, commands: usize, stars: &[u16; 16], p: u
 }
 
 // The sheet from its second record on, which stands at p.
-fn body_shape(b: &[u8], states: usize, commands: usize, stars: &[u16; 16], p: usize) -> Shape
-    requires { do ⌜ ((← ⟦b.len()⟧) ≤ 65536) × (p ≤ 65536) × (states ≤ 4096) × Few commands (now stars) ⌝ }
-    ensures { λ r. ⌜ r ≡ shapeOf (bodyAt states commands (starsIn (now (stars .entry))) (now (b .entry)) p) ⌝ }
+fn body_shape(b: &[u8], states: usize, plan: Plan, p: usize) -> Shape
+    requires { do ⌜ ((← ⟦b.len()⟧) ≤ 65536) × (p ≤ 65536) × (states ≤ 4096) × Sound plan ⌝ }
+    ensures { λ r. ⌜ r ≡ shapeOf (bodyAt states (plan .commands) (starsIn (plan .stars)) (now (b .entry)) p) ⌝ }
 {
     let n = map_length(states);
     let map = is_record(b, p, 2, n);
@@ -130,15 +134,15 @@ fn body_shape(b: &[u8], states: usize, commands: usize, stars: &[u16; 16], p: us
     }
     let trace = is_record(b, p, 3, 2);
     if trace {
-        return trace_shape(b, states, commands, stars, p);
+        return trace_shape(b, states, plan, p);
     }
     Shape::Bad(9, p)
 }
 
-// The whole first pass over a sheet for a model of these counts.
-pub fn shape_of(b: &[u8], shared: usize, row: usize, commands: usize, stars: &[u16; 16]) -> Shape
-    requires { ⌜ (shared + row ≤ 12) × Few commands (now stars) ⌝ }
-    ensures { λ r. ⌜ r ≡ shapeOf (sheetIn shared row commands (starsIn (now (stars .entry))) (now (b .entry))) ⌝ }
+// The whole first pass over a sheet.
+pub fn shape_of(b: &[u8], plan: Plan) -> Shape
+    requires { ⌜ Sound plan ⌝ }
+    ensures { λ r. ⌜ r ≡ shapeOf (sheetBy plan (now (b .entry))) ⌝ }
 {
     if MAX_SHEET < b.len() {
         return Shape::Bad(9, MAX_SHEET);
@@ -147,10 +151,9 @@ pub fn shape_of(b: &[u8], shared: usize, row: usize, commands: usize, stars: &[u
     if !header {
         return Shape::Bad(9, 0);
     }
-    let same = same_counts(b, shared, row, commands);
+    let same = same_counts(b, plan);
     if !same {
         return Shape::Bad(10, 0);
     }
-    let states = power(shared + row);
-    body_shape(b, states, commands, stars, 9)
+    body_shape(b, power(plan.bits), plan, HEADER)
 }

@@ -1,37 +1,29 @@
 // The conditions D, E and F on a trace, whose start record stands in the sheet at p.
 ghost use mathlib.Core.Path.{_≡_};
-ghost use Prim.Native.Nat.{_+_, _^_, _≤_};
-ghost use Rattle.evaluation.specs.working.CodeSystem.{startsIn, breaksIn, nextIn, Parted};
-ghost use Rattle.acceptance.specs.SheetTexts.{twoAt};
-ghost use Rattle.acceptance.specs.working.SheetReading.{stepsIn, stepCount, TraceStands};
-ghost use Rattle.acceptance.specs.working.Shapes.{starsIn, Few};
-ghost use Rattle.acceptance.specs.working.Test.{traceAnswer};
+ghost use Prim.Native.Nat.{_^_, _≤_};
+ghost use Rattle.evaluation.specs.working.CodeSystem.{starsIn, Sound};
+ghost use Rattle.acceptance.specs.working.SheetReading.{TraceStands};
+ghost use Rattle.acceptance.specs.working.Test.{systemIn, traceFrom};
+use crate::fields::step_count;
 use crate::fields::two_at;
 use crate::fields::wide;
 use crate::outcome::Outcome;
 use evaluation::one_row::breaks;
 use evaluation::one_row::starts;
 use evaluation::one_row::step;
+use evaluation::plan::Plan;
 
 // The outcome for a trace: the first of the three that fails, if one does.
-pub fn test_trace(
-    b: &[u8],
-    p: usize,
-    bits: usize,
-    commands: usize,
-    ops: &[u16; 2048],
-    ends: &[u16; 20],
-    stars: &[u16; 16],
-) -> Outcome
-    requires { do ⌜ (bits ≤ 12) × ((← ⟦b.len()⟧) ≤ 65536) × Few commands (now stars) × Parted commands (now ends) × TraceStands (2 ^ bits) commands (starsIn (now stars)) (now b) p ⌝ }
-    ensures { λ r. ⌜ r ≡ traceAnswer (startsIn (now (ops .entry)) (now (ends .entry))) (breaksIn (now (ops .entry)) (now (ends .entry))) (nextIn (now (ops .entry)) (now (ends .entry)) bits) (twoAt (now (b .entry)) (p + 6)) (stepsIn (now (b .entry)) (p + 8) (stepCount (now (b .entry)) (p + 8))) ⌝ }
+pub fn test_trace(b: &[u8], p: usize, ops: &[u16; 2048], plan: Plan) -> Outcome
+    requires { do ⌜ ((← ⟦b.len()⟧) ≤ 65536) × Sound plan × TraceStands (2 ^ plan .bits) (plan .commands) (starsIn (plan .stars)) (now b) p ⌝ }
+    ensures { λ r. ⌜ r ≡ traceFrom (systemIn (now (ops .entry)) plan) (now (b .entry)) p ⌝ }
 {
     let first = two_at(b, p + 6);
-    let started = starts(ops, ends, commands, first);
+    let started = starts(ops, plan, first);
     if !started {
         return Outcome::FailsD;
     }
-    let n = (b.len() + 9 - (p + 8)) / 10;
+    let n = step_count(b, p + 8);
     let mut s = first;
     let mut at = p + 8;
     'steps: for i in 0..n {
@@ -39,13 +31,13 @@ pub fn test_trace(
         let k = wide(b[x]);
         let w = wide(b[x + 1]);
         let after = two_at(b, x + 2);
-        if after != step(ops, ends, commands, bits, s, k, w) {
+        if after != step(ops, plan, s, k, w) {
             return Outcome::FailsE;
         }
         s = after;
         at += 10;
     }
-    if breaks(ops, ends, commands, s) {
+    if breaks(ops, plan, s) {
         return Outcome::TraceHolds;
     }
     Outcome::FailsF

@@ -49,10 +49,9 @@ pub ready-first : (os : List ℕ) (s n : ℕ) → Ready os s n 0 (replicate 16 0
 ready-first os s n = record { full = refl; have = λ h. absurd (omega arith) }
 
 -- A word that begins a batch, and one that does not.
-pub filled-new : (os : List ℕ) (s n w : ℕ) (rows cells r : List ℕ) → w % 64 ≡ 0
-    → cells ≡ cellsAt os s n (w / 64) → r ≡ fills (rowOf cells n) 16 rows → r ≡ filledOf os s n w rows
+pub filled-new : (os : List ℕ) (s n w : ℕ) (rows r : List ℕ) → w % 64 ≡ 0 → r ≡ fills (rowOf (cellsAt os s n (w / 64)) n) 16 rows → r ≡ filledOf os s n w rows
 unfolding filledOf
-filled-new os s n w rows cells r h e q = rw (eq-eqb (w % 64) 0 h) (q ∙ ap (λ (c : List ℕ). fills (rowOf c n) 16 rows) e)
+filled-new os s n w rows r h q = rw (eq-eqb (w % 64) 0 h) q
 
 pub filled-old : (os : List ℕ) (s n w : ℕ) (rows : List ℕ) → (w % 64 ≡ 0 → ⊥) → rows ≡ filledOf os s n w rows
 unfolding filledOf

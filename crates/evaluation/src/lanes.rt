@@ -186,13 +186,29 @@ pub fn pick(rows: &[u64; 16], l: u32) -> u32
     ((rows[r] >> (l / 16 * 16)) % 65536) as u32
 }
 
-// The rows for the word w: filled anew where w begins a batch.
+// The rows of a batch.
+fn batch_rows(
+    rows: &mut [u64; 16],
+    ops: &[u16],
+    from: usize,
+    to: usize,
+    state: u32,
+    n: usize,
+    b: u32,
+)
+    requires { ⌜ (from ≤ to) × (to ≤ length (now ops)) × (n ≤ 16) ⌝ }
+    ensures { λ r. ⌜ now (rows .exit) ≡ fills (rowOf (cellsAt (slice from to (now (ops .entry))) state n b) n) 16 (now (rows .entry)) ⌝ }
+{
+    let cells = batch(ops, from, to, state, n, b);
+    rows_of(&cells, n, rows);
+}
+
+// The rows for the word w: filled anew where w begins a batch. Most words begin none, so the filling is a function of its own, and this one is inlined.
 pub fn fill(rows: &mut [u64; 16], ops: &[u16], from: usize, to: usize, state: u32, n: usize, w: u32)
     requires { ⌜ (from ≤ to) × (to ≤ length (now ops)) × (n ≤ 16) ⌝ }
     ensures { λ r. ⌜ now (rows .exit) ≡ filledOf (slice from to (now (ops .entry))) state n w (now (rows .entry)) ⌝ }
 {
     if w % 64 == 0 {
-        let cells = batch(ops, from, to, state, n, w / 64);
-        rows_of(&cells, n, rows);
+        batch_rows(rows, ops, from, to, state, n, w / 64);
     }
 }

@@ -3,3 +3,4 @@ pub mod lanes;
 mod machine;
 pub mod numbers;
 pub mod one_row;
+pub mod plan;

@@ -1,69 +1,76 @@
 // The table of one row, computed from a model's code: start states, states that violate `keep`, and steps.
 ghost use mathlib.Core.Path.{_≡_};
-ghost use Prim.Native.Nat.{_+_, _<_, _≤_};
-ghost use Rattle.evaluation.specs.working.CodeSystem.{beginOf, clauseIn, startsIn, breaksIn, nextIn, Parted};
+ghost use Prim.Native.Nat.{_+_, _^_, _<_, _≤_};
+ghost use Rattle.evaluation.specs.working.CodeSystem.{clauseIn, startsIn, breaksIn, nextIn, starsIn, Sound, Bounds};
 use crate::machine::run;
 use crate::machine::value;
 use crate::numbers::count;
 use crate::numbers::power;
+use crate::plan::Plan;
 
-// Where segment i of the code begins.
-pub fn begin(ends: &[u16; 20], i: usize) -> usize
-    requires { ⌜ i < 20 ⌝ }
-    ensures { λ r. ⌜ r ≡ beginOf (now (ends .entry)) i ⌝ }
+// Where the code words of a segment stand: from `from` on, up to `to`.
+pub struct Span {
+    pub from: usize,
+    pub to: usize,
+}
+
+// Segment i of the code.
+pub fn segment(plan: Plan, i: usize) -> Span
+    requires { ⌜ (i < 4 + plan .commands) × Sound plan ⌝ }
+    ensures { λ r. ⌜ Bounds (plan .ends) i (r .from) (r .to) ⌝ }
 {
+    let to = count(plan.ends[i]);
     if i == 0 {
-        return 0;
+        return Span { from: 0, to: to };
     }
-    count(ends[i - 1])
+    let from = count(plan.ends[i - 1]);
+    Span { from: from, to: to }
+}
+
+// How many choice words command k has.
+pub fn word_count(plan: Plan, k: usize) -> usize
+    requires { ⌜ (k < plan .commands) × Sound plan ⌝ }
+    ensures { λ r. ⌜ (r ≡ 2 ^ starsIn (plan .stars) k) × (r ≤ 256) ⌝ }
+{
+    power(count(plan.stars[k]))
 }
 
 // Whether both expressions of a clause hold in a state, whose code is the segments i and i + 1.
-fn clause_holds(ops: &[u16; 2048], ends: &[u16; 20], commands: usize, i: usize, s: usize) -> bool
-    requires { ⌜ (i < 3) × (s < 4096) × (commands ≤ 16) × Parted commands (now ends) ⌝ }
-    ensures { λ r. ⌜ r ≡ clauseIn (now (ops .entry)) (now (ends .entry)) i s ⌝ }
+fn clause_holds(ops: &[u16; 2048], plan: Plan, i: usize, s: usize) -> bool
+    requires { ⌜ (i < 3) × (s < 4096) × Sound plan ⌝ }
+    ensures { λ r. ⌜ r ≡ clauseIn (now (ops .entry)) (plan .ends) i s ⌝ }
 {
     let state = s as u32;
-    let from = begin(ends, i);
-    let middle = count(ends[i]);
-    if value(ops, from, middle, state, 0) != 1 {
+    let whole = segment(plan, i);
+    if value(ops, whole.from, whole.to, state, 0) != 1 {
         return false;
     }
-    let to = count(ends[i + 1]);
-    value(ops, middle, to, state, 0) == 1
+    let each = segment(plan, i + 1);
+    value(ops, each.from, each.to, state, 0) == 1
 }
 
 // Whether s is a start state.
-pub fn starts(ops: &[u16; 2048], ends: &[u16; 20], commands: usize, s: usize) -> bool
-    requires { ⌜ (s < 4096) × (commands ≤ 16) × Parted commands (now ends) ⌝ }
-    ensures { λ r. ⌜ r ≡ startsIn (now (ops .entry)) (now (ends .entry)) s ⌝ }
+pub fn starts(ops: &[u16; 2048], plan: Plan, s: usize) -> bool
+    requires { ⌜ (s < 4096) × Sound plan ⌝ }
+    ensures { λ r. ⌜ r ≡ startsIn (now (ops .entry)) (plan .ends) s ⌝ }
 {
-    clause_holds(ops, ends, commands, 0, s)
+    clause_holds(ops, plan, 0, s)
 }
 
 // Whether s violates `keep`.
-pub fn breaks(ops: &[u16; 2048], ends: &[u16; 20], commands: usize, s: usize) -> bool
-    requires { ⌜ (s < 4096) × (commands ≤ 16) × Parted commands (now ends) ⌝ }
-    ensures { λ r. ⌜ r ≡ breaksIn (now (ops .entry)) (now (ends .entry)) s ⌝ }
+pub fn breaks(ops: &[u16; 2048], plan: Plan, s: usize) -> bool
+    requires { ⌜ (s < 4096) × Sound plan ⌝ }
+    ensures { λ r. ⌜ r ≡ breaksIn (now (ops .entry)) (plan .ends) s ⌝ }
 {
-    !clause_holds(ops, ends, commands, 2, s)
+    !clause_holds(ops, plan, 2, s)
 }
 
-// The state of n bits after command k under the word w.
-pub fn step(
-    ops: &[u16; 2048],
-    ends: &[u16; 20],
-    commands: usize,
-    n: usize,
-    s: usize,
-    k: usize,
-    w: usize,
-) -> usize
-    requires { ⌜ (n ≤ 12) × (s < 4096) × (k < commands) × (w < 256) × (commands ≤ 16) × Parted commands (now ends) ⌝ }
-    ensures { λ r. ⌜ r ≡ nextIn (now (ops .entry)) (now (ends .entry)) n s k w ⌝ }
+// The state after command k under the word w.
+pub fn step(ops: &[u16; 2048], plan: Plan, s: usize, k: usize, w: usize) -> usize
+    requires { ⌜ (s < 4096) × (k < plan .commands) × (w < 256) × Sound plan ⌝ }
+    ensures { λ r. ⌜ r ≡ nextIn (now (ops .entry)) (plan .ends) (plan .bits) s k w ⌝ }
 {
-    let from = begin(ends, 4 + k);
-    let to = count(ends[4 + k]);
-    let after = run(ops, from, to, s as u32, w as u32) as usize;
-    after % power(n)
+    let code = segment(plan, 4 + k);
+    let after = run(ops, code.from, code.to, s as u32, w as u32) as usize;
+    after % power(plan.bits)
 }

@@ -107,7 +107,7 @@ module _ (text : List ℕ) (r : Reading) (e : r ≡ readingOf text) where
   answered a n h f = f ∙ ap (λ (x : Answer). readNumber (R.wordingIn x (r .code))) h ∙ ap (λ (x : Reading). readNumber (R.wordingOf x)) e
 
   pub counts-fit : Read ≡ r .answer → (r .code .shared + r .code .row ≤ 12) × (r .code .commands ≤ 16)
-  counts-fit h = let f = was-read text [] r e h .flat in (f .fewNames, f .few .fewCommands)
+  counts-fit h = let f = was-read text [] r e h .flat in (f .sound .fewBits, f .sound .fewCommands)
 
 -- The number of an outcome that is this one.
 pub number-of : (o told : Outcome) (r x : ℕ) → o ≡ told → r ≡ x → x ≡ testNumber (wordingOf told) → r ≡ testNumber (wordingOf o)

@@ -59,11 +59,15 @@ ConditionE m s xs = AreSteps m (spread m One s) (map (spreadStep m One) xs)
 abbrev pub ConditionF : Model → ℕ → List TraceStep → Type 0
 ConditionF m s xs = Breaks m (last (spread m One s) (map (spreadStep m One) xs))
 
--- The numbers of a step are those of a command, of a word that has no bits beyond the command's stars, and of a state.
-pub record StepFits (m : Model) (x : TraceStep) : Type 0 where
-  pub command : x .command < length (m .commands)
-  pub word : x .word < wordCount (commandAt m (x .command))
-  pub after : x .after < stateCount m
+-- The numbers of a step are in range: a command below `commands`, a word below the command's number of words, a state below `states`.
+pub record InRange (states commands : ℕ) (words : ℕ → ℕ) (x : TraceStep) : Type 0 where
+  pub command : x .command < commands
+  pub word : x .word < words (x .command)
+  pub after : x .after < states
+
+-- For a model: a word has no bits beyond its command's stars.
+abbrev pub StepFits : Model → TraceStep → Type 0
+StepFits m x = InRange (stateCount m) (length (m .commands)) (λ k. wordCount (commandAt m k)) x
 
 -- A trace passes. Its numbers are in range, or else its sheet is refused.
 pub record TracePasses (m : Model) (s : ℕ) (xs : List TraceStep) : Type 0 where

@@ -117,7 +117,7 @@ module _ (text : List ℕ) (x : Tree) (says : TextSaysTree text x) where
   found-short (unsafeBy s xs) e =
       let g = regular text x says in
       let p = passes text x says s xs e in
-      let n : length xs ≤ 4095 = omega (arith, sheet-short text x says s xs e, sheet-length (systemOf (modelOf x)) s xs, few text x says) in
+      let n : length xs ≤ 4095 = omega (arith, sheet-short text x says s xs e, sheet-length (modelOf x) s xs, few text x says) in
       let l = stepLines (commandName x) 1 xs in
       omega (
         arith,

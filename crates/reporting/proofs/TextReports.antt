@@ -21,8 +21,9 @@ use Rattle.evaluation.proofs.Powers.{pow-small}
 use Rattle.reader.specs.declared.Code.{Code}
 use Rattle.reader.specs.Read.{codeOf, nameArray, readingIn, readingOf}
 use Rattle.acceptance.specs.Sheets.{System, size, systemOf, sheetBytes, headerBytes, startBytes, stepsBytes, recordBytes, little}
-use Rattle.acceptance.specs.SheetTexts.{InRange, twoAt}
+use Rattle.acceptance.specs.SheetTexts.{twoAt}
 use Rattle.acceptance.specs.working.SheetReading.{stepsIn}
+use Rattle.acceptance.proofs.TestMeans.{numbers-fit}
 use Rattle.acceptance.proofs.SheetWritten.{two-little, steps-there}
 use Rattle.exploration.specs.Findings.{Verdict, safeBy, unsafeBy, evidenceOf, Finds}
 use Rattle.exploration.proofs.FindsRight.{finds}
@@ -35,7 +36,10 @@ use Rattle.reporting.proofs.NameArrays.{told}
 use Rattle.reporting.proofs.ReportTells.{found-lines}
 
 -- The bytes of a trace say its start state and its steps.
-module _ (M : System) (s : ℕ) (xs : List TraceStep) where
+module _ (m : Model) (s : ℕ) (xs : List TraceStep) where
+  abbrev M : System
+  M = systemOf m
+
   start-read : s < 65536 → twoAt (sheetBytes M (trace s xs)) 15 ≡ s
   unfolding sheetBytes headerBytes startBytes recordBytes little twoAt
   start-read h = two-little s h
@@ -51,12 +55,12 @@ module _ (M : System) (s : ℕ) (xs : List TraceStep) where
   unfolding headerBytes startBytes recordBytes little
   head-long = refl
 
-  steps-read : size M ≤ 65536 → Every (InRange M) xs → traceSteps (sheetBytes M (trace s xs)) ≡ xs
+  steps-read : Regular m → Every (StepFits m) xs → traceSteps (sheetBytes M (trace s xs)) ≡ xs
   unfolding sheetBytes
-  steps-read few f =
+  steps-read g f =
       ap (stepsIn (sheetBytes M (trace s xs)) 17) count-read
       ∙ ap (λ l. stepsIn l 17 (length xs)) (sym (append-assoc (headerBytes M) (startBytes s) (stepsBytes xs)))
-      ∙ steps-there M few xs (headerBytes M ++ startBytes s) 17 head-long f .1
+      ∙ steps-there M (numbers-fit m g) xs (headerBytes M ++ startBytes s) 17 head-long f .1
 
 -- Steps whose commands have the same names have the same lines.
 lines-same : (f g : ℕ → Word) (i : ℕ) (xs : List TraceStep) → Every (λ (x : TraceStep). f (x .command) ≡ g (x .command)) xs → stepLines f i xs ≡ stepLines g i xs
@@ -107,10 +111,6 @@ module _ (text : List ℕ) (x : Tree) (says : TextSaysTree text x) where
     pub passes : TracePasses m s xs
     passes = subst (Finds m) e (finds m regular) .1 .breaks
 
-    in-range : Every (InRange (systemOf m)) xs
-    in-range =
-        weaken (StepFits m) (InRange (systemOf m)) (λ y k. record { command = k .command; word = k .word; after = k .after }) xs (passes .stepsFit)
-
     pub sheet-short : length sheet ≤ 7 + 10 * stateCount m
     sheet-short = subst (λ y. length (sheetBytes (systemOf m) (evidenceOf y)) ≤ 7 + 10 * stateCount m) e (Left.sheet-short m)
 
@@ -118,13 +118,13 @@ module _ (text : List ℕ) (x : Tree) (says : TextSaysTree text x) where
     unfolding codeOf layoutOf
     shown =
         record {
-          long = omega (arith, sheet-length (systemOf m) s xs);
+          long = omega (arith, sheet-length m s xs);
           few = omega (arith, regular .fewNames);
           named =
               subst (Every (λ (y : TraceStep). Named text (nameArray (namesOf x)) (m .sharedNames + m .rowNames + y .command)))
-              (sym (steps-read (systemOf m) s xs (omega (arith, few)) in-range))
-              (weaken (InRange (systemOf m)) (λ (y : TraceStep). Named text (nameArray (namesOf x)) (m .sharedNames + m .rowNames + y .command))
-              (λ y k. told text x says regular (y .command) (k .command) .named) xs in-range);
+              (sym (steps-read m s xs regular (passes .stepsFit)))
+              (weaken (StepFits m) (λ (y : TraceStep). Named text (nameArray (namesOf x)) (m .sharedNames + m .rowNames + y .command))
+              (λ y k. told text x says regular (y .command) (k .command) .named) xs (passes .stepsFit));
         }
 
     abbrev called : ℕ → Word
@@ -136,12 +136,12 @@ module _ (text : List ℕ) (x : Tree) (says : TextSaysTree text x) where
     trace-lines : traceReport text code sheet ≡ reportLines x (unsafeBy s xs)
     unfolding reportLines verdictLines codeOf layoutOf
     trace-lines =
-        ap (λ n. counted ++ (unsafeLine n ++ (startLine (twoAt sheet 15) ++ stepLines called 1 (traceSteps sheet)))) (count-read (systemOf m) s xs)
-        ∙ ap (λ t. counted ++ (unsafeLine (length xs) ++ (startLine t ++ stepLines called 1 (traceSteps sheet)))) (start-read (systemOf m) s xs (omega (arith, few, passes .startFits)))
-        ∙ ap (λ ys. counted ++ (unsafeLine (length xs) ++ (startLine s ++ stepLines called 1 ys))) (steps-read (systemOf m) s xs (omega (arith, few)) in-range)
+        ap (λ n. counted ++ (unsafeLine n ++ (startLine (twoAt sheet 15) ++ stepLines called 1 (traceSteps sheet)))) (count-read m s xs)
+        ∙ ap (λ t. counted ++ (unsafeLine (length xs) ++ (startLine t ++ stepLines called 1 (traceSteps sheet)))) (start-read m s xs (omega (arith, few, passes .startFits)))
+        ∙ ap (λ ys. counted ++ (unsafeLine (length xs) ++ (startLine s ++ stepLines called 1 ys))) (steps-read m s xs regular (passes .stepsFit))
         ∙ ap (λ l. counted ++ (unsafeLine (length xs) ++ (startLine s ++ l)))
         (lines-same called (commandName x) 1 xs
-        (weaken (InRange (systemOf m)) (λ (y : TraceStep). called (y .command) ≡ commandName x (y .command)) (λ y k. told text x says regular (y .command) (k .command) .word) xs in-range))
+        (weaken (StepFits m) (λ (y : TraceStep). called (y .command) ≡ commandName x (y .command)) (λ y k. told text x says regular (y .command) (k .command) .word) xs (passes .stepsFit)))
 
     pub trace-shown : Printable text (readingOf text .code) sheet
     trace-shown = subst (λ c. Printable text c sheet) (sym code-read) shown

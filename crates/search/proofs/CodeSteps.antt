@@ -10,20 +10,19 @@ use lib.Pow.{pow-pos}
 use lib.Seq.{slice, getD-take, getD-set-other}
 use Rattle.evaluation.specs.working.CodeMachine.{runOf, startOf}
 use Rattle.evaluation.specs.working.Batches.{afterOf}
-use Rattle.evaluation.specs.working.CodeSystem.{beginOf, segmentOf, nextIn}
-use Rattle.evaluation.proofs.OneRowCode.{cut}
-use Rattle.acceptance.specs.working.Shapes.{starsIn, Few}
-use Rattle.acceptance.proofs.SheetLaws.{words-few}
+use Rattle.evaluation.specs.working.CodeSystem.{segmentOf, nextIn, starsIn, Sound, Bounds}
+use Rattle.evaluation.specs.declared.plan.Plan.{Plan}
+use Rattle.evaluation.proofs.OneRowCode.{cut, words-few}
 use Rattle.exploration.specs.working.Transitions.{Transitions, Lawful, moves, movesFrom}
 use Rattle.exploration.specs.working.Runs.{firstMove}
 use Rattle.search.specs.working.CodeTransitions.{transitionsIn}
 use Rattle.exploration.specs.working.Tables.{Ready, marked}
 use Rattle.exploration.proofs.Laws.{Tried, tried-refl}
 
-pub step-picked : (ops ends : List ℕ) (bits s k w from to x : ℕ) → from ≡ beginOf ends (4 + k) → to ≡ getD ends (4 + k) 0
+pub step-picked : (ops : List ℕ) {ends : List ℕ} (bits s k w : ℕ) {from to x : ℕ} → Bounds ends (4 + k) from to
     → x ≡ afterOf (slice from to ops) s bits w → x ≡ nextIn ops ends bits s k w
 unfolding nextIn
-step-picked ops ends bits s k w from to x e f h = h ∙ ap (λ (os : List ℕ). afterOf os s bits w) (cut ops ends (4 + k) from to e f)
+step-picked ops bits s k w B h = h ∙ ap (λ (os : List ℕ). afterOf os s bits w) (cut ops B)
 
 pub next-below : (ops ends : List ℕ) (bits s k w : ℕ) → nextIn ops ends bits s k w < 2 ^ bits
 unfolding nextIn afterOf
@@ -32,8 +31,8 @@ next-below ops ends bits s k w = mod-lt (runOf (segmentOf ops ends (4 + k)) w (s
 pub step-below : (ops ends : List ℕ) (bits s k w x : ℕ) → x ≡ nextIn ops ends bits s k w → x < 2 ^ bits
 step-below ops ends bits s k w x e = subst (λ (n : ℕ). n < 2 ^ bits) (sym e) (next-below ops ends bits s k w)
 
-pub code-lawful : (bits commands : ℕ) (ops ends stars : List ℕ) → Lawful (transitionsIn bits commands ops ends stars)
-code-lawful bits commands ops ends stars = record { step-below = λ s k w a b c. next-below ops ends bits s k w }
+pub code-lawful : (ops : List ℕ) (plan : Plan) → Lawful (transitionsIn ops plan)
+code-lawful ops plan = record { step-below = λ s k w a b c. next-below ops (plan .ends) (plan .bits) s k w }
 
 -- Where all commands are still to be tried.
 whole : (n : ℕ) → n ≡ n - 0
@@ -60,6 +59,6 @@ pub unmet-next : (p : List ℕ) (s v n : ℕ) → ((i : ℕ) → s ≤ i → i <
 unmet-next p s v n f i a h = getD-set-other p s i v 0 (λ (e : i ≡ s). omega arith) ∙ f i (omega arith) h
 
 -- A command in range has at most 256 words.
-pub words-within : (commands : ℕ) (stars : List ℕ) → Few commands stars → (k : ℕ) → k < commands → 2 ^ starsIn stars k ≤ 256
+pub words-within : {plan : Plan} → Sound plan → (k : ℕ) → k < plan .commands → 2 ^ starsIn (plan .stars) k ≤ 256
 unfolding starsIn
-words-within commands stars F k h = words-few (getD stars k 0) (2 ^ getD stars k 0) (F .fewStars k h) refl refl
+words-within {plan = plan} S k h = words-few S k (getD (plan .stars) k 0) (2 ^ getD (plan .stars) k 0) h refl refl .1

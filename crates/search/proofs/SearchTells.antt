@@ -19,7 +19,7 @@ use Rattle.notation.proofs.Regular.{all-regular}
 use Rattle.meaning.specs.Meaning.{Safe, Unsafe}
 use Rattle.meaning.specs.OneRow.{One, stateCount}
 use Rattle.notation.proofs.Booleans.{and-split, and-join}
-use Rattle.acceptance.specs.Sheets.{systemOf, little, recordBytes, headerBytes, sheetBytes}
+use Rattle.acceptance.specs.Sheets.{sheetRoom, systemOf, little, recordBytes, headerBytes, sheetBytes}
 use Rattle.exploration.specs.Findings.{Verdict, safeBy, unsafeBy, evidenceOf, Finds}
 use Rattle.search.specs.Answers.{Wording, verdict, returned, wordingOf}
 use Rattle.search.specs.Left.{Left}
@@ -42,7 +42,7 @@ unfolding roomy
 room-tells m first second sheet = (
   λ e.
       let a = and-split (leb (stateCount m) (length first)) _ e in
-      let b = and-split (leb (stateCount m) (length second)) (leb (7 + 10 * stateCount m) (length sheet)) (a .1) in
+      let b = and-split (leb (stateCount m) (length second)) (leb (sheetRoom (systemOf m)) (length sheet)) (a .1) in
       (leb-true _ _ (a .0), leb-true _ _ (b .0), leb-true _ _ (b .1)),
   λ r. and-join _ _ (le-leb _ _ (r .0)) (and-join _ _ (le-leb _ _ (r .1)) (le-leb _ _ (r .2))),
 )
@@ -68,7 +68,7 @@ not-verdict n p k = (
 )
 
 -- What is found has its place in a buffer with room.
-pub sheet-short : (m : Model) → length (sheetBytes (systemOf m) (evidenceOf (foundIn (transitionsOf (systemOf m))))) ≤ 7 + 10 * stateCount m
+pub sheet-short : (m : Model) → length (sheetBytes (systemOf m) (evidenceOf (foundIn (transitionsOf (systemOf m))))) ≤ sheetRoom (systemOf m)
 unfolding headerBytes recordBytes little
 sheet-short m = omega (arith, found-short (systemOf m) (transitionsOf (systemOf m)) m (own m))
 
@@ -106,7 +106,7 @@ module _ (m : Model) where
 
     without-room : ¬ (Room m first second sheet) → searchFor (systemOf m) first second sheet ≡ leftAlone 8 0 first second sheet
     unfolding searchFor
-    without-room h = rw (false-unless (roomy (stateCount m) first second sheet) (λ e. h (room-tells m first second sheet .0 e)))
+    without-room h = rw (false-unless (roomy (systemOf m) first second sheet) (λ e. h (room-tells m first second sheet .0 e)))
 
 left-alone : (n p : ℕ) (first second sheet : List ℕ) → SearchRefused n p first second sheet (leftAlone n p first second sheet)
 unfolding wordingOf
@@ -142,7 +142,7 @@ pub whatever-left : (text first second sheet : List ℕ) (P : Left → Type 0)
     → P (searchOf text first second sheet)
 whatever-left text first second sheet P refused missing searched = go (one-answer text .some)
   where
-    with-model : (m : Model) → TextSays text m → (b : Bool) → roomy (stateCount m) first second sheet ≡ b → P (searchOf text first second sheet)
+    with-model : (m : Model) → TextSays text m → (b : Bool) → roomy (systemOf m) first second sheet ≡ b → P (searchOf text first second sheet)
     with-model m says true e =
         let r = room-tells m first second sheet .0 e in
         subst P (sym (said text m says first second sheet ∙ with-room m first second sheet r)) (searched m says r)
@@ -151,5 +151,5 @@ whatever-left text first second sheet P refused missing searched = go (one-answe
         subst P (sym (said text m says first second sheet ∙ without-room m first second sheet h)) (missing m says h)
 
     go : ((m : Model) × TextSays text m) ⊎ ((n i : ℕ) × TextRefused text n i) → P (searchOf text first second sheet)
-    go (inl (m, says)) = with-model m says (roomy (stateCount m) first second sheet) refl
+    go (inl (m, says)) = with-model m says (roomy (systemOf m) first second sheet) refl
     go (inr (n, i, r)) = subst P (sym (refused-left text n i r first second sheet)) (refused n i r)

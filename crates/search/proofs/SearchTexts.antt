@@ -3,7 +3,7 @@
 use mathlib.Core.Path.{_≡_, refl, sym, ap, _∙_, subst}
 use mathlib.Core.Bool.{cond}
 use mathlib.Core.List.{List}
-use Prim.Native.Nat.{ℕ, _+_, _^_, _≤_}
+use Prim.Native.Nat.{ℕ, _+_, _^_}
 use native.Mathlib.Omega.{arith}
 use lib.ListN.{length}
 use lib.Seq.{sets}
@@ -20,10 +20,9 @@ use Rattle.reader.specs.declared.Answer.the-variants as A
 use Rattle.reader.specs.declared.Code.{Code}
 use Rattle.reader.specs.declared.Reading.{Reading}
 use Rattle.reader.specs.Read.{filled, codeOf, readingIn, readingOf}
-use Rattle.evaluation.specs.working.CodeSystem.{Parted}
+use Rattle.evaluation.specs.working.CodeSystem.{Sound}
 use Rattle.acceptance.specs.Sheets.{System, size, systemOf, headerBytes, sheetBytes}
-use Rattle.acceptance.specs.working.Shapes.{Few}
-use Rattle.acceptance.specs.working.Test.{systemIn}
+use Rattle.acceptance.specs.working.Test.{planOf, systemIn}
 use Rattle.acceptance.proofs.TestTexts.{counts, star-count, flat-code, flat}
 use Rattle.exploration.specs.Findings.{Verdict, safeBy, unsafeBy, evidenceOf}
 use Rattle.exploration.specs.working.Found.{foundIn, transitionsOf, Agrees}
@@ -36,14 +35,21 @@ use Rattle.exploration.proofs.FindsOnce.{finds-once}
 
 -- Code that is ready for the search, over which the search leaves what it should.
 pub record Searchable (c : Code) (should : List ℕ → List ℕ → List ℕ → Left) : Type 0 where
-  pub fewNames : c .shared + c .row ≤ 12
-  pub few : Few (c .commands) (c .stars)
-  pub parted : Parted (c .commands) (c .ends)
-  pub same : (q p o : List ℕ) → searchFor (systemIn (c .shared) (c .row) (c .commands) (c .ops) (c .ends) (c .stars)) q p o ≡ should q p o
+  pub sound : Sound (planOf c)
+  pub same : (q p o : List ℕ) → searchFor (systemIn (c .ops) (planOf c)) q p o ≡ should q p o
 
 module _ (m : Model) (g : Regular m) (ns : List Name) where
   abbrev C : System
-  C = systemIn (m .sharedNames) (m .rowNames) (length (m .commands)) (filled 2048 (layoutOf m .code)) (filled 20 (layoutOf m .ends)) (filled 16 (counts m g ns))
+  C =
+      systemIn (filled 2048 (layoutOf m .code))
+      (record {
+        ends = filled 20 (layoutOf m .ends);
+        stars = filled 16 (counts m g ns);
+        shared = m .sharedNames;
+        row = m .rowNames;
+        commands = length (m .commands);
+        bits = m .sharedNames + m .rowNames;
+      })
 
   code-agrees : Agrees (transitionsOf C) m
   code-agrees =
@@ -73,14 +79,14 @@ module _ (m : Model) (g : Regular m) (ns : List Name) where
       (bytes-same x)
 
   search-same : (q p o : List ℕ) → searchFor C q p o ≡ searchFor (systemOf m) q p o
-  unfolding searchFor
+  unfolding searchFor roomy
   search-same q p o =
-      ap (λ (x : Verdict). cond (roomy (size C) q p o) (leftWith C x q p o) (leftAlone 8 0 q p o)) found-same
-      ∙ ap (λ (l : Left). cond (roomy (size C) q p o) l (leftAlone 8 0 q p o)) (left-same (foundIn (transitionsOf (systemOf m))) q p o)
+      ap (λ (x : Verdict). cond (roomy C q p o) (leftWith C x q p o) (leftAlone 8 0 q p o)) found-same
+      ∙ ap (λ (l : Left). cond (roomy C q p o) l (leftAlone 8 0 q p o)) (left-same (foundIn (transitionsOf (systemOf m))) q p o)
 
   flat-searchable : Searchable (codeOf (layoutOf m) ns) (searchFor (systemOf m))
   unfolding codeOf layoutOf
-  flat-searchable = let f = flat m g ns in record { fewNames = f .fewNames; few = f .few; parted = f .parted; same = search-same }
+  flat-searchable = let f = flat m g ns in record { sound = f .sound; same = search-same }
 
 -- The text was read, and the code is that of its model; or it was refused.
 module _ (text : List ℕ) (r : Reading) where
@@ -92,9 +98,7 @@ module _ (text : List ℕ) (r : Reading) where
       (flat-searchable (modelOf x) (all-regular text (modelOf x) (record { tree = x; says = says-iff-answer text x .1 q; meant = refl })) (namesOf x))
       in
       record {
-        fewNames = s .fewNames;
-        few = s .few;
-        parted = s .parted;
+        sound = s .sound;
         same = λ a b o. s .same a b o ∙ sym (ap (λ (u : N.Outcome). searchIn u a b o) q);
       }
   told (N.refused n i) e q h = let y : A.Read ≡ A.Refused n i = h ∙ ap (λ (z : Reading). z .answer) e in let z : _≡_ {A = ℕ} 0 1 = cc in absurd (omega arith)
@@ -113,7 +117,7 @@ module _ (text : List ℕ) (r : Reading) where
 
     -- What is left for a text that was read is what is left over its code, and for one that was refused every buffer is as it was.
     pub search-read : A.Read ≡ r .answer → (a b c : List ℕ) (f : Finding) (a₁ b₁ c₁ : List ℕ)
-        → Ends (searchFor (systemIn (r .code .shared) (r .code .row) (r .code .commands) (r .code .ops) (r .code .ends) (r .code .stars)) a b c) f a₁ b₁ c₁
+        → Ends (searchFor (systemIn (r .code .ops) (planOf (r .code))) a b c) f a₁ b₁ c₁
         → Ends (searchOf text a b c) f a₁ b₁ c₁
     search-read h a b c f a₁ b₁ c₁ l = subst (λ (L : Left). Ends L f a₁ b₁ c₁) (was-read h .same a b c) l
 

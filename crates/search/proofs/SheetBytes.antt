@@ -9,10 +9,10 @@ use Rattle.notation.specs.Model.{Model, stars}
 use Rattle.notation.specs.Regular.{Every, Regular}
 use Rattle.meaning.specs.Meaning.{idle, commandAt}
 use Rattle.meaning.specs.OneRow.{wordCount, TraceStep}
-use Rattle.meaning.specs.Evidence.{safe, trace}
+use Rattle.meaning.specs.Evidence.{safe, trace, StepFits}
 use Rattle.meaning.proofs.Lists.{every-at}
 use Rattle.acceptance.specs.Sheets.{systemOf, little, recordBytes, headerBytes, mapBytes, startBytes, stepBytes, stepsBytes, sheetBytes}
-use Rattle.acceptance.specs.SheetTexts.{AreBytes, InRange}
+use Rattle.acceptance.specs.SheetTexts.{AreBytes}
 
 -- Lists of bytes.
 none : AreBytes []
@@ -52,14 +52,14 @@ module _ (m : Model) (g : Regular m) where
       (more (m .sharedNames) (m .rowNames ∷ length (m .commands) ∷ []) (omega (arith, g .fewShared))
       (more (m .rowNames) (length (m .commands) ∷ []) (omega (arith, g .fewRow)) (more (length (m .commands)) [] (omega (arith, g .fewCommands)) none)))
 
-  step-bytes : (x : TraceStep) → InRange (systemOf m) x → AreBytes (stepBytes x)
+  step-bytes : (x : TraceStep) → StepFits m x → AreBytes (stepBytes x)
   unfolding stepBytes
   step-bytes x f =
       record-bytes 4 (x .command ∷ x .word ∷ little 2 (x .after))
       (more (x .command) (x .word ∷ little 2 (x .after)) (omega (arith, f .command, g .fewCommands))
       (more (x .word) (little 2 (x .after)) (word-lt (x .command) (x .word) (f .command) (f .word)) (little-bytes 2 (x .after))))
 
-  steps-bytes : (xs : List TraceStep) → Every (InRange (systemOf m)) xs → AreBytes (stepsBytes xs)
+  steps-bytes : (xs : List TraceStep) → Every (StepFits m) xs → AreBytes (stepsBytes xs)
   unfolding stepsBytes
   steps-bytes [] f = none
   steps-bytes (x ∷ xs) f = joined (stepBytes x) (stepsBytes xs) (step-bytes x (f .0)) (steps-bytes xs (f .1))
@@ -68,7 +68,7 @@ module _ (m : Model) (g : Regular m) where
   unfolding sheetBytes mapBytes
   map-sheet-bytes map h = joined (headerBytes (systemOf m)) (recordBytes 2 map) header-bytes (record-bytes 2 map h)
 
-  pub trace-sheet-bytes : (s : ℕ) (xs : List TraceStep) → Every (InRange (systemOf m)) xs → AreBytes (sheetBytes (systemOf m) (trace s xs))
+  pub trace-sheet-bytes : (s : ℕ) (xs : List TraceStep) → Every (StepFits m) xs → AreBytes (sheetBytes (systemOf m) (trace s xs))
   unfolding sheetBytes startBytes
   trace-sheet-bytes s xs f =
       joined (headerBytes (systemOf m)) (recordBytes 3 (little 2 s) ++ stepsBytes xs) header-bytes

@@ -7,18 +7,17 @@ use native.Mathlib.Omega.{arith}
 use lib.ListN.{length, take, drop}
 use lib.Seq.{sets, sets-eq, take-append-seam}
 use Rattle.notation.specs.Model.{Model}
-use Rattle.notation.specs.Regular.{Every, Regular}
+use Rattle.notation.specs.Regular.{Regular}
 use Rattle.notation.specs.Texts.{TextSays}
 use Rattle.notation.proofs.Regular.{all-regular}
 use Rattle.meaning.specs.Meaning.{Breaks, last, Safe}
 use Rattle.meaning.specs.OneRow.{One, stateCount, spread, next, TraceStep}
-use Rattle.meaning.specs.Evidence.{Sheet, safe, trace, StepFits, MapPasses}
-use Rattle.meaning.proofs.Lists.{weaken}
+use Rattle.meaning.specs.Evidence.{Sheet, safe, trace, MapPasses}
 use Rattle.meaning.proofs.Number.{spread-stateNumber, stateNumber-spread}
 use Rattle.meaning.proofs.OneRow.{next-stays}
 use Rattle.evaluation.proofs.Powers.{pow-small}
-use Rattle.acceptance.specs.Sheets.{systemOf, sheetBytes}
-use Rattle.acceptance.specs.SheetTexts.{InRange, SheetSays}
+use Rattle.acceptance.specs.Sheets.{systemOf, sheetRoom, sheetBytes}
+use Rattle.acceptance.specs.SheetTexts.{SheetSays}
 use Rattle.acceptance.specs.Outcomes.{words}
 use Rattle.acceptance.specs.Promises.{answerTo}
 use Rattle.acceptance.proofs.Claims.{pass-tells}
@@ -67,7 +66,7 @@ module _ (text : List ℕ) (m : Model) (says : TextSays text m) where
   few = pow-small (m .sharedNames + m .rowNames) (stateCount m) (all-regular text m says .fewNames) refl
 
   -- The bytes of a sheet that is found pass.
-  map-holds : (map : List ℕ) → Finds m (safeBy map) → length (sheetBytes (systemOf m) (safe map)) ≤ 7 + 10 * stateCount m
+  map-holds : (map : List ℕ) → Finds m (safeBy map) → length (sheetBytes (systemOf m) (safe map)) ≤ sheetRoom (systemOf m)
       → answerTo text (sheetBytes (systemOf m) (safe map)) ≡ words "safe holds"
   map-holds map F h =
       let g = all-regular text m says in
@@ -76,26 +75,24 @@ module _ (text : List ℕ) (m : Model) (says : TextSays text m) where
       pass-tells text m says (sheetBytes (systemOf m) (safe map)) (map-sheet-bytes m g map (F .1 .bytes)) .safeSheet .1
       (map, s, exact-passes m g map (F .1) (F .0))
 
-  trace-holds : (s : ℕ) (xs : List TraceStep) → Finds m (unsafeBy s xs) → length (sheetBytes (systemOf m) (trace s xs)) ≤ 7 + 10 * stateCount m
+  trace-holds : (s : ℕ) (xs : List TraceStep) → Finds m (unsafeBy s xs) → length (sheetBytes (systemOf m) (trace s xs)) ≤ sheetRoom (systemOf m)
       → answerTo text (sheetBytes (systemOf m) (trace s xs)) ≡ words "trace holds"
   trace-holds s xs F h =
       let g = all-regular text m says in
       let p = F .1 .breaks in
-      let f : Every (InRange (systemOf m)) xs =
-      weaken (StepFits m) (InRange (systemOf m)) (λ x k. record { command = k .command; word = k .word; after = k .after }) xs (p .stepsFit) in
       let w : SheetSays (systemOf m) (sheetBytes (systemOf m) (trace s xs)) (trace s xs) =
-      record { bytes = refl; short = omega (arith, few); fits = (p .startFits, f) } in
-      pass-tells text m says (sheetBytes (systemOf m) (trace s xs)) (trace-sheet-bytes m g s xs f) .traceSheet .1 (s, xs, w, p)
+      record { bytes = refl; short = omega (arith, few); fits = (p .startFits, p .stepsFit) } in
+      pass-tells text m says (sheetBytes (systemOf m) (trace s xs)) (trace-sheet-bytes m g s xs (p .stepsFit)) .traceSheet .1 (s, xs, w, p)
 
-  module _ (first second sheet : List ℕ) (room : 7 + 10 * stateCount m ≤ length sheet) where
+  module _ (first second sheet : List ℕ) (room : sheetRoom (systemOf m) ≤ length sheet) where
     -- As long as the answer says.
-    at-front : (x : Sheet) → length (sheetBytes (systemOf m) x) ≤ 7 + 10 * stateCount m → (n : ℕ) → length (sheetBytes (systemOf m) x) ≡ n
+    at-front : (x : Sheet) → length (sheetBytes (systemOf m) x) ≤ sheetRoom (systemOf m) → (n : ℕ) → length (sheetBytes (systemOf m) x) ≡ n
         → take n (sets sheet 0 (sheetBytes (systemOf m) x)) ≡ sheetBytes (systemOf m) x
     at-front x h n e =
         subst (λ (k : ℕ). take k (sets sheet 0 (sheetBytes (systemOf m) x)) ≡ sheetBytes (systemOf m) x) e
         (front sheet (sheetBytes (systemOf m) x) (omega arith))
 
-    front-passes : (x : Verdict) → Finds m x → length (sheetBytes (systemOf m) (evidenceOf x)) ≤ 7 + 10 * stateCount m
+    front-passes : (x : Verdict) → Finds m x → length (sheetBytes (systemOf m) (evidenceOf x)) ≤ sheetRoom (systemOf m)
         → FrontPasses text (leftWith (systemOf m) x first second sheet)
     unfolding verdictOf wordingOf
     front-passes (safeBy map) F h =

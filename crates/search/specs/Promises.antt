@@ -11,7 +11,7 @@ use Rattle.notation.specs.Model.{Model}
 use Rattle.notation.specs.Texts.{longestText, TextSays, TextRefused}
 use Rattle.meaning.specs.Meaning.{Safe, Unsafe}
 use Rattle.meaning.specs.OneRow.{One, stateCount}
-use Rattle.acceptance.specs.Sheets.{systemOf, sheetBytes}
+use Rattle.acceptance.specs.Sheets.{systemOf, sheetRoom, sheetBytes}
 use Rattle.acceptance.specs.SheetTexts.{AreBytes}
 use Rattle.acceptance.specs.Outcomes.{words}
 use Rattle.acceptance.specs.Promises.{answerTo, TestPromise}
@@ -20,13 +20,13 @@ use Rattle.search.specs.Answers.{Wording, verdict, returned, wordingOf}
 use Rattle.search.specs.Left.{Left, Leaves, zeroed}
 use Rattle.search.specs.working.Searching.{roomy, searchOf}
 
--- The two lent tables have an entry for each state, and the lent sheet buffer has ten bytes for each state and seven more.
+-- The two lent tables have an entry for each state, and the lent sheet buffer has room for the longest sheet: ten bytes for each state and seven more.
 abbrev pub Room : Model → List ℕ → List ℕ → List ℕ → Type 0
-Room m first second sheet = (stateCount m ≤ length first) × (stateCount m ≤ length second) × (7 + 10 * stateCount m ≤ length sheet)
+Room m first second sheet = (stateCount m ≤ length first) × (stateCount m ≤ length second) × (sheetRoom (systemOf m) ≤ length sheet)
 
 -- The computed test of the room says just that.
 abbrev pub RoomTells : Type 0
-RoomTells = (m : Model) (first second sheet : List ℕ) → (roomy (stateCount m) first second sheet ≡ true) ↔ Room m first second sheet
+RoomTells = (m : Model) (first second sheet : List ℕ) → (roomy (systemOf m) first second sheet ≡ true) ↔ Room m first second sheet
 
 -- Contents of which `Leaves` holds are all that the call left, in each of the three buffers.
 abbrev pub LeavesTell : Type 0

@@ -8,22 +8,21 @@ mod traces;
 
 ghost use mathlib.Core.Path.{_≡_};
 ghost use Prim.Native.Nat.{_+_, _*_, _^_, _≤_};
-ghost use Rattle.evaluation.specs.working.CodeSystem.{Parted};
+ghost use Rattle.evaluation.specs.working.CodeSystem.{Sound};
 ghost use Rattle.acceptance.specs.SheetTexts.{AreBytes};
-ghost use Rattle.acceptance.specs.working.Shapes.{Few};
 ghost use Rattle.acceptance.specs.working.Test.{systemIn};
-ghost use Rattle.exploration.specs.working.Found.{foundIn, transitionsOf};
 ghost use Rattle.search.specs.Left.{Leaves};
-ghost use Rattle.search.specs.working.Searching.{leftWith, Ends, searchFor, searchOf};
+ghost use Rattle.search.specs.working.Searching.{foundBy, Ends, searchFor, searchOf};
+use acceptance::fields::HEADER;
 use acceptance::fields::bytes_known;
 use acceptance::fields::map_length;
 use evaluation::numbers::power;
+use evaluation::plan::Plan;
 use exploring::run;
 use finding::Finding;
 use maps::write_map;
 use reader::Answer;
 use reader::read_into;
-use records::HEADER;
 use records::put_head;
 use records::put_header;
 use tables::clear;
@@ -32,25 +31,20 @@ use traces::write_trace;
 // The search over the flat form of a model, where every lent buffer has room.
 fn search_roomy(
     ops: &[u16; 2048],
-    ends: &[u16; 20],
-    stars: &[u16; 16],
-    shared: usize,
-    row: usize,
-    commands: usize,
+    plan: Plan,
     states: usize,
     first: &mut [u16],
     second: &mut [u16],
     sheet: &mut [u8],
 ) -> Finding
-    requires { do ⌜ (shared + row ≤ 12) × Few commands (now stars) × Parted commands (now ends) × (states ≡ 2 ^ (shared + row)) × (states ≤ (← ⟦first.len()⟧)) × (states ≤ (← ⟦second.len()⟧)) × (7 + 10 * states ≤ (← ⟦sheet.len()⟧)) ⌝ }
-    ensures { λ r. ⌜ Ends (leftWith (systemIn shared row commands (now (ops .entry)) (now (ends .entry)) (now (stars .entry))) (foundIn (transitionsOf (systemIn shared row commands (now (ops .entry)) (now (ends .entry)) (now (stars .entry))))) (now (first .entry)) (now (second .entry)) (now (sheet .entry))) r (now (first .exit)) (now (second .exit)) (now (sheet .exit)) ⌝ }
+    requires { do ⌜ Sound plan × (states ≡ 2 ^ plan .bits) × (states ≤ (← ⟦first.len()⟧)) × (states ≤ (← ⟦second.len()⟧)) × (7 + 10 * states ≤ (← ⟦sheet.len()⟧)) ⌝ }
+    ensures { λ r. ⌜ Ends (foundBy (systemIn (now (ops .entry)) plan) (now (first .entry)) (now (second .entry)) (now (sheet .entry))) r (now (first .exit)) (now (second .exit)) (now (sheet .exit)) ⌝ }
 {
-    let bits = shared + row;
-    put_header(sheet, shared, row, commands);
-    let x = run(ops, ends, stars, commands, bits, states, first, second);
+    put_header(sheet, plan.shared, plan.row, plan.commands);
+    let x = run(ops, plan, states, first, second);
     if x.found {
         let t = first[x.count - 1];
-        let len = write_trace(ops, ends, stars, commands, bits, second, t, HEADER, sheet);
+        let len = write_trace(ops, plan, second, t, HEADER, sheet);
         clear(first, states);
         clear(second, states);
         return Finding::Unsafe(len);
@@ -68,40 +62,25 @@ fn search_roomy(
 // The search over the flat form of a model. A call whose buffers have no room is refused and leaves them as they are.
 fn search_code(
     ops: &[u16; 2048],
-    ends: &[u16; 20],
-    stars: &[u16; 16],
-    shared: usize,
-    row: usize,
-    commands: usize,
+    plan: Plan,
     first: &mut [u16],
     second: &mut [u16],
     sheet: &mut [u8],
 ) -> Finding
-    requires { ⌜ (shared + row ≤ 12) × Few commands (now stars) × Parted commands (now ends) ⌝ }
-    ensures { λ r. ⌜ Ends (searchFor (systemIn shared row commands (now (ops .entry)) (now (ends .entry)) (now (stars .entry))) (now (first .entry)) (now (second .entry)) (now (sheet .entry))) r (now (first .exit)) (now (second .exit)) (now (sheet .exit)) ⌝ }
+    requires { ⌜ Sound plan ⌝ }
+    ensures { λ r. ⌜ Ends (searchFor (systemIn (now (ops .entry)) plan) (now (first .entry)) (now (second .entry)) (now (sheet .entry))) r (now (first .exit)) (now (second .exit)) (now (sheet .exit)) ⌝ }
 {
-    let states = power(shared + row);
+    let states = power(plan.bits);
     if first.len() < states {
         return Finding::Refused(8, 0);
     }
     if second.len() < states {
         return Finding::Refused(8, 0);
     }
-    if sheet.len() < 7 + 10 * states {
+    if sheet.len() < HEADER - 2 + 10 * states {
         return Finding::Refused(8, 0);
     }
-    search_roomy(
-        ops,
-        ends,
-        stars,
-        shared,
-        row,
-        commands,
-        states,
-        first,
-        second,
-        sheet,
-    )
+    search_roomy(ops, plan, states, first, second, sheet)
 }
 
 // The search over the model that a text says, or the text's refusal.
@@ -116,17 +95,18 @@ fn search_text(text: &[u8], first: &mut [u16], second: &mut [u16], sheet: &mut [
     let answer = told.answer;
     match answer {
         Answer::Refused(n, p) => Finding::Refused(n, p),
-        Answer::Read => search_code(
-            &ops,
-            &ends,
-            &stars,
-            told.shared,
-            told.row,
-            told.commands,
-            first,
-            second,
-            sheet,
-        ),
+        Answer::Read => {
+            let bits = told.shared + told.row;
+            let plan = Plan {
+                ends: ends,
+                stars: stars,
+                shared: told.shared,
+                row: told.row,
+                commands: told.commands,
+                bits: bits,
+            };
+            search_code(&ops, plan, first, second, sheet)
+        }
     }
 }
 

@@ -8,9 +8,6 @@ ghost use Rattle.exploration.specs.working.Transitions.{moveOf};
 ghost use Rattle.exploration.specs.working.Runs.{stepOf};
 ghost use Rattle.exploration.specs.working.Written.{headBytes};
 
-// How many bytes the header has: six, and three counts.
-pub const HEADER: usize = 9;
-
 // A record's first six bytes: how long its payload is, and its kind.
 pub fn put_head(out: &mut [u8], at: usize, len: usize, kind: usize)
     requires { do ⌜ at + 6 ≤ (← ⟦out.len()⟧) ⌝ }

@@ -2,6 +2,7 @@
 -- Assumes nothing.
 use mathlib.Core.List.{[]}
 use mathlib.Core.Path.{refl, sym}
+use native.Mathlib.Omega.{arith}
 use Rattle.acceptance.proofs.TestTexts.{was-read, test-read, test-refused}
 use borrow.Author.Needs.{needs}
 use Rattle.acceptance.proofs.test.Statement.{statement}
@@ -19,12 +20,17 @@ enum-known-answer c = search needs
 enum-told : tie.Need-enum-told
 enum-told c = search needs
 
+add-bits : tie.Need-add-bits
+add-bits c =
+    let after-read-into : tie.After-read-into = search in
+    let after-enum-told : tie.After-enum-told = search in
+    omega (arith, was-read _ [] _ (after-read-into .read-into .ensures) (sym (after-enum-told .enum-told .given .1)) .flat .sound .fewBits)
+
 test-sheet-requires : tie.Need-test-sheet-requires
 test-sheet-requires c κs =
     let after-read-into : tie.After-read-into = search in
     let after-enum-told : tie.After-enum-told = search in
-    let known = was-read _ [] _ (after-read-into .read-into .ensures) (sym (after-enum-told .enum-told .given .1)) .flat in
-    (known .fewNames, known .few, known .parted)
+    was-read _ [] _ (after-read-into .read-into .ensures) (sym (after-enum-told .enum-told .given .1)) .flat .sound
 
 returns : tie.Need-returns
 returns c =
@@ -44,4 +50,4 @@ returns-2 c =
 pub test-spec : {M : Type 1} → statement M
 test-spec =
     tie.close
-    (tie.spec bytes-known-requires read-into-requires enum-known-answer enum-told test-sheet-requires returns returns-2)
+    (tie.spec bytes-known-requires read-into-requires enum-known-answer enum-told add-bits test-sheet-requires returns returns-2)

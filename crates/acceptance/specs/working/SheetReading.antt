@@ -8,6 +8,8 @@ use lib.Dec.{eqb, leb, ltb}
 use lib.ListN.{length, getD, take, drop}
 use Rattle.meaning.specs.OneRow.{TraceStep}
 use Rattle.meaning.specs.Evidence.{Sheet, safe, trace}
+use Rattle.evaluation.specs.declared.plan.Plan.{Plan}
+use Rattle.evaluation.specs.working.CodeSystem.{starsIn}
 use Rattle.acceptance.specs.Sheets.{System, mapLength}
 use Rattle.acceptance.specs.SheetTexts.{longest, twoAt, isRecord, sameCounts, unusedClear, stepIn, stepFits}
 
@@ -67,17 +69,24 @@ bodyAt states commands stars b p =
     either (isRecord b p 3 2) (λ _. traceAt states commands stars b p) λ _.
     refused 9 p
 
--- The whole sheet for a model of these counts: not too long, the header, the rest.
-unfoldable pub sheetIn : ℕ → ℕ → ℕ → (ℕ → ℕ) → List ℕ → Reading
-sheetIn shared row commands stars b =
+-- The whole sheet for states of so many bits, a header of this kind with these counts, and commands with so many stars: not too long, the header, the rest.
+unfoldable pub sheetIn : ℕ → ℕ → List ℕ → ℕ → (ℕ → ℕ) → List ℕ → Reading
+sheetIn bits kind counts commands stars b =
     demand (leb (length b) longest) 9 longest λ _.
-    demand (isRecord b 0 1 3) 9 0 λ _.
-    demand (sameCounts shared row commands b 6) 10 0 λ _.
-    bodyAt (2 ^ (shared + row)) commands stars b 9
+    demand (isRecord b 0 kind (length counts)) 9 0 λ _.
+    demand (sameCounts counts b 6) 10 0 λ _.
+    bodyAt (2 ^ bits) commands stars b (6 + length counts)
 
--- The whole sheet for a system.
+-- For a system.
 abbrev pub sheetOf : System → List ℕ → Reading
-sheetOf M b = sheetIn (M .shared) (M .row) (M .commands) (M .stars) b
+sheetOf M b = sheetIn (M .bits) (M .kind) (M .counts) (M .commands) (M .stars) b
+
+-- For the flat form of a model.
+abbrev pub countsIn : Plan → List ℕ
+countsIn plan = plan .shared ∷ plan .row ∷ plan .commands ∷ []
+
+abbrev pub sheetBy : Plan → List ℕ → Reading
+sheetBy plan b = sheetIn (plan .bits) 1 (countsIn plan) (plan .commands) (starsIn (plan .stars)) b
 
 -- n records of steps stand from p on, whole and in range.
 unfoldable pub StepsStand : ℕ → ℕ → (ℕ → ℕ) → List ℕ → ℕ → ℕ → Type 0

@@ -1,6 +1,6 @@
 -- The test's outcome for the bytes of a sheet, computed over a system.
 -- Assumes nothing.
-use mathlib.Core.Bool.{Bool, cond}
+use mathlib.Core.Bool.{cond}
 use mathlib.Core.List.{List}
 use Prim.Native.Nat.{ℕ, _+_}
 use Rattle.meaning.specs.OneRow.{TraceStep, lastOf}
@@ -8,31 +8,34 @@ use Rattle.meaning.specs.Evidence.{Sheet, safe, trace}
 use Rattle.notation.specs.Texts.{modelOf}
 use Rattle.notation.specs.working.Machine as N
 use Rattle.notation.specs.working.Answer.{answer}
-use Rattle.evaluation.specs.working.CodeSystem.{startsIn, breaksIn, nextIn}
+use Rattle.evaluation.specs.working.CodeSystem.{startsIn, breaksIn, nextIn, starsIn}
+use Rattle.evaluation.specs.declared.plan.Plan.{Plan}
+use Rattle.reader.specs.declared.Code.{Code}
 use Rattle.acceptance.specs.Sheets.{System, size, systemOf}
 use Rattle.meaning.specs.working.Conditions.{testA, testB, testC, testE}
-use Rattle.acceptance.specs.working.SheetReading.{Reading, refused, holds, sheetOf}
-use Rattle.acceptance.specs.working.Shapes.{starsIn}
+use Rattle.acceptance.specs.working.SheetReading.{Reading, refused, holds, stepsIn, stepCount, sheetOf, countsIn}
+use Rattle.acceptance.specs.SheetTexts.{twoAt}
 use Rattle.acceptance.specs.declared.outcome.Outcome.{Outcome}
 use Rattle.acceptance.specs.declared.outcome.Outcome.the-variants.{SafeHolds, TraceHolds, FailsA, FailsB, FailsC, FailsD, FailsE, FailsF, Refused}
 
 -- The outcome for a map: the first failure in the order A, B, C, if there is one.
-unfoldable pub mapAnswer : ℕ → ℕ → (ℕ → ℕ) → (ℕ → Bool) → (ℕ → Bool) → (ℕ → ℕ → ℕ → ℕ) → List ℕ → Outcome
-mapAnswer states commands stars starts breaks step map =
-    cond (testA states starts map) (cond (testB states breaks map) (cond (testC states commands stars step map) SafeHolds FailsC) FailsB) FailsA
+unfoldable pub mapAnswer : System → List ℕ → Outcome
+mapAnswer M map =
+    cond (testA (size M) (M .starts) map)
+    (cond (testB (size M) (M .breaks) map) (cond (testC (size M) (M .commands) (M .stars) (M .step) map) SafeHolds FailsC) FailsB) FailsA
 
 -- The outcome by E and F, for the steps from s on.
-unfoldable pub walk : (ℕ → Bool) → (ℕ → ℕ → ℕ → ℕ) → ℕ → List TraceStep → Outcome
-walk breaks step s xs = cond (testE step s xs) (cond (breaks (lastOf s xs)) TraceHolds FailsF) FailsE
+unfoldable pub walk : System → ℕ → List TraceStep → Outcome
+walk M s xs = cond (testE (M .step) s xs) (cond (M .breaks (lastOf s xs)) TraceHolds FailsF) FailsE
 
 -- The outcome for a trace: the first failure in the order D, E, F, if there is one.
-unfoldable pub traceAnswer : (ℕ → Bool) → (ℕ → Bool) → (ℕ → ℕ → ℕ → ℕ) → ℕ → List TraceStep → Outcome
-traceAnswer starts breaks step s xs = cond (starts s) (walk breaks step s xs) FailsD
+unfoldable pub traceAnswer : System → ℕ → List TraceStep → Outcome
+traceAnswer M s xs = cond (M .starts s) (walk M s xs) FailsD
 
 -- The outcome for contents.
 unfoldable pub answerIn : System → Sheet → Outcome
-answerIn M (safe map) = mapAnswer (size M) (M .commands) (M .stars) (M .starts) (M .breaks) (M .step) map
-answerIn M (trace s xs) = traceAnswer (M .starts) (M .breaks) (M .step) s xs
+answerIn M (safe map) = mapAnswer M map
+answerIn M (trace s xs) = traceAnswer M s xs
 
 -- The outcome for what was read.
 unfoldable pub judge : System → Reading → Outcome
@@ -52,15 +55,25 @@ testIn (N.refused n p) sheet = Refused n p
 unfoldable pub testOf : List ℕ → List ℕ → Outcome
 testOf text sheet = testIn (answer text) sheet
 
--- The system that a model's flat form gives, with its code, the ends of its segments and its star counts in arrays.
-abbrev pub systemIn : ℕ → ℕ → ℕ → List ℕ → List ℕ → List ℕ → System
-systemIn shared row commands ops ends stars =
+-- The plan of code that was read.
+abbrev pub planOf : Code → Plan
+planOf c =
+    record { ends = c .ends; stars = c .stars; shared = c .shared; row = c .row; commands = c .commands; bits = c .shared + c .row }
+
+-- The system that a model's flat form gives.
+abbrev pub systemIn : List ℕ → Plan → System
+systemIn ops plan =
     record {
-      shared = shared;
-      row = row;
-      commands = commands;
-      stars = starsIn stars;
-      starts = startsIn ops ends;
-      breaks = breaksIn ops ends;
-      step = nextIn ops ends (shared + row);
+      bits = plan .bits;
+      kind = 1;
+      counts = countsIn plan;
+      commands = plan .commands;
+      stars = starsIn (plan .stars);
+      starts = startsIn ops (plan .ends);
+      breaks = breaksIn ops (plan .ends);
+      step = nextIn ops (plan .ends) (plan .bits);
     }
+
+-- The outcome for the trace whose first record stands at p.
+abbrev pub traceFrom : System → List ℕ → ℕ → Outcome
+traceFrom M b p = traceAnswer M (twoAt b (p + 6)) (stepsIn b (p + 8) (stepCount b (p + 8)))

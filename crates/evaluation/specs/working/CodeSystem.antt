@@ -1,5 +1,6 @@
 -- The table of one row as it is computed from a model's flat form, which stands in arrays.
 -- Assumes nothing.
+use mathlib.Core.Path.{_≡_}
 use mathlib.Core.Bool.{Bool, not, _&&_}
 use mathlib.Core.List.{List}
 use Prim.Native.Nat.{ℕ, zero, suc, _+_, _<_, _≤_}
@@ -8,6 +9,7 @@ use lib.ListN.{getD}
 use lib.Seq.{slice}
 use Rattle.evaluation.specs.working.CodeMachine.{valueOf}
 use Rattle.evaluation.specs.working.Batches.{afterOf}
+use Rattle.evaluation.specs.declared.plan.Plan.{Plan}
 
 -- Where segment i of the code begins: at 0, or where the segment before it ends.
 unfoldable pub beginOf : List ℕ → ℕ → ℕ
@@ -37,3 +39,22 @@ nextIn ops ends n s k w = afterOf (segmentOf ops ends (4 + k)) s n w
 pub record Parted (commands : ℕ) (ends : List ℕ) : Type 0 where
   pub rising : (i : ℕ) → i < 4 + commands → beginOf ends i ≤ getD ends i 0
   pub short : (i : ℕ) → i < 4 + commands → getD ends i 0 ≤ 2048
+
+-- How many stars command k has, where a list holds the counts.
+unfoldable pub starsIn : List ℕ → ℕ → ℕ
+starsIn stars k = getD stars k 0
+
+-- A plan within the limits: at most 12 bits, at least one for each name, at most 16 commands of at most 8 stars, and segments that follow each other.
+pub record Sound (plan : Plan) : Type 0 where
+  pub fewBits : plan .bits ≤ 12
+  pub named : plan .shared + plan .row ≤ plan .bits
+  pub fewCommands : plan .commands ≤ 16
+  pub fewStars : (k : ℕ) → k < plan .commands → getD (plan .stars) k 0 ≤ 8
+  pub parted : Parted (plan .commands) (plan .ends)
+
+-- Segment i of code with these ends stands from `from` on up to `to`, within the array of code words.
+pub record Bounds (ends : List ℕ) (i from to : ℕ) : Type 0 where
+  pub begins : from ≡ beginOf ends i
+  pub stops : to ≡ getD ends i 0
+  pub rising : from ≤ to
+  pub short : to ≤ 2048

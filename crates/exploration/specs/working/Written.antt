@@ -4,10 +4,11 @@ use Prim.Native.Nat.{ℕ, suc, zero, _+_, _*_, _<_}
 use mathlib.Core.Path.{_≡_}
 use mathlib.Core.Bool.{Bool, false, cond}
 use mathlib.Core.List.{List, [], _∷_, _++_}
-use lib.ListN.{getD}
+use lib.ListN.{getD, take}
+use lib.Seq.{sets}
 use Rattle.acceptance.specs.Sheets.{little, startBytes, stepsBytes}
 use Rattle.exploration.specs.working.Transitions.{Transitions}
-use Rattle.exploration.specs.working.Runs.{Run, final, Valid, steps, Traced, startOf, stepsOf}
+use Rattle.exploration.specs.working.Runs.{Run, final, Valid, steps, Traced, runTo, startOf, stepsOf}
 
 -- A record's first six bytes: how long its payload is, and its kind.
 abbrev pub headBytes : ℕ → ℕ → List ℕ
@@ -38,3 +39,8 @@ pub record RecordedTo (M : Transitions) (p : List ℕ) (t : ℕ) : Type 0 where
   pub traced : Traced M p run
   pub ends : final M run ≡ t
   pub short : steps run < M .size
+
+-- The trace of the run that the table of parents p records to t stands from `at` on, up to `end`; all else is as it was.
+pub record TraceStored (M : Transitions) (p : List ℕ) (t at : ℕ) (before after : List ℕ) (end : ℕ) : Type 0 where
+  pub bytes : after ≡ sets before at (runBytes M (runTo M (take (M .size) p) (M .size) t))
+  pub ends : end ≡ at + 8 + 10 * steps (runTo M (take (M .size) p) (M .size) t)

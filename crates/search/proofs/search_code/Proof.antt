@@ -9,19 +9,22 @@ use borrow.Author.Needs.{needs}
 use Rattle.search.proofs.search_code.Statement.{statement}
 use Rattle.search.proofs.search_code.Tie as tie
 
-add-power : tie.Need-add-power
-add-power c = search needs
-
 power-requires : tie.Need-power-requires
 power-requires c κs = search needs
 
 returns : tie.Need-returns
-returns c = first-short (systemIn _ _ _ _ _ _) _ (c .before .power .ensures) _ _ _ (c .if1 .taken)
+returns c =
+    let start : tie.Start = search in
+    first-short (systemIn _ (start .args .plan)) _ (c .before .power .ensures) _ _ _ (c .if1 .taken)
 
 returns-2 : tie.Need-returns-2
 returns-2 c =
+    let start : tie.Start = search in
     let after-power : tie.After-power = search in
-    second-short (systemIn _ _ _ _ _ _) _ (after-power .power .ensures) _ _ _ (c .before .if1 .left) (c .if2 .taken)
+    second-short (systemIn _ (start .args .plan)) _ (after-power .power .ensures) _ _ _ (c .before .if1 .left) (c .if2 .taken)
+
+sub-if3 : tie.Need-sub-if3
+sub-if3 c = search needs
 
 mul-if3 : tie.Need-mul-if3
 mul-if3 c =
@@ -29,7 +32,7 @@ mul-if3 c =
     let start : tie.Start = search in
     omega (
       arith,
-      pow-small (start .args .shared + start .args .row) (after-power .power .result) (start .pre .0)
+      pow-small (start .args .plan .bits) (after-power .power .result) (start .pre .fewBits)
           (after-power .power .ensures),
     )
 
@@ -39,15 +42,16 @@ add-if3 c =
     let start : tie.Start = search in
     omega (
       arith,
-      pow-small (start .args .shared + start .args .row) (after-power .power .result) (start .pre .0)
+      pow-small (start .args .plan .bits) (after-power .power .result) (start .pre .fewBits)
           (after-power .power .ensures),
     )
 
 returns-3 : tie.Need-returns-3
 returns-3 c =
+    let start : tie.Start = search in
     let else1 : tie.Else1 = search in
     let after-power : tie.After-power = search in
-    sheet-short (systemIn _ _ _ _ _ _) _ (after-power .power .ensures) _ _ _ (else1 .if1 .left) (c .before .if2 .left)
+    sheet-short (systemIn _ (start .args .plan)) _ (after-power .power .ensures) _ _ _ (else1 .if1 .left) (c .before .if2 .left)
     (c .if3 .taken)
 
 search-roomy-requires : tie.Need-search-roomy-requires
@@ -64,22 +68,23 @@ same-length-3 c = search needs
 
 returns-4 : tie.Need-returns-4
 returns-4 c =
+    let start : tie.Start = search in
     let after-search-roomy : tie.After-search-roomy = search in
     let else3 : tie.Else3 = search in
     let else2 : tie.Else2 = search in
     let else1 : tie.Else1 = search in
     let after-power : tie.After-power = search in
-    room-for (systemIn _ _ _ _ _ _) _ (after-power .power .ensures) _ _ _ (else1 .if1 .left) (else2 .if2 .left)
+    room-for (systemIn _ (start .args .plan)) _ (after-power .power .ensures) _ _ _ (else1 .if1 .left) (else2 .if2 .left)
     (else3 .if3 .left) _ _ _ _ (after-search-roomy .search-roomy .ensures)
 
 pub search-code-spec : {M : Type 1} → statement M
 search-code-spec =
     tie.close
     (tie.spec
-    add-power
     power-requires
     returns
     returns-2
+    sub-if3
     mul-if3
     add-if3
     returns-3

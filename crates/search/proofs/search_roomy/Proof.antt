@@ -8,13 +8,10 @@ use borrow.Author.Needs.{needs}
 use Rattle.search.proofs.search_roomy.Statement.{statement}
 use Rattle.search.proofs.search_roomy.Tie as tie
 
-add-bits : tie.Need-add-bits
-add-bits c = search needs
-
 put-header-requires : tie.Need-put-header-requires
 put-header-requires c κs =
     let start : tie.Start = search in
-    header-asked _ _ _ _ _ (start .pre .0) (start .pre .1 .fewCommands) (start .pre .3) (start .pre .6)
+    header-asked _ _ _ (start .pre .0) (start .pre .1) (start .pre .4)
 
 run-requires : tie.Need-run-requires
 run-requires c κs = search needs
@@ -24,7 +21,7 @@ sub-t c =
     let after-run : tie.After-run = search in
     let after-put-header : tie.After-put-header = search in
     let start : tie.Start = search in
-    last-some _ _ _ _ _ _ _ (start .pre .0) (start .pre .3) _ (start .pre .6) (after-put-header .put-header .ensures) (after-run .run .ensures) (c .before .if1 .taken)
+    last-some _ _ (start .pre .0) _ (start .pre .1) _ (start .pre .4) (after-put-header .put-header .ensures) (after-run .run .ensures) (c .before .if1 .taken)
 
 mul-t : tie.Need-mul-t
 mul-t c = search needs
@@ -35,7 +32,7 @@ slice-read-t c =
     let after-run : tie.After-run = search in
     let after-put-header : tie.After-put-header = search in
     let start : tie.Start = search in
-    last-within _ _ _ _ _ _ _ (start .pre .0) (start .pre .3) _ (start .pre .6) (after-put-header .put-header .ensures) (after-run .run .ensures) (then1 .if1 .taken)
+    last-within _ _ (start .pre .0) _ (start .pre .1) _ (start .pre .4) (after-put-header .put-header .ensures) (after-run .run .ensures) (then1 .if1 .taken)
 
 write-trace-requires : tie.Need-write-trace-requires
 write-trace-requires c κs =
@@ -43,8 +40,7 @@ write-trace-requires c κs =
     let after-run : tie.After-run = search in
     let after-put-header : tie.After-put-header = search in
     let start : tie.Start = search in
-    trace-asked _ _ _ _ _ _ _ (start .pre .0) (start .pre .3) _ (start .pre .6) (after-put-header .put-header .ensures) (after-run .run .ensures) (then1 .if1 .taken)
-    (start .pre .1) (start .pre .2)
+    trace-asked _ _ (start .pre .0) _ (start .pre .1) _ (start .pre .4) (after-put-header .put-header .ensures) (after-run .run .ensures) (then1 .if1 .taken)
 
 clear-requires : tie.Need-clear-requires
 clear-requires c κs = search needs
@@ -55,7 +51,7 @@ clear-requires-2 c κs =
     let after-run : tie.After-run = search in
     let after-put-header : tie.After-put-header = search in
     let start : tie.Start = search in
-    second-room _ _ _ _ _ _ _ (start .pre .0) (start .pre .3) _ (start .pre .6) (after-put-header .put-header .ensures) (after-run .run .ensures)
+    second-room _ _ (start .pre .0) _ (start .pre .1) _ (start .pre .4) (after-put-header .put-header .ensures) (after-run .run .ensures)
 
 same-length : tie.Need-same-length
 same-length c = search needs
@@ -75,7 +71,7 @@ returns c =
     let after-run : tie.After-run = search in
     let after-put-header : tie.After-put-header = search in
     let start : tie.Start = search in
-    unsafe-left _ _ _ _ _ _ _ (start .pre .0) (start .pre .3) (start .args .sheet .now) (start .pre .6)
+    unsafe-left _ _ (start .pre .0) _ (start .pre .1) (start .args .sheet .now) (start .pre .4)
     (after-put-header .put-header .ensures) (after-run .run .ensures) (after-clear .clear .ensures) (after-clear2 .clear2 .ensures)
     (then1 .if1 .taken) (after-write-trace .write-trace .ensures)
 
@@ -86,7 +82,7 @@ put-head-requires : tie.Need-put-head-requires
 put-head-requires c κs =
     let after-put-header : tie.After-put-header = search in
     let start : tie.Start = search in
-    head-asked _ _ _ (start .args .ops .now) (start .args .ends .now) (start .args .stars .now) _ (start .pre .0) (start .pre .3) _ (start .pre .6)
+    head-asked (start .args .ops .now) _ (start .pre .0) _ (start .pre .1) _ (start .pre .4)
     (after-put-header .put-header .ensures) _ (c .before .map-length .ensures)
 
 add-at : tie.Need-add-at
@@ -99,9 +95,9 @@ write-map-requires c κs =
     let after-run : tie.After-run = search in
     let after-put-header : tie.After-put-header = search in
     let start : tie.Start = search in
-    map-asked _ _ _ (start .args .ops .now) (start .args .ends .now) (start .args .stars .now) _ (start .pre .0) (start .pre .3) _ (start .pre .6)
+    map-asked (start .args .ops .now) _ (start .pre .0) _ (start .pre .1) _ (start .pre .4)
     (after-put-header .put-header .ensures) _ (after-map-length .map-length .ensures) _
-    (second-room _ _ _ _ _ _ _ (start .pre .0) (start .pre .3) _ (start .pre .6) (after-put-header .put-header .ensures) (after-run .run .ensures)) _
+    (second-room _ _ (start .pre .0) _ (start .pre .1) _ (start .pre .4) (after-put-header .put-header .ensures) (after-run .run .ensures)) _
     (after-put-head .put-head .ensures)
 
 clear-requires-3 : tie.Need-clear-requires-3
@@ -113,7 +109,7 @@ clear-requires-4 c κs =
     let after-run : tie.After-run = search in
     let after-put-header : tie.After-put-header = search in
     let start : tie.Start = search in
-    second-room _ _ _ _ _ _ _ (start .pre .0) (start .pre .3) _ (start .pre .6) (after-put-header .put-header .ensures) (after-run .run .ensures)
+    second-room _ _ (start .pre .0) _ (start .pre .1) _ (start .pre .4) (after-put-header .put-header .ensures) (after-run .run .ensures)
 
 add-len : tie.Need-add-len
 add-len c =
@@ -123,8 +119,8 @@ add-len c =
     let start : tie.Start = search in
     omega (
       arith,
-      length-small (start .args .shared + start .args .row) (start .args .states)
-          (after-map-length .map-length .result) (start .pre .0) (start .pre .3) (after-map-length .map-length .ensures),
+      length-small (start .args .plan .bits) (start .args .states)
+          (after-map-length .map-length .result) (start .pre .0 .fewBits) (start .pre .1) (after-map-length .map-length .ensures),
     )
 
 same-length-4 : tie.Need-same-length-4
@@ -147,7 +143,7 @@ returns-2 c =
     let after-run : tie.After-run = search in
     let after-put-header : tie.After-put-header = search in
     let start : tie.Start = search in
-    safe-left _ _ _ _ _ _ _ (start .pre .0) (start .pre .3) (start .args .sheet .now) (start .pre .6)
+    safe-left _ _ (start .pre .0) _ (start .pre .1) (start .args .sheet .now) (start .pre .4)
     (after-put-header .put-header .ensures) (after-run .run .ensures) (after-clear3 .clear3 .ensures) (after-clear4 .clear4 .ensures)
     (else1 .if1 .left) (after-map-length .map-length .ensures) (after-put-head .put-head .ensures)
     (after-write-map .write-map .ensures)
@@ -156,7 +152,6 @@ pub search-roomy-spec : {M : Type 1} → statement M
 search-roomy-spec =
     tie.close
     (tie.spec
-    add-bits
     put-header-requires
     run-requires
     sub-t

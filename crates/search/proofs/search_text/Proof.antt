@@ -1,6 +1,7 @@
 -- `search_text` meets its contract: the text's refusal, or what is left over the flat form that was read.
 -- Assumes nothing.
 use Rattle.search.proofs.SearchTexts.{was-read, search-read, search-refused}
+use native.Mathlib.Omega.{arith}
 use mathlib.Core.Path.{refl, sym}
 use borrow.Author.Needs.{needs}
 use Rattle.search.proofs.search_text.Statement.{statement}
@@ -15,16 +16,17 @@ enum-known-answer c = search needs
 enum-told : tie.Need-enum-told
 enum-told c = search needs
 
+add-bits : tie.Need-add-bits
+add-bits c =
+    let after-enum-told : tie.After-enum-told = search in
+    let after-read-into : tie.After-read-into = search in
+    omega (arith, was-read _ _ (after-read-into .read-into .ensures) (sym (after-enum-told .enum-told .given .1)) .sound .fewBits)
+
 search-code-requires : tie.Need-search-code-requires
 search-code-requires c κs =
     let after-enum-told : tie.After-enum-told = search in
-    let after-read-into : tie.After-read-into = search in (
-      was-read _ _ (after-read-into .read-into .ensures) (sym (after-enum-told .enum-told .given .1)) .fewNames,
-      was-read _ _
-          (after-read-into .read-into .ensures) (sym (after-enum-told .enum-told .given .1)) .few,
-      was-read _ _
-          (after-read-into .read-into .ensures) (sym (after-enum-told .enum-told .given .1)) .parted,
-    )
+    let after-read-into : tie.After-read-into = search in
+    was-read _ _ (after-read-into .read-into .ensures) (sym (after-enum-told .enum-told .given .1)) .sound
 
 returns : tie.Need-returns
 returns c =
@@ -55,6 +57,7 @@ search-text-spec =
     read-into-requires
     enum-known-answer
     enum-told
+    add-bits
     search-code-requires
     returns
     same-length

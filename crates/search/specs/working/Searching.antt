@@ -3,14 +3,14 @@
 use mathlib.Core.Path.{_≡_}
 use mathlib.Core.Bool.{Bool, cond, _&&_}
 use mathlib.Core.List.{List}
-use Prim.Native.Nat.{ℕ, _+_, _*_}
+use Prim.Native.Nat.{ℕ}
 use lib.Dec.{leb}
 use lib.ListN.{length}
 use lib.Seq.{sets}
 use Rattle.notation.specs.Texts.{modelOf}
 use Rattle.notation.specs.working.Machine as N
 use Rattle.notation.specs.working.Answer.{answer}
-use Rattle.acceptance.specs.Sheets.{System, size, systemOf, sheetBytes}
+use Rattle.acceptance.specs.Sheets.{System, size, sheetRoom, systemOf, sheetBytes}
 use Rattle.exploration.specs.Findings.{Verdict, safeBy, unsafeBy, evidenceOf}
 use Rattle.exploration.specs.working.Found.{foundIn, transitionsOf}
 use Rattle.search.specs.declared.finding.Finding.{Finding}
@@ -18,8 +18,8 @@ use Rattle.search.specs.declared.finding.Finding.the-variants.{Safe, Uns
 use Rattle.search.specs.Left.{Left, Leaves, zeroed}
 
 -- Whether the lent tables have an entry for each state, and the lent buffer has room for every sheet.
-unfoldable pub roomy : ℕ → List ℕ → List ℕ → List ℕ → Bool
-roomy states first second sheet = leb states (length first) && (leb states (length second) && leb (7 + 10 * states) (length sheet))
+unfoldable pub roomy : System → List ℕ → List ℕ → List ℕ → Bool
+roomy M first second sheet = leb (size M) (length first) && (leb (size M) (length second) && leb (sheetRoom M) (length sheet))
 
 -- The answer that gives a verdict, whose sheet has so many bytes.
 unfoldable pub verdictOf : Verdict → ℕ → Finding
@@ -44,10 +44,13 @@ leftAlone n p first second sheet = record { answer = Refused n p; first = first;
 abbrev pub Ends : Left → Finding → List ℕ → List ℕ → List ℕ → Type 0
 Ends L r first second sheet = (r ≡ L .answer) × Leaves L first second sheet
 
+-- For a system, where there is room.
+abbrev pub foundBy : System → List ℕ → List ℕ → List ℕ → Left
+foundBy M first second sheet = leftWith M (foundIn (transitionsOf M)) first second sheet
+
 -- For a system.
 unfoldable pub searchFor : System → List ℕ → List ℕ → List ℕ → Left
-searchFor M first second sheet =
-    cond (roomy (size M) first second sheet) (leftWith M (foundIn (transitionsOf M)) first second sheet) (leftAlone 8 0 first second sheet)
+searchFor M first second sheet = cond (roomy M first second sheet) (foundBy M first second sheet) (leftAlone 8 0 first second sheet)
 
 -- For a text that was read or refused.
 unfoldable pub searchIn : N.Outcome → List ℕ → List ℕ → List ℕ → Left

@@ -16,10 +16,10 @@ use Rattle.acceptance.proofs.maps.holds_a.Statement.{statement}
 use Rattle.acceptance.proofs.maps.holds_a.Tie as tie
 
 abbrev Inv-states : tie.InvT-states
-Inv-states b p n bits commands ops ends states s₀ s = (s ≤ states) × (testA s (startsIn ops ends) (mapIn b p n) ≡ true)
+Inv-states b p n ops plan states s₀ s = (s ≤ states) × (testA s (startsIn ops (plan .ends)) (mapIn b p n) ≡ true)
 
 abbrev μ-states : tie.MeasureT-states
-μ-states b p n bits commands ops ends states s₀ s = states - s
+μ-states b p n ops plan states s₀ s = states - s
 
 -- The places that the answers name.
 abbrev After-power : Type 0
@@ -47,9 +47,8 @@ starts-requires : tie.Need-starts-requires Inv-states μ-states
 starts-requires c κs =
     let after-power : After-power = search in
     let start : Start = search in (
-      omega (arith, pow-small (start .args .bits) _ (start .pre .2) (after-power .power .ensures)),
-      start .pre .3,
-      start .pre .4,
+      omega (arith, pow-small (start .args .plan .bits) _ (start .pre .2 .fewBits) (after-power .power .ensures)),
+      start .pre .2,
     )
 
 in-map-requires : tie.Need-in-map-requires Inv-states μ-states
@@ -65,7 +64,7 @@ returns c =
     let at-states : At-states = search in
     let after-power : After-power = search in
     let start : Start = search in
-    a-fail _ _ (at-states .states .s) (2 ^ start .args .bits) (omega (arith, after-power .power .ensures))
+    a-fail _ _ (at-states .states .s) (2 ^ start .args .plan .bits) (omega (arith, after-power .power .ensures))
     (sym (after-starts .starts .ensures) ∙ then1 .if1 .taken)
     (sym (c .before .in-map .ensures) ∙ not-true _ (c .if2 .taken))
 
@@ -88,7 +87,7 @@ returns-2 : tie.Need-returns-2 Inv-states μ-states
 returns-2 c =
     let after-power : After-power = search in
     let start : Start = search in
-    a-done _ _ (c .before .states .s) (c .before .states .inv .1) (2 ^ start .args .bits)
+    a-done _ _ (c .before .states .s) (c .before .states .inv .1) (2 ^ start .args .plan .bits)
     (omega (arith, after-power .power .ensures)) (omega (arith, after-power .power .ensures))
 
 pub holds-a-spec : {M : Type 1} → statement M

@@ -15,10 +15,10 @@ use Rattle.acceptance.proofs.maps.holds_b.Statement.{statement}
 use Rattle.acceptance.proofs.maps.holds_b.Tie as tie
 
 abbrev Inv-states : tie.InvT-states
-Inv-states b p n bits commands ops ends states s₀ s = (s ≤ states) × (testB s (breaksIn ops ends) (mapIn b p n) ≡ true)
+Inv-states b p n ops plan states s₀ s = (s ≤ states) × (testB s (breaksIn ops (plan .ends)) (mapIn b p n) ≡ true)
 
 abbrev μ-states : tie.MeasureT-states
-μ-states b p n bits commands ops ends states s₀ s = states - s
+μ-states b p n ops plan states s₀ s = states - s
 
 -- The places that the answers name.
 abbrev After-power : Type 0
@@ -52,9 +52,8 @@ breaks-requires : tie.Need-breaks-requires Inv-states μ-states
 breaks-requires c κs =
     let after-power : After-power = search in
     let start : Start = search in (
-      omega (arith, pow-small (start .args .bits) _ (start .pre .2) (after-power .power .ensures)),
-      start .pre .3,
-      start .pre .4,
+      omega (arith, pow-small (start .args .plan .bits) _ (start .pre .2 .fewBits) (after-power .power .ensures)),
+      start .pre .2,
     )
 
 returns : tie.Need-returns Inv-states μ-states
@@ -64,7 +63,7 @@ returns c =
     let at-states : At-states = search in
     let after-power : After-power = search in
     let start : Start = search in
-    b-fail _ _ (at-states .states .s) (2 ^ start .args .bits) (omega (arith, after-power .power .ensures))
+    b-fail _ _ (at-states .states .s) (2 ^ start .args .plan .bits) (omega (arith, after-power .power .ensures))
     (sym (after-in-map .in-map .ensures) ∙ then1 .if1 .taken) (sym (c .before .breaks .ensures) ∙ c .if2 .taken)
 
 add-s : tie.Need-add-s Inv-states μ-states
@@ -85,7 +84,7 @@ returns-2 : tie.Need-returns-2 Inv-states μ-states
 returns-2 c =
     let after-power : After-power = search in
     let start : Start = search in
-    b-done _ _ (c .before .states .s) (c .before .states .inv .1) (2 ^ start .args .bits)
+    b-done _ _ (c .before .states .s) (c .before .states .inv .1) (2 ^ start .args .plan .bits)
     (omega (arith, after-power .power .ensures)) (omega (arith, after-power .power .ensures))
 
 pub holds-b-spec : {M : Type 1} → statement M

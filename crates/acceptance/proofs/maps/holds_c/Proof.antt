@@ -7,20 +7,19 @@ use mathlib.Core.Logic.{⊎-elim}
 use native.Mathlib.Omega.{arith}
 use borrow.Author.Needs.{needs}
 use borrow.Author.Tests.{not-true, not-false}
-use Rattle.acceptance.specs.working.Shapes.{starsIn}
 use Rattle.acceptance.specs.working.SheetReading.{mapIn}
 use Rattle.meaning.specs.working.Conditions.{testC}
-use Rattle.evaluation.specs.working.CodeSystem.{nextIn}
+use Rattle.evaluation.specs.working.CodeSystem.{nextIn, starsIn}
 use Rattle.acceptance.proofs.Loops.{c-none, c-other, c-closed, c-fail, c-done}
 use Rattle.acceptance.proofs.maps.holds_c.Statement.{statement}
 use Rattle.acceptance.proofs.maps.holds_c.Tie as tie
 
 abbrev Inv-states : tie.InvT-states
-Inv-states b p n bits commands ops ends stars states s₀ s =
-    (s ≤ states) × (testC s commands (starsIn stars) (nextIn ops ends bits) (mapIn b p n) ≡ true)
+Inv-states b p n ops plan states s₀ s =
+    (s ≤ states) × (testC s (plan .commands) (starsIn (plan .stars)) (nextIn ops (plan .ends) (plan .bits)) (mapIn b p n) ≡ true)
 
 abbrev μ-states : tie.MeasureT-states
-μ-states b p n bits commands ops ends stars states s₀ s = states - s
+μ-states b p n ops plan states s₀ s = states - s
 
 -- The places that the answers name.
 abbrev After-power : Type 0
@@ -56,10 +55,8 @@ closed-at-requires c κs =
     let start : Start = search in (
       start .pre .0,
       start .pre .1,
-      start .pre .2,
       omega (arith, after-power .power .ensures),
-      start .pre .3,
-      start .pre .4,
+      start .pre .2,
     )
 
 returns : tie.Need-returns Inv-states μ-states
@@ -69,7 +66,7 @@ returns c =
     let at-states : At-states = search in
     let after-power : After-power = search in
     let start : Start = search in
-    c-fail _ _ _ _ (at-states .states .s) (2 ^ start .args .bits) (omega (arith, after-power .power .ensures))
+    c-fail _ _ _ _ (at-states .states .s) (2 ^ start .args .plan .bits) (omega (arith, after-power .power .ensures))
     (sym (after-in-map .in-map .ensures) ∙ then1 .if1 .taken)
     (sym (c .before .closed-at .ensures) ∙ not-true _ (c .if2 .taken))
 
@@ -92,7 +89,7 @@ returns-2 : tie.Need-returns-2 Inv-states μ-states
 returns-2 c =
     let after-power : After-power = search in
     let start : Start = search in
-    c-done _ _ _ _ (c .before .states .s) (c .before .states .inv .1) (2 ^ start .args .bits)
+    c-done _ _ _ _ (c .before .states .s) (c .before .states .inv .1) (2 ^ start .args .plan .bits)
     (omega (arith, after-power .power .ensures)) (omega (arith, after-power .power .ensures))
 
 pub holds-c-spec : {M : Type 1} → statement M

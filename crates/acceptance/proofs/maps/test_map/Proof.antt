@@ -11,7 +11,7 @@ holds-a-requires : tie.Need-holds-a-requires
 holds-a-requires c κs = search needs
 
 returns : tie.Need-returns
-returns c = fails-a _ _ _ _ _ _ _ (sym (c .before .holds-a .ensures) ∙ not-true _ (c .if1 .taken))
+returns c = fails-a _ _ (sym (c .before .holds-a .ensures) ∙ not-true _ (c .if1 .taken))
 
 holds-b-requires : tie.Need-holds-b-requires
 holds-b-requires c κs = search needs
@@ -20,7 +20,7 @@ returns-2 : tie.Need-returns-2
 returns-2 c =
     let else1 : tie.Else1 = search in
     let after-holds-a : tie.After-holds-a = search in
-    fails-b _ _ _ _ _ _ _ (sym (after-holds-a .holds-a .ensures) ∙ not-false _ (else1 .if1 .left))
+    fails-b _ _ (sym (after-holds-a .holds-a .ensures) ∙ not-false _ (else1 .if1 .left))
     (sym (c .before .holds-b .ensures) ∙ not-true _ (c .if2 .taken))
 
 holds-c-requires : tie.Need-holds-c-requires
@@ -32,7 +32,7 @@ returns-3 c =
     let after-holds-b : tie.After-holds-b = search in
     let else1 : tie.Else1 = search in
     let after-holds-a : tie.After-holds-a = search in
-    fails-c _ _ _ _ _ _ _ (sym (after-holds-a .holds-a .ensures) ∙ not-false _ (else1 .if1 .left))
+    fails-c _ _ (sym (after-holds-a .holds-a .ensures) ∙ not-false _ (else1 .if1 .left))
     (sym (after-holds-b .holds-b .ensures) ∙ not-false _ (else2 .if2 .left))
     (sym (c .before .holds-c .ensures) ∙ not-true _ (c .if3 .taken))
 
@@ -42,7 +42,7 @@ returns-4 c =
     let after-holds-b : tie.After-holds-b = search in
     let else1 : tie.Else1 = search in
     let after-holds-a : tie.After-holds-a = search in
-    safe-holds _ _ _ _ _ _ _ (sym (after-holds-a .holds-a .ensures) ∙ not-false _ (else1 .if1 .left))
+    safe-holds _ _ (sym (after-holds-a .holds-a .ensures) ∙ not-false _ (else1 .if1 .left))
     (sym (after-holds-b .holds-b .ensures) ∙ not-false _ (else2 .if2 .left))
     (sym (c .before .holds-c .ensures) ∙ not-false _ (c .if3 .left))
 

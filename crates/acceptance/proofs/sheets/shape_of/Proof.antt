@@ -11,7 +11,7 @@ use Rattle.acceptance.proofs.sheets.shape_of.Statement.{statement}
 use Rattle.acceptance.proofs.sheets.shape_of.Tie as tie
 
 returns : tie.Need-returns
-returns c = sheet-long _ _ _ _ _ (c .if1 .taken)
+returns c = sheet-long _ _ _ _ _ _ (c .if1 .taken)
 
 is-record-requires : tie.Need-is-record-requires
 is-record-requires c κs = search needs
@@ -19,7 +19,7 @@ is-record-requires c κs = search needs
 returns-2 : tie.Need-returns-2
 returns-2 c =
     let else1 : tie.Else1 = search in
-    sheet-header _ _ _ _ _ (else1 .if1 .left) (sym (c .before .is-record .ensures) ∙ not-true _ (c .if2 .taken))
+    sheet-header _ _ _ _ _ _ (else1 .if1 .left) (sym (c .before .is-record .ensures) ∙ not-true _ (c .if2 .taken))
 
 same-counts-requires : tie.Need-same-counts-requires
 same-counts-requires c κs = record-parts _ 0 1 3 (sym (c .before .is-record .ensures) ∙ not-false _ (c .if2 .left)) .0
@@ -29,24 +29,18 @@ returns-3 c =
     let else2 : tie.Else2 = search in
     let after-is-record : tie.After-is-record = search in
     let else1 : tie.Else1 = search in
-    sheet-counts _ _ _ _ _ (else1 .if1 .left)
+    sheet-counts _ _ _ _ _ _ (else1 .if1 .left)
     (sym (after-is-record .is-record .ensures) ∙ not-false _ (else2 .if2 .left))
     (sym (c .before .same-counts .ensures) ∙ not-true _ (c .if3 .taken))
-
-add-power : tie.Need-add-power
-add-power c = search needs
 
 power-requires : tie.Need-power-requires
 power-requires c κs = search needs
 
 body-shape-requires : tie.Need-body-shape-requires
-body-shape-requires c κs = (
-  c .before .before .before .before .before .if1 .left,
-  omega arith,
-  pow-small (c .before .before .before .before .before .before .before .args .shared + c .before .before .before .before .before .before .before .args .row)
-      (c .power .result) (c .before .before .before .before .before .before .before .pre .0) (c .power .ensures),
-  c .before .before .before .before .before .before .before .pre .1,
-)
+body-shape-requires c κs =
+    let start : tie.Start = search in
+    let else1 : tie.Else1 = search in
+    (else1 .if1 .left, omega arith, pow-small (start .args .plan .bits) (c .power .result) (start .pre .fewBits) (c .power .ensures), start .pre)
 
 returns-4 : tie.Need-returns-4
 returns-4 c =
@@ -55,7 +49,7 @@ returns-4 c =
     let else2 : tie.Else2 = search in
     let after-is-record : tie.After-is-record = search in
     let else1 : tie.Else1 = search in
-    sheet-body _ _ _ _ _ (else1 .if1 .left) (sym (after-is-record .is-record .ensures) ∙ not-false _ (else2 .if2 .left))
+    sheet-body _ _ _ _ _ _ (else1 .if1 .left) (sym (after-is-record .is-record .ensures) ∙ not-false _ (else2 .if2 .left))
     (sym (after-same-counts .same-counts .ensures) ∙ not-false _ (else3 .if3 .left)) _ _ (c .before .power .ensures)
     (c .body-shape .ensures)
 
@@ -68,7 +62,6 @@ shape-of-spec =
     returns-2
     same-counts-requires
     returns-3
-    add-power
     power-requires
     body-shape-requires
     returns-4)

@@ -2,7 +2,7 @@
 -- Assumes nothing.
 use Rattle.acceptance.proofs.SheetLaws.{steps-start, trace-bad, trace-fault, trace-whole, steps-kind}
 use Rattle.acceptance.proofs.SheetLaws.{steps-range, steps-none, steps-left, record-parts}
-use Rattle.acceptance.specs.working.Shapes.{starsIn}
+use Rattle.evaluation.specs.working.CodeSystem.{starsIn}
 use Rattle.acceptance.specs.working.SheetReading.{Reading, stepsAt, stepCount}
 use borrow.Author.Tests.{not-true, not-false}
 use native.Mathlib.Omega.{arith}
@@ -12,13 +12,13 @@ use Rattle.acceptance.proofs.sheets.trace_shape.Statement.{statement}
 use Rattle.acceptance.proofs.sheets.trace_shape.Tie as tie
 
 abbrev Inv-loop : tie.InvT-loop
-Inv-loop b states commands stars p n at₀ i₀ at i =
+Inv-loop b states plan p n at₀ i₀ at i =
     (i ≤ n) × (at ≡ p + 8 + 10 * i) ×
-    ((rest : Reading) → stepsAt states commands (starsIn stars) b at (n - i) rest ≡ stepsAt states commands
-    (starsIn stars) b (p + 8) n rest)
+    ((rest : Reading) → stepsAt states (plan .commands) (starsIn (plan .stars)) b at (n - i) rest ≡ stepsAt states (plan .commands)
+    (starsIn (plan .stars)) b (p + 8) (stepCount b (p + 8)) rest)
 
 abbrev μ-loop : tie.MeasureT-loop
-μ-loop b states commands stars p n at₀ i₀ at i = n - i
+μ-loop b states plan p n at₀ i₀ at i = n - i
 
 -- The places that the answers name.
 abbrev At-loop : Type 0
@@ -29,6 +29,9 @@ Else1 = tie.Else1 Inv-loop μ-loop
 
 abbrev After-two-at : Type 0
 After-two-at = tie.After-two-at Inv-loop μ-loop
+
+abbrev After-step-count : Type 0
+After-step-count = tie.After-step-count Inv-loop μ-loop
 
 abbrev Start : Type 0
 Start = tie.Start Inv-loop μ-loop
@@ -48,26 +51,24 @@ two-at-requires c κs = omega arith
 returns : tie.Need-returns Inv-loop μ-loop
 returns c = trace-bad _ _ _ _ _ _ (c .before .two-at .ensures .0) (c .if1 .taken)
 
-add-n : tie.Need-add-n Inv-loop μ-loop
-add-n c = omega arith
+add-step-count : tie.Need-add-step-count Inv-loop μ-loop
+add-step-count c = omega arith
 
-add-n-2 : tie.Need-add-n-2 Inv-loop μ-loop
-add-n-2 c = omega arith
-
-sub-n : tie.Need-sub-n Inv-loop μ-loop
-sub-n c = omega arith
+step-count-requires : tie.Need-step-count-requires Inv-loop μ-loop
+step-count-requires c κs = (omega arith, omega arith)
 
 add-at : tie.Need-add-at Inv-loop μ-loop
 add-at c = omega arith
 
 loop-holds : tie.Need-loop-holds Inv-loop μ-loop
-loop-holds c = (omega arith, omega arith, λ rest. steps-start _ _ _ _ _ _ rest)
+loop-holds c =
+    let after-step-count : After-step-count = search in
+    (omega arith, omega arith, λ rest. steps-start _ _ _ _ _ _ _ rest (after-step-count .step-count .ensures .0))
 
 is-record-requires : tie.Need-is-record-requires Inv-loop μ-loop
 is-record-requires c κs = (omega arith, omega arith)
 
 returns-2 : tie.Need-returns-2 Inv-loop μ-loop
-unfolding stepCount
 returns-2 c =
     let at-loop : At-loop = search in
     let else1 : Else1 = search in
@@ -80,17 +81,17 @@ add-step-fits : tie.Need-add-step-fits Inv-loop μ-loop
 add-step-fits c = omega arith
 
 step-fits-requires : tie.Need-step-fits-requires Inv-loop μ-loop
-step-fits-requires c κs = (
-  omega (
-    arith,
-    record-parts (c .before .before .before .before .before .before .before .args .b .now) (c .before .before .before .loop .at) 4 4
-        (sym (c .before .is-record .ensures) ∙ not-false _ (c .if2 .left)) .0,
-  ),
-  c .before .before .before .before .before .before .before .pre .2,
-)
+step-fits-requires c κs =
+    let start : Start = search in
+    let at-loop : At-loop = search in (
+      omega (
+        arith,
+        record-parts (start .args .b .now) (at-loop .loop .at) 4 4 (sym (c .before .is-record .ensures) ∙ not-false _ (c .if2 .left)) .0,
+      ),
+      start .pre .2,
+    )
 
 returns-3 : tie.Need-returns-3 Inv-loop μ-loop
-unfolding stepCount
 returns-3 c =
     let else2 : Else2 = search in
     let after-is-record : After-is-record = search in
@@ -120,7 +121,6 @@ loop-again c = (
 )
 
 returns-4 : tie.Need-returns-4 Inv-loop μ-loop
-unfolding stepCount
 returns-4 c =
     let else1 : Else1 = search in
     let after-two-at : After-two-at = search in
@@ -136,9 +136,8 @@ trace-shape-spec =
     add-two-at
     two-at-requires
     returns
-    add-n
-    add-n-2
-    sub-n
+    add-step-count
+    step-count-requires
     add-at
     loop-holds
     is-record-requires

@@ -6,10 +6,9 @@ use mathlib.Core.Path.{_≡_, refl, sym, _∙_, subst}
 use native.Mathlib.Omega.{arith}
 use lib.ListN.{length}
 use borrow.Author.Tests.{not-true, not-false}
-use Rattle.acceptance.specs.working.Test.{walk}
-use Rattle.acceptance.specs.working.Shapes.{starsIn}
+use Rattle.acceptance.specs.working.Test.{systemIn, walk}
 use Rattle.acceptance.specs.working.SheetReading.{stepsIn, stepCount, StepsStand}
-use Rattle.evaluation.specs.working.CodeSystem.{breaksIn, nextIn}
+use Rattle.evaluation.specs.working.CodeSystem.{starsIn}
 use Rattle.evaluation.proofs.Powers.{pow-small}
 use Rattle.acceptance.proofs.SheetLaws.{record-parts}
 use Rattle.acceptance.proofs.TraceLaws.{stand-room, stand-command, stand-after, stand-rest, fails-d, goes}
@@ -18,13 +17,13 @@ use Rattle.acceptance.proofs.traces.test_trace.Statement.{statement}
 use Rattle.acceptance.proofs.traces.test_trace.Tie as tie
 
 abbrev Inv-steps : tie.InvT-steps
-Inv-steps b p bits commands ops ends stars first started n s₀ at₀ i₀ s at i =
-    (i ≤ n) × (s < 2 ^ bits) × (at ≡ p + 8 + 10 * i) × StepsStand (2 ^ bits) commands (starsIn stars) b at (n - i) ×
-    (walk (breaksIn ops ends) (nextIn ops ends bits) s (stepsIn b at (n - i)) ≡ walk (breaksIn ops ends)
-    (nextIn ops ends bits) first (stepsIn b (p + 8) n))
+Inv-steps b p ops plan first started n s₀ at₀ i₀ s at i =
+    (i ≤ n) × (s < 2 ^ plan .bits) × (at ≡ p + 8 + 10 * i)
+    × StepsStand (2 ^ plan .bits) (plan .commands) (starsIn (plan .stars)) b at (n - i)
+    × (walk (systemIn ops plan) s (stepsIn b at (n - i)) ≡ walk (systemIn ops plan) first (stepsIn b (p + 8) (stepCount b (p + 8))))
 
 abbrev μ-steps : tie.MeasureT-steps
-μ-steps b p bits commands ops ends stars first started n s₀ at₀ i₀ s at i = n - i
+μ-steps b p ops plan first started n s₀ at₀ i₀ s at i = n - i
 
 -- The places that the answers name.
 abbrev In-steps : Type 0
@@ -35,6 +34,9 @@ Start = tie.Start Inv-steps μ-steps
 
 abbrev After-two-at : Type 0
 After-two-at = tie.After-two-at Inv-steps μ-steps
+
+abbrev After-step-count : Type 0
+After-step-count = tie.After-step-count Inv-steps μ-steps
 
 abbrev After-wide : Type 0
 After-wide = tie.After-wide Inv-steps μ-steps
@@ -65,56 +67,52 @@ room c = stand-room _ _ _ _ _ _ _ (c .steps-test .taken) (c .before .steps .inv 
 
 add-two-at : tie.Need-add-two-at Inv-steps μ-steps
 add-two-at c =
-    omega (arith, record-parts (c .before .args .b .now) (c .before .args .p) 3 2 (c .before .pre .4 .head) .0)
+    omega (arith, record-parts (c .before .args .b .now) (c .before .args .p) 3 2 (c .before .pre .2 .head) .0)
 
 two-at-requires : tie.Need-two-at-requires Inv-steps μ-steps
 two-at-requires c κs =
-    omega (arith, record-parts (c .before .args .b .now) (c .before .args .p) 3 2 (c .before .pre .4 .head) .0)
+    omega (arith, record-parts (c .before .args .b .now) (c .before .args .p) 3 2 (c .before .pre .2 .head) .0)
 
 starts-requires : tie.Need-starts-requires Inv-steps μ-steps
 starts-requires c κs =
     let start : Start = search in
-    let bits = start .args .bits in (
-      omega (arith, c .two-at .ensures .0, start .pre .4 .start, pow-small bits (2 ^ bits) (start .pre .0) refl),
-      start .pre .2 .fewCommands,
-      start .pre .3,
+    let bits = start .args .plan .bits in (
+      omega (arith, c .two-at .ensures .0, start .pre .2 .start, pow-small bits (2 ^ bits) (start .pre .1 .fewBits) refl),
+      start .pre .1,
     )
 
 returns : tie.Need-returns Inv-steps μ-steps
 returns c =
     let after-two-at : After-two-at = search in
-    fails-d _ _ _ _ _ _ (after-two-at .two-at .ensures .0)
+    fails-d _ _ _ _ (after-two-at .two-at .ensures .0)
     (sym (c .before .starts .ensures) ∙ not-true _ (c .if1 .taken))
 
-add-n : tie.Need-add-n Inv-steps μ-steps
-add-n c = omega arith
-
-add-n-2 : tie.Need-add-n-2 Inv-steps μ-steps
-add-n-2 c =
+add-step-count : tie.Need-add-step-count Inv-steps μ-steps
+add-step-count c =
     let start : Start = search in
-    omega (arith, record-parts (start .args .b .now) (start .args .p) 3 2 (start .pre .4 .head) .0)
+    omega (arith, record-parts (start .args .b .now) (start .args .p) 3 2 (start .pre .2 .head) .0)
 
-sub-n : tie.Need-sub-n Inv-steps μ-steps
-sub-n c =
+step-count-requires : tie.Need-step-count-requires Inv-steps μ-steps
+step-count-requires c κs =
     let start : Start = search in
-    omega (arith, record-parts (start .args .b .now) (start .args .p) 3 2 (start .pre .4 .head) .0)
+    (omega (arith, record-parts (start .args .b .now) (start .args .p) 3 2 (start .pre .2 .head) .0), start .pre .0)
 
 add-at : tie.Need-add-at Inv-steps μ-steps
 add-at c =
     let start : Start = search in
-    omega (arith, record-parts (start .args .b .now) (start .args .p) 3 2 (start .pre .4 .head) .0)
+    omega (arith, record-parts (start .args .b .now) (start .args .p) 3 2 (start .pre .2 .head) .0)
 
 steps-holds : tie.Need-steps-holds Inv-steps μ-steps
-unfolding stepCount
 steps-holds c =
     let after-two-at : After-two-at = search in
+    let after-step-count : After-step-count = search in
     let start : Start = search in (
       omega arith,
-      subst (λ (x : ℕ). x < 2 ^ start .args .bits) (sym (after-two-at .two-at .ensures .0))
-          (start .pre .4 .start),
+      subst (λ (x : ℕ). x < 2 ^ start .args .plan .bits) (sym (after-two-at .two-at .ensures .0))
+          (start .pre .2 .start),
       omega arith,
-      stands-start _ _ _ _ _ _ (start .pre .4 .steps),
-      walk-start _ _ _ _ _ _,
+      stands-start _ _ _ _ _ _ _ (after-step-count .step-count .ensures .0) (start .pre .2 .steps),
+      walk-start _ _ _ _ _ _ (after-step-count .step-count .ensures .0),
     )
 
 add-x : tie.Need-add-x Inv-steps μ-steps
@@ -155,9 +153,8 @@ step-requires c κs =
     let in-steps : In-steps = search in
     let at-steps : At-steps = search in
     let start : Start = search in
-    let bits = start .args .bits in (
-      start .pre .0,
-      omega (arith, at-steps .steps .inv .1, pow-small bits (2 ^ bits) (start .pre .0) refl),
+    let bits = start .args .plan .bits in (
+      omega (arith, at-steps .steps .inv .1, pow-small bits (2 ^ bits) (start .pre .1 .fewBits) refl),
       omega (
         arith,
         after-wide .wide .ensures .0,
@@ -165,12 +162,10 @@ step-requires c κs =
             (at-steps .steps .inv .3),
       ),
       c .before .wide2 .ensures .1,
-      start .pre .2 .fewCommands,
-      start .pre .3,
+      start .pre .1,
     )
 
 returns-2 : tie.Need-returns-2 Inv-steps μ-steps
-unfolding stepCount
 returns-2 c =
     let after-two-at2 : After-two-at2 = search in
     let after-wide2 : After-wide2 = search in
@@ -180,9 +175,9 @@ returns-2 c =
     let else1 : Else1 = search in
     let after-starts : After-starts = search in
     let after-two-at : After-two-at = search in
-    goes _ _ _ _ _ _ _ (after-two-at .two-at .ensures .0)
+    goes _ _ _ _ _ (after-two-at .two-at .ensures .0)
     (sym (after-starts .starts .ensures) ∙ not-false _ (else1 .if1 .left))
-    (walk-fails _ _ _ _ _ _ _ _ _ _ _ (in-steps .steps-test .taken) (after-wide .wide .ensures .0)
+    (walk-fails _ _ _ _ _ _ _ _ _ _ (in-steps .steps-test .taken) (after-wide .wide .ensures .0)
     (after-wide2 .wide2 .ensures .0) (after-two-at2 .two-at2 .ensures .0) (c .before .step .ensures) (c .if2 .taken) ∙
     at-steps .steps .inv .4)
 
@@ -206,12 +201,12 @@ steps-again c =
     let at-steps : At-steps = search in
     let start : Start = search in (
       omega arith,
-      subst (λ (x : ℕ). x < 2 ^ start .args .bits) (sym (after-two-at2 .two-at2 .ensures .0))
+      subst (λ (x : ℕ). x < 2 ^ start .args .plan .bits) (sym (after-two-at2 .two-at2 .ensures .0))
           (stand-after _ _ _ _ _ _ _ (in-steps .steps-test .taken) (at-steps .steps .inv .3)),
       omega arith,
       stand-rest _ _ _
           _ _ _ _ (in-steps .steps-test .taken) (at-steps .steps .inv .3),
-      walk-next _ _ _ _ _ _ _ _ _ _ _
+      walk-next _ _ _ _ _ _ _ _ _ _
           (in-steps .steps-test .taken) (after-wide .wide .ensures .0) (after-wide2 .wide2 .ensures .0)
           (after-two-at2 .two-at2 .ensures .0) (c .before .step .ensures) (c .if2 .left) ∙ at-steps .steps .inv .4,
     )
@@ -219,36 +214,33 @@ steps-again c =
 breaks-requires : tie.Need-breaks-requires Inv-steps μ-steps
 breaks-requires c κs =
     let start : Start = search in
-    let bits = start .args .bits in (
-      omega (arith, c .before .steps .inv .1, pow-small bits (2 ^ bits) (start .pre .0) refl),
-      start .pre .2 .fewCommands,
-      start .pre .3,
+    let bits = start .args .plan .bits in (
+      omega (arith, c .before .steps .inv .1, pow-small bits (2 ^ bits) (start .pre .1 .fewBits) refl),
+      start .pre .1,
     )
 
 returns-3 : tie.Need-returns-3 Inv-steps μ-steps
-unfolding stepCount
 returns-3 c =
     let after-steps : After-steps = search in
     let at-steps : At-steps = search in
     let else1 : Else1 = search in
     let after-starts : After-starts = search in
     let after-two-at : After-two-at = search in
-    goes _ _ _ _ _ _ _ (after-two-at .two-at .ensures .0)
+    goes _ _ _ _ _ (after-two-at .two-at .ensures .0)
     (sym (after-starts .starts .ensures) ∙ not-false _ (else1 .if1 .left))
-    (walk-breaks _ _ _ _ _ _ _ (after-steps .steps-test .left) (sym (c .before .breaks .ensures) ∙ c .if3 .taken) ∙
+    (walk-breaks _ _ _ _ _ _ (after-steps .steps-test .left) (sym (c .before .breaks .ensures) ∙ c .if3 .taken) ∙
     at-steps .steps .inv .4)
 
 returns-4 : tie.Need-returns-4 Inv-steps μ-steps
-unfolding stepCount
 returns-4 c =
     let after-steps : After-steps = search in
     let at-steps : At-steps = search in
     let else1 : Else1 = search in
     let after-starts : After-starts = search in
     let after-two-at : After-two-at = search in
-    goes _ _ _ _ _ _ _ (after-two-at .two-at .ensures .0)
+    goes _ _ _ _ _ (after-two-at .two-at .ensures .0)
     (sym (after-starts .starts .ensures) ∙ not-false _ (else1 .if1 .left))
-    (walk-keeps _ _ _ _ _ _ _ (after-steps .steps-test .left) (sym (c .before .breaks .ensures) ∙ c .if3 .left) ∙
+    (walk-keeps _ _ _ _ _ _ (after-steps .steps-test .left) (sym (c .before .breaks .ensures) ∙ c .if3 .left) ∙
     at-steps .steps .inv .4)
 
 pub test-trace-spec : {M : Type 1} → statement M
@@ -261,9 +253,8 @@ test-trace-spec =
     two-at-requires
     starts-requires
     returns
-    add-n
-    add-n-2
-    sub-n
+    add-step-count
+    step-count-requires
     add-at
     steps-holds
     add-x

@@ -6,20 +6,15 @@ use borrow.Author.Needs.{needs}
 use Rattle.evaluation.proofs.lanes.fill.Statement.{statement}
 use Rattle.evaluation.proofs.lanes.fill.Tie as tie
 
-batch-requires : tie.Need-batch-requires
-batch-requires c κs = search needs
-
-rows-of-requires : tie.Need-rows-of-requires
-rows-of-requires c κs = search needs
+batch-rows-requires : tie.Need-batch-rows-requires
+batch-rows-requires c κs = search needs
 
 returns : tie.Need-returns
 returns c =
-    let after-batch : tie.After-batch = search in
     let then1 : tie.Then1 = search in
     let start : tie.Start = search in
     let a = start .args in
-    filled-new (slice (a .from) (a .to) (a .ops .now)) (a .state) (a .n) (a .w) (a .rows .now) _ _ (then1 .if1 .taken)
-    (after-batch .batch .ensures) (c .rows-of .ensures)
+    filled-new (slice (a .from) (a .to) (a .ops .now)) (a .state) (a .n) (a .w) (a .rows .now) _ (then1 .if1 .taken) (c .batch-rows .ensures)
 
 returns-2 : tie.Need-returns-2
 returns-2 c =
@@ -28,4 +23,4 @@ returns-2 c =
     filled-old (slice (a .from) (a .to) (a .ops .now)) (a .state) (a .n) (a .w) (a .rows .now) (c .if1 .left)
 
 pub fill-spec : {M : Type 1} → statement M
-fill-spec = tie.close (tie.spec batch-requires rows-of-requires returns returns-2)
+fill-spec = tie.close (tie.spec batch-rows-requires returns returns-2)

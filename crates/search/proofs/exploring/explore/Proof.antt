@@ -10,9 +10,7 @@ use lib.Seq.{slice}
 use lib.ListN.{getD, set}
 use Rattle.evaluation.specs.working.CodeSystem.{nextIn}
 use Rattle.evaluation.proofs.Batches as B
-use Rattle.evaluation.proofs.OneRowCode.{part-rises, part-short}
 use Rattle.evaluation.proofs.Powers.{pow-small}
-use Rattle.acceptance.proofs.SheetLaws.{stars-word, words-few}
 use Rattle.search.specs.working.CodeTransitions.{transitionsIn}
 use Rattle.exploration.specs.working.Transitions.{wordsFrom, movesFrom, moves}
 use Rattle.search.proofs.CodeSteps.{step-picked, step-below, commands-start}
@@ -23,31 +21,31 @@ use Rattle.search.proofs.exploring.explore.Statement.{statement}
 use Rattle.search.proofs.exploring.explore.Tie as tie
 
 abbrev Inv-words : tie.InvT-words
-Inv-words ops ends stars commands bits queue₀ parent₀ taken start most count₀ found₀ head left s state k from to words rows₀ w₀ queue parent count found rows w =
-    (w ≤ words) × (found ≡ found₀) × Tried (transitionsIn bits commands ops ends stars) s (wordsFrom k 0 words) queue₀
-    count₀ parent₀ (wordsFrom k w (words - w)) queue count parent × B.Ready (slice from to ops) s bits w rows
+Inv-words ops plan queue₀ parent₀ taken start most commands bits count₀ found₀ head left s state k code words rows₀ w₀ queue parent count found rows w =
+    (w ≤ words) × (found ≡ found₀) × Tried (transitionsIn ops plan) s (wordsFrom k 0 words) queue₀
+    count₀ parent₀ (wordsFrom k w (words - w)) queue count parent × B.Ready (slice (code .from) (code .to) ops) s bits w rows
 
 abbrev μ-words : tie.MeasureT-words
-μ-words ops ends stars commands bits queue₀ parent₀ taken start most count₀ found₀ head left s state k from to words rows₀ w₀ queue parent count found rows w =
+μ-words ops plan queue₀ parent₀ taken start most commands bits count₀ found₀ head left s state k code words rows₀ w₀ queue parent count found rows w =
     words - w
 
 abbrev Inv-commands : tie.InvT-commands
-Inv-commands ops ends stars commands bits queue₀ parent₀ taken start most count₀ found₀ head left s state k₀ queue parent count found k =
-    (k ≤ commands) × (found ≡ found₀) × Tried (transitionsIn bits commands ops ends stars) s
-    (moves (transitionsIn bits commands ops ends stars)) queue₀ count₀ parent₀
-    (movesFrom (transitionsIn bits commands ops ends stars) k (commands - k)) queue count parent
+Inv-commands ops plan queue₀ parent₀ taken start most commands bits count₀ found₀ head left s state k₀ queue parent count found k =
+    (k ≤ commands) × (found ≡ found₀) × Tried (transitionsIn ops plan) s
+    (moves (transitionsIn ops plan)) queue₀ count₀ parent₀
+    (movesFrom (transitionsIn ops plan) k (commands - k)) queue count parent
 
 abbrev μ-commands : tie.MeasureT-commands
-μ-commands ops ends stars commands bits queue₀ parent₀ taken start most count₀ found₀ head left s state k₀ queue parent count found k =
+μ-commands ops plan queue₀ parent₀ taken start most commands bits count₀ found₀ head left s state k₀ queue parent count found k =
     commands - k
 
 abbrev Inv-search : tie.InvT-search
-Inv-search ops ends stars commands bits queue₀ parent₀ taken start most count₀ found₀ head₀ left₀ queue parent count found head left =
+Inv-search ops plan queue₀ parent₀ taken start most commands bits count₀ found₀ head₀ left₀ queue parent count found head left =
     (found ≡ false)
-    × Gone (transitionsIn bits commands ops ends stars) head₀ left₀ queue₀ count₀ parent₀ head left queue count parent
+    × Gone (transitionsIn ops plan) head₀ left₀ queue₀ count₀ parent₀ head left queue count parent
 
 abbrev μ-search : tie.MeasureT-search
-μ-search ops ends stars commands bits queue₀ parent₀ taken start most count₀ found₀ head₀ left₀ queue parent count found head left =
+μ-search ops plan queue₀ parent₀ taken start most commands bits count₀ found₀ head₀ left₀ queue parent count found head left =
     left
 
 -- The places that the answers name.
@@ -69,14 +67,11 @@ At-words = tie.At-words Inv-words μ-words Inv-commands μ-commands Inv-search �
 abbrev At-commands : Type 0
 At-commands = tie.At-commands Inv-words μ-words Inv-commands μ-commands Inv-search μ-search
 
-abbrev After-renew : Type 0
-After-renew = tie.After-renew Inv-words μ-words Inv-commands μ-commands Inv-search μ-search
+abbrev After-fill : Type 0
+After-fill = tie.After-fill Inv-words μ-words Inv-commands μ-commands Inv-search μ-search
 
-abbrev After-count : Type 0
-After-count = tie.After-count Inv-words μ-words Inv-commands μ-commands Inv-search μ-search
-
-abbrev After-begin : Type 0
-After-begin = tie.After-begin Inv-words μ-words Inv-commands μ-commands Inv-search μ-search
+abbrev After-segment : Type 0
+After-segment = tie.After-segment Inv-words μ-words Inv-commands μ-commands Inv-search μ-search
 
 abbrev Then3 : Type 0
 Then3 = tie.Then3 Inv-words μ-words Inv-commands μ-commands Inv-search μ-search
@@ -87,11 +82,8 @@ Then2 = tie.Then2 Inv-words μ-words Inv-commands μ-commands Inv-search μ-sear
 abbrev In-words : Type 0
 In-words = tie.In-words Inv-words μ-words Inv-commands μ-commands Inv-search μ-search
 
-abbrev After-power : Type 0
-After-power = tie.After-power Inv-words μ-words Inv-commands μ-commands Inv-search μ-search
-
-abbrev After-count2 : Type 0
-After-count2 = tie.After-count2 Inv-words μ-words Inv-commands μ-commands Inv-search μ-search
+abbrev After-word-count : Type 0
+After-word-count = tie.After-word-count Inv-words μ-words Inv-commands μ-commands Inv-search μ-search
 
 abbrev In-commands : Type 0
 In-commands = tie.In-commands Inv-words μ-words Inv-commands μ-commands Inv-search μ-search
@@ -106,7 +98,7 @@ In-search = tie.In-search Inv-words μ-words Inv-commands μ-commands Inv-search
 s-below : (c : After-slice-known3) →
     let at-search : At-search = search in
     let start : Start = search in
-    getD (at-search .search .queue) (at-search .search .head) 0 < 2 ^ start .args .bits
+    getD (at-search .search .queue) (at-search .search .head) 0 < 2 ^ start .args .plan .bits
 s-below c =
     let at-search : At-search = search in
     at-search .search .inv .1 .kept .ready .below (at-search .search .head) (c .before .if1 .left)
@@ -116,24 +108,23 @@ reached : (c : After-pick) →
     let at-commands : At-commands = search in
     let at-search : At-search = search in
     let start : Start = search in
-    c .pick .result ≡ nextIn (start .args .ops .now) (start .args .ends .now) (start .args .bits)
+    c .pick .result ≡ nextIn (start .args .ops .now) (start .args .plan .ends) (start .args .plan .bits)
     (getD (at-search .search .queue) (at-search .search .head) 0) (at-commands .commands .k) (at-words .words .w)
 reached c =
-    let after-renew : After-renew = search in
+    let after-fill : After-fill = search in
     let at-words : At-words = search in
-    let after-count : After-count = search in
-    let after-begin : After-begin = search in
+    let after-segment : After-segment = search in
     let after-slice-known3 : After-slice-known3 = search in
     let start : Start = search in
-    step-picked _ _ _ _ _ _ _ _ _ (after-begin .begin .ensures) (after-count .count .ensures)
-    (c .pick .ensures ∙ B.picked _ _ (start .args .bits) _ _ _ (omega (arith, start .pre .0))
-    (s-below after-slice-known3) (after-renew .renew .ensures) (at-words .words .inv .3))
+    step-picked _ (start .args .plan .bits) _ _ _ (after-segment .segment .ensures)
+    (c .pick .ensures ∙ B.picked _ _ (start .args .plan .bits) _ _ _ (omega (arith, start .pre .0 .fewBits))
+    (s-below after-slice-known3) (after-fill .fill .ensures) (at-words .words .inv .3))
 
 t-below : (c : After-pick) →
     let at-words : At-words = search in
     let at-search : At-search = search in
     let start : Start = search in
-    c .pick .result < 2 ^ start .args .bits
+    c .pick .result < 2 ^ start .args .plan .bits
 t-below c = step-below _ _ _ _ _ _ _ (reached c)
 
 -- Where the search breaks off, three loops deep.
@@ -143,8 +134,7 @@ broken : (c : Then3) →
     let at-commands : At-commands = search in
     let at-search : At-search = search in
     let start : Start = search in
-    let M = transitionsIn (start .args .bits) (start .args .commands) (start .args .ops .now) (start .args .ends .now)
-    (start .args .stars .now) in
+    let M = transitionsIn (start .args .ops .now) (start .args .plan) in
     let old = at-search .search in
     let s = getD (old .queue) (old .head) 0 in
     let new = at-words .words in
@@ -156,11 +146,10 @@ broken c =
     let after-pick : After-pick = search in
     let in-words : In-words = search in
     let at-words : At-words = search in
-    let after-power : After-power = search in
-    let after-count2 : After-count2 = search in
+    let after-word-count : After-word-count = search in
     let in-commands : In-commands = search in
     let at-commands : At-commands = search in
-    command-broke _ _ _ (stars-word _ _ _ _ (after-count2 .count2 .ensures) (after-power .power .ensures))
+    command-broke _ _ _ (after-word-count .word-count .ensures .0)
     (in-commands .commands-test .taken) (at-commands .commands .inv .2)
     (tried-broke _ _ _ (at-words .words .inv .2) (in-words .words-test .taken) _ (reached after-pick)
     (t-below after-pick) (then2 .if2 .taken) (sym (c .before .breaks .ensures) ∙ c .if3 .taken))
@@ -168,7 +157,7 @@ broken c =
 search-holds : tie.Need-search-holds Inv-words μ-words Inv-commands μ-commands Inv-search μ-search
 search-holds c =
     let start : Start = search in
-    (refl, gone-refl _ _ _ _ _ _ (start .pre .3))
+    (refl, gone-refl _ _ _ _ _ _ (start .pre .1))
 
 mul-s : tie.Need-mul-s Inv-words μ-words Inv-commands μ-commands Inv-search μ-search
 mul-s c = omega arith
@@ -181,8 +170,8 @@ slice-read-s c =
 cast-state : tie.Need-cast-state Inv-words μ-words Inv-commands μ-commands Inv-search μ-search
 cast-state c =
     let start : Start = search in
-    let bits = start .args .bits in
-    omega (arith, s-below c, pow-small bits (2 ^ bits) (start .pre .0) refl)
+    let bits = start .args .plan .bits in
+    omega (arith, s-below c, pow-small bits (2 ^ bits) (start .pre .0 .fewBits) refl)
 
 commands-holds :
     tie.Need-commands-holds Inv-words μ-words Inv-commands μ-commands Inv-search μ-search
@@ -190,56 +179,20 @@ commands-holds c =
     let at-search : At-search = search in
     (omega arith, refl, commands-start _ _ _ _ _ (at-search .search .inv .1 .kept .ready))
 
-add-begin : tie.Need-add-begin Inv-words μ-words Inv-commands μ-commands Inv-search μ-search
-add-begin c =
+add-segment : tie.Need-add-segment Inv-words μ-words Inv-commands μ-commands Inv-search μ-search
+add-segment c =
     let start : Start = search in
-    omega (arith, start .pre .1 .fewCommands)
+    omega (arith, start .pre .0 .fewCommands)
 
-begin-requires :
-    tie.Need-begin-requires Inv-words μ-words Inv-commands μ-commands Inv-search μ-search
-begin-requires c κs =
+segment-requires : tie.Need-segment-requires Inv-words μ-words Inv-commands μ-commands Inv-search μ-search
+segment-requires c κs =
     let start : Start = search in
-    omega (arith, start .pre .1 .fewCommands)
+    (omega arith, start .pre .0)
 
-add-count : tie.Need-add-count Inv-words μ-words Inv-commands μ-commands Inv-search μ-search
-add-count c =
+word-count-requires : tie.Need-word-count-requires Inv-words μ-words Inv-commands μ-commands Inv-search μ-search
+word-count-requires c κs =
     let start : Start = search in
-    omega (arith, start .pre .1 .fewCommands)
-
-mul-count : tie.Need-mul-count Inv-words μ-words Inv-commands μ-commands Inv-search μ-search
-mul-count c = search needs
-
-element-copy-out-count :
-    tie.Need-element-copy-out-count Inv-words μ-words Inv-commands μ-commands Inv-search μ-search
-element-copy-out-count c =
-    let start : Start = search in
-    omega (arith, start .pre .1 .fewCommands)
-
-count-requires :
-    tie.Need-count-requires Inv-words μ-words Inv-commands μ-commands Inv-search μ-search
-count-requires c κs = search needs
-
-mul-count-2 : tie.Need-mul-count-2 Inv-words μ-words Inv-commands μ-commands Inv-search μ-search
-mul-count-2 c = search needs
-
-element-copy-out-count-2 :
-    tie.Need-element-copy-out-count-2 Inv-words μ-words Inv-commands μ-commands Inv-search μ-search
-element-copy-out-count-2 c =
-    let start : Start = search in
-    omega (arith, start .pre .1 .fewCommands)
-
-count-requires-2 :
-    tie.Need-count-requires-2 Inv-words μ-words Inv-commands μ-commands Inv-search μ-search
-count-requires-2 c κs = search needs
-
-power-requires :
-    tie.Need-power-requires Inv-words μ-words Inv-commands μ-commands Inv-search μ-search
-power-requires c κs =
-    let in-commands : In-commands = search in
-    let at-commands : At-commands = search in
-    let start : Start = search in
-    omega
-    (arith, start .pre .1 .fewStars (at-commands .commands .k) (in-commands .commands-test .taken), c .count2 .ensures)
+    (omega arith, start .pre .0)
 
 words-holds : tie.Need-words-holds Inv-words μ-words Inv-commands μ-commands Inv-search μ-search
 words-holds c =
@@ -248,35 +201,14 @@ words-holds c =
 
 cast-word : tie.Need-cast-word Inv-words μ-words Inv-commands μ-commands Inv-search μ-search
 cast-word c =
-    let after-power : After-power = search in
-    let after-count2 : After-count2 = search in
-    let in-commands : In-commands = search in
-    let at-commands : At-commands = search in
-    let start : Start = search in
-    omega (
-      arith,
-      words-few (after-count2 .count2 .result) (after-power .power .result)
-          (start .pre .1 .fewStars (at-commands .commands .k) (in-commands .commands-test .taken))
-          (after-count2 .count2 .ensures) (after-power .power .ensures),
-    )
+    let after-word-count : After-word-count = search in
+    omega (arith, after-word-count .word-count .ensures .1)
 
-renew-requires :
-    tie.Need-renew-requires Inv-words μ-words Inv-commands μ-commands Inv-search μ-search
-renew-requires c κs =
-    let after-count : After-count = search in
-    let after-begin : After-begin = search in
-    let at-commands : At-commands = search in
+fill-requires : tie.Need-fill-requires Inv-words μ-words Inv-commands μ-commands Inv-search μ-search
+fill-requires c κs =
+    let after-segment : After-segment = search in
     let start : Start = search in
-    let commands = start .args .commands in (
-      part-rises commands _ (start .pre .2) (4 + at-commands .commands .k) _ _ (omega arith)
-          (after-count .count .ensures) (after-begin .begin .ensures),
-      omega (
-        arith,
-        part-short commands _ (start .pre .2) (4 + at-commands .commands .k) 0 _ (omega arith)
-            (after-count .count .ensures),
-      ),
-      omega (arith, start .pre .0),
-    )
+    (after-segment .segment .ensures .rising, omega (arith, after-segment .segment .ensures .short), omega (arith, start .pre .0 .fewBits))
 
 pick-requires :
     tie.Need-pick-requires Inv-words μ-words Inv-commands μ-commands Inv-search μ-search
@@ -287,8 +219,8 @@ cast-t c =
     let at-words : At-words = search in
     let at-search : At-search = search in
     let start : Start = search in
-    let bits = start .args .bits in
-    omega (arith, t-below c, pow-small bits (2 ^ bits) (start .pre .0) refl)
+    let bits = start .args .plan .bits in
+    omega (arith, t-below c, pow-small bits (2 ^ bits) (start .pre .0 .fewBits) refl)
 
 cast-at : tie.Need-cast-at Inv-words μ-words Inv-commands μ-commands Inv-search μ-search
 cast-at c = omega arith
@@ -307,8 +239,8 @@ add-parent c =
     let at-words : At-words = search in
     let after-slice-known3 : After-slice-known3 = search in
     let start : Start = search in
-    let bits = start .args .bits in
-    omega (arith, s-below after-slice-known3, pow-small bits (2 ^ bits) (start .pre .0) refl)
+    let bits = start .args .plan .bits in
+    omega (arith, s-below after-slice-known3, pow-small bits (2 ^ bits) (start .pre .0 .fewBits) refl)
 
 mul-parent : tie.Need-mul-parent Inv-words μ-words Inv-commands μ-commands Inv-search μ-search
 mul-parent c = omega arith
@@ -326,9 +258,9 @@ mul-queue c =
     let at-words : At-words = search in
     let at-commands : At-commands = search in
     let start : Start = search in
-    let bits = start .args .bits in
+    let bits = start .args .plan .bits in
     let K = at-words .words .inv .2 .kept in
-    omega (arith, room _ _ _ _ (K .ready) 0 _ (t-below after-pick) (c .if2 .taken), pow-small bits (2 ^ bits) (start .pre .0) refl)
+    omega (arith, room _ _ _ _ (K .ready) 0 _ (t-below after-pick) (c .if2 .taken), pow-small bits (2 ^ bits) (start .pre .0 .fewBits) refl)
 
 slice-write-queue :
     tie.Need-slice-write-queue Inv-words μ-words Inv-commands μ-commands Inv-search μ-search
@@ -338,13 +270,13 @@ slice-write-queue c =
     let K = at-words .words .inv .2 .kept in
     omega (arith, room _ _ _ _ (K .ready) 0 _ (t-below after-pick) (c .if2 .taken), K .ready .queue-room)
 
-add-count-2 : tie.Need-add-count-2 Inv-words μ-words Inv-commands μ-commands Inv-search μ-search
-add-count-2 c =
+add-count : tie.Need-add-count Inv-words μ-words Inv-commands μ-commands Inv-search μ-search
+add-count c =
     let at-words : At-words = search in
     let at-search : At-search = search in
     let start : Start = search in
-    let bits = start .args .bits in
-    omega (arith, at-words .words .inv .2 .kept .few, pow-small bits (2 ^ bits) (start .pre .0) refl)
+    let bits = start .args .plan .bits in
+    omega (arith, at-words .words .inv .2 .kept .few, pow-small bits (2 ^ bits) (start .pre .0 .fewBits) refl)
 
 breaks-requires :
     tie.Need-breaks-requires Inv-words μ-words Inv-commands μ-commands Inv-search μ-search
@@ -354,10 +286,9 @@ breaks-requires c κs =
     let at-commands : At-commands = search in
     let at-search : At-search = search in
     let start : Start = search in
-    let bits = start .args .bits in (
-      omega (arith, t-below after-pick, pow-small bits (2 ^ bits) (start .pre .0) refl),
-      start .pre .1 .fewCommands,
-      start .pre .2,
+    let bits = start .args .plan .bits in (
+      omega (arith, t-below after-pick, pow-small bits (2 ^ bits) (start .pre .0 .fewBits) refl),
+      start .pre .0,
     )
 
 add-w : tie.Need-add-w Inv-words μ-words Inv-commands μ-commands Inv-search μ-search
@@ -369,7 +300,7 @@ words-less c = omega arith
 words-again : tie.Need-words-again Inv-words μ-words Inv-commands μ-commands Inv-search μ-search
 words-again c =
     let after-pick : After-pick = search in
-    let after-renew : After-renew = search in
+    let after-fill : After-fill = search in
     let in-words : In-words = search in
     let at-words : At-words = search in (
       omega arith,
@@ -382,7 +313,7 @@ words-again c =
           (tried-old _ _ _ (at-words .words .inv .2) (in-words .words-test .taken) _ (reached after-pick)
           (t-below after-pick) (w .0 .left)))
           (c .if2 .came),
-      B.ready-next _ _ _ _ _ _ (after-renew .renew .ensures) (at-words .words .inv .3),
+      B.ready-next _ _ _ _ _ _ (after-fill .fill .ensures) (at-words .words .inv .3),
     )
 
 add-k : tie.Need-add-k Inv-words μ-words Inv-commands μ-commands Inv-search μ-search
@@ -395,14 +326,13 @@ commands-less c = omega arith
 commands-again :
     tie.Need-commands-again Inv-words μ-words Inv-commands μ-commands Inv-search μ-search
 commands-again c =
-    let after-power : After-power = search in
-    let after-count2 : After-count2 = search in
+    let after-word-count : After-word-count = search in
     let in-commands : In-commands = search in
     let at-commands : At-commands = search in (
       omega arith,
       c .before .words .inv .1 ∙ at-commands .commands .inv .1,
       command-done _ _ _ _
-          (stars-word _ _ _ _ (after-count2 .count2 .ensures) (after-power .power .ensures))
+          (after-word-count .word-count .ensures .0)
           (in-commands .commands-test .taken) (c .before .words .inv .0) (c .words-test .left)
           (at-commands .commands .inv .2) (c .before .words .inv .2),
     )
@@ -412,8 +342,8 @@ add-head c =
     let else1 : Else1 = search in
     let at-search : At-search = search in
     let start : Start = search in
-    let bits = start .args .bits in
-    omega (arith, else1 .if1 .left, at-search .search .inv .1 .kept .few, pow-small bits (2 ^ bits) (start .pre .0) refl)
+    let bits = start .args .plan .bits in
+    omega (arith, else1 .if1 .left, at-search .search .inv .1 .kept .few, pow-small bits (2 ^ bits) (start .pre .0 .fewBits) refl)
 
 sub-left : tie.Need-sub-left Inv-words μ-words Inv-commands μ-commands Inv-search μ-search
 sub-left c =
@@ -497,19 +427,12 @@ explore-spec =
     slice-read-s
     cast-state
     commands-holds
-    add-begin
-    begin-requires
-    add-count
-    mul-count
-    element-copy-out-count
-    count-requires
-    mul-count-2
-    element-copy-out-count-2
-    count-requires-2
-    power-requires
+    add-segment
+    segment-requires
+    word-count-requires
     words-holds
     cast-word
-    renew-requires
+    fill-requires
     pick-requires
     cast-t
     cast-at
@@ -520,7 +443,7 @@ explore-spec =
     slice-write-parent
     mul-queue
     slice-write-queue
-    add-count-2
+    add-count
     breaks-requires
     add-w
     words-less

@@ -1,8 +1,7 @@
 -- `run` meets its contract: cleared tables, the start states, then the queue.
 -- Assumes nothing.
-use Rattle.evaluation.proofs.Powers.{pow-small}
 use Rattle.search.specs.working.CodeTransitions.{transitionsIn}
-use Rattle.search.proofs.WholeRuns.{ready-cleared, run-broke, ready-taken, run-on}
+use Rattle.search.proofs.WholeRuns.{ready-cleared, run-broke, run-on}
 use borrow.Author.Needs.{needs}
 use Rattle.search.proofs.exploring.run.Statement.{statement}
 use Rattle.search.proofs.exploring.run.Tie as tie
@@ -14,12 +13,9 @@ take-in-requires : tie.Need-take-in-requires
 take-in-requires c κs =
     let after-clear : tie.After-clear = search in
     let start : tie.Start = search in (
-      pow-small _ _ (start .pre .0) (start .pre .3),
-      start .pre .1 .fewCommands,
-      start .pre .2,
-      ready-cleared
-          (transitionsIn (start .args .bits) (start .args .commands) _ _ (start .args .stars .now)) _ (start .pre .3) _ _ _
-          (after-clear .clear .ensures) (start .pre .4) (start .pre .5),
+      start .pre .1,
+      start .pre .0,
+      ready-cleared (transitionsIn _ (start .args .plan)) _ (start .pre .1) _ _ _ (after-clear .clear .ensures) (start .pre .2) (start .pre .3),
     )
 
 same-length : tie.Need-same-length
@@ -33,20 +29,14 @@ returns c =
     let after-take-in : tie.After-take-in = search in
     let after-clear : tie.After-clear = search in
     let start : tie.Start = search in
-    run-broke (transitionsIn _ _ _ _ _) _ (start .pre .3) _ _ _ (after-clear .clear .ensures) (start .pre .4)
-    (start .pre .5) (after-take-in .take-in .ensures) (c .if1 .taken)
+    run-broke (transitionsIn _ (start .args .plan)) _ (start .pre .1) _ _ _ (after-clear .clear .ensures) (start .pre .2)
+    (start .pre .3) (after-take-in .take-in .ensures) (c .if1 .taken)
 
 explore-requires : tie.Need-explore-requires
 explore-requires c κs =
     let after-take-in : tie.After-take-in = search in
-    let after-clear : tie.After-clear = search in
-    let start : tie.Start = search in (
-      start .pre .0,
-      start .pre .1,
-      start .pre .2,
-      ready-taken (transitionsIn _ _ _ _ _) _ (start .pre .3) _ _ _
-          (after-clear .clear .ensures) (start .pre .4) (start .pre .5) (after-take-in .take-in .ensures),
-    )
+    let start : tie.Start = search in
+    (start .pre .0, after-take-in .take-in .ensures .kept .ready)
 
 same-length-3 : tie.Need-same-length-3
 same-length-3 c = search needs
@@ -61,8 +51,8 @@ returns-2 c =
     let after-take-in : tie.After-take-in = search in
     let after-clear : tie.After-clear = search in
     let start : tie.Start = search in
-    run-on (transitionsIn _ _ _ _ _) _ (start .pre .3) _ _ _ (after-clear .clear .ensures) (start .pre .4)
-    (start .pre .5) (after-take-in .take-in .ensures) (else1 .if1 .left) (after-explore .explore .ensures)
+    run-on (transitionsIn _ (start .args .plan)) _ (start .pre .1) _ _ _ (after-clear .clear .ensures) (start .pre .2)
+    (start .pre .3) (after-take-in .take-in .ensures) (else1 .if1 .left) (after-explore .explore .ensures)
 
 pub run-spec : {M : Type 1} → statement M
 run-spec =

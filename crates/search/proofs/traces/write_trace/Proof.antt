@@ -15,18 +15,18 @@ use Rattle.search.proofs.traces.write_trace.Statement.{statement}
 use Rattle.search.proofs.traces.write_trace.Tie as tie
 
 abbrev Inv-count : tie.InvT-count
-Inv-count ops ends stars commands bits parent t at out n₀ s₀ n s =
-    Walking (transitionsIn bits commands ops ends stars) (code-lawful _ _ _ _ _) parent t n s
+Inv-count ops plan parent t at out n₀ s₀ n s =
+    Walking (transitionsIn ops plan) (code-lawful ops plan) parent t n s
 
 abbrev μ-count : tie.MeasureT-count
-μ-count ops ends stars commands bits parent t at out n₀ s₀ n s = 2 ^ bits - n
+μ-count ops plan parent t at out n₀ s₀ n s = 2 ^ plan .bits - n
 
 abbrev Inv-write : tie.InvT-write
-Inv-write ops ends stars commands bits parent t at out₀ n s i₀ u₀ out i u =
-    Writing (transitionsIn bits commands ops ends stars) (code-lawful _ _ _ _ _) parent t at out₀ out i u
+Inv-write ops plan parent t at out₀ n s i₀ u₀ out i u =
+    Writing (transitionsIn ops plan) (code-lawful ops plan) parent t at out₀ out i u
 
 abbrev μ-write : tie.MeasureT-write
-μ-write ops ends stars commands bits parent t at out₀ n s i₀ u₀ out i u = i
+μ-write ops plan parent t at out₀ n s i₀ u₀ out i u = i
 
 -- The places that the answers name.
 abbrev At-count : Type 0
@@ -59,72 +59,78 @@ After-write = tie.After-write Inv-count μ-count Inv-write μ-write
 -- The states on the way back are states; the first loop counts the run's steps, and a turn of the second writes one.
 s-below : (c : At-count) →
     let start : Start = search in
-    c .count .s < 2 ^ start .args .bits
-s-below c = recorded-below (transitionsIn _ _ _ _ _) (code-lawful _ _ _ _ _) _ (c .count .inv .here)
+    c .count .s < 2 ^ start .args .plan .bits
+s-below c =
+    let start : Start = search in
+    recorded-below (transitionsIn _ (start .args .plan)) (code-lawful _ (start .args .plan)) _ (c .count .inv .here)
 
 counted : (c : Then1) →
     let at-count : At-count = search in
     let start : Start = search in
-    let bits = start .args .bits in
+    let bits = start .args .plan .bits in
     at-count .count .n ≡ steps
     (runTo
-    (transitionsIn bits (start .args .commands) (start .args .ops .now) (start .args .ends .now)
-    (start .args .stars .now))
+    (transitionsIn (start .args .ops .now) (start .args .plan))
     (take (2 ^ bits) (start .args .parent .now)) (2 ^ bits) (start .args .t))
 counted c =
+    let start : Start = search in
     let at-count : At-count = search in
-    walking-end (transitionsIn _ _ _ _ _) (code-lawful _ _ _ _ _) _ _ _ _ (at-count .count .inv) (c .if1 .taken)
+    walking-end (transitionsIn _ (start .args .plan)) (code-lawful _ (start .args .plan)) _ _ _ _ (at-count .count .inv) (c .if1 .taken)
 
 u-below : (c : In-write) →
     let start : Start = search in
-    c .before .write .u < 2 ^ start .args .bits
-u-below c = recorded-below (transitionsIn _ _ _ _ _) (code-lawful _ _ _ _ _) _ (c .before .write .inv .here)
+    c .before .write .u < 2 ^ start .args .plan .bits
+u-below c =
+    let start : Start = search in
+    recorded-below (transitionsIn _ (start .args .plan)) (code-lawful _ (start .args .plan)) _ (c .before .write .inv .here)
 
 turn : (c : After-first-move) →
     let at-write : At-write = search in
     let start : Start = search in
     Turn
-    (transitionsIn (start .args .bits) (start .args .commands) (start .args .ops .now) (start .args .ends .now)
-    (start .args .stars .now))
-    (code-lawful _ _ _ _ _) _ _ _ _ _ _ _ (at-write .write .inv)
+    (transitionsIn (start .args .ops .now) (start .args .plan))
+    (code-lawful _ (start .args .plan)) _ _ _ _ _ _ _ (at-write .write .inv)
     (moveOf (c .first-move .result .command) (c .first-move .result .word))
 turn c =
+    let start : Start = search in
     let in-write : In-write = search in
     let at-write : At-write = search in
-    writing-next (transitionsIn _ _ _ _ _) (code-lawful _ _ _ _ _) _ _ _ _ _ _ _ (at-write .write .inv)
+    writing-next (transitionsIn _ (start .args .plan)) (code-lawful _ (start .args .plan)) _ _ _ _ _ _ _ (at-write .write .inv)
     (in-write .write-test .taken) _ (c .first-move .ensures)
 
 count-holds : tie.Need-count-holds Inv-count μ-count Inv-write μ-write
 count-holds c =
     let start : Start = search in
-    walking-start (transitionsIn _ _ _ _ _) (code-lawful _ _ _ _ _) _ _ (start .pre .4)
+    walking-start (transitionsIn _ (start .args .plan)) (code-lawful _ (start .args .plan)) _ _ (start .pre .2)
 
 cast-p : tie.Need-cast-p Inv-count μ-count Inv-write μ-write
 cast-p c =
     let start : Start = search in
-    let bits = start .args .bits in
-    omega (arith, s-below c, pow-small bits (2 ^ bits) (start .pre .0) refl)
+    let bits = start .args .plan .bits in
+    omega (arith, s-below c, pow-small bits (2 ^ bits) (start .pre .0 .fewBits) refl)
 
 mul-p : tie.Need-mul-p Inv-count μ-count Inv-write μ-write
 mul-p c =
     let start : Start = search in
-    let bits = start .args .bits in
-    omega (arith, s-below c, pow-small bits (2 ^ bits) (start .pre .0) refl)
+    let bits = start .args .plan .bits in
+    omega (arith, s-below c, pow-small bits (2 ^ bits) (start .pre .0 .fewBits) refl)
 
 shared-slice-read-p : tie.Need-shared-slice-read-p Inv-count μ-count Inv-write μ-write
 shared-slice-read-p c =
     let start : Start = search in
-    omega (arith, s-below (c .before), start .pre .3)
+    omega (arith, s-below (c .before), start .pre .1)
 
 sub-p : tie.Need-sub-p Inv-count μ-count Inv-write μ-write
-sub-p c = recorded-one (transitionsIn _ _ _ _ _) (code-lawful _ _ _ _ _) _ (c .before .count .inv .here)
+sub-p c =
+    let start : Start = search in
+    recorded-one (transitionsIn _ (start .args .plan)) (code-lawful _ (start .args .plan)) _ (c .before .count .inv .here)
 
 add-n : tie.Need-add-n Inv-count μ-count Inv-write μ-write
 add-n c =
     let at-count : At-count = search in
     let start : Start = search in
-    let bits = start .args .bits in
-    omega (arith, at-count .count .inv .short, pow-small bits (2 ^ bits) (start .pre .0) refl)
+    let bits = start .args .plan .bits in
+    omega (arith, at-count .count .inv .short, pow-small bits (2 ^ bits) (start .pre .0 .fewBits) refl)
 
 count-less : tie.Need-count-less Inv-count μ-count Inv-write μ-write
 count-less c =
@@ -133,15 +139,16 @@ count-less c =
 
 count-again : tie.Need-count-again Inv-count μ-count Inv-write μ-write
 count-again c =
+    let start : Start = search in
     let at-count : At-count = search in
-    walking-next (transitionsIn _ _ _ _ _) (code-lawful _ _ _ _ _) _ _ _ _ (at-count .count .inv) (c .if1 .left)
+    walking-next (transitionsIn _ (start .args .plan)) (code-lawful _ (start .args .plan)) _ _ _ _ (at-count .count .inv) (c .if1 .left)
 
 write-holds : tie.Need-write-holds Inv-count μ-count Inv-write μ-write
 write-holds c =
     let at-count : At-count = search in
     let start : Start = search in
-    writing-start (transitionsIn (start .args .bits) _ _ _ _) (code-lawful _ _ _ _ _) _ _ _ _ (at-count .count .n) (start .pre .4) (counted c)
-    (omega (arith, counted c, recorded-short (transitionsIn _ _ _ _ _) _ _ (start .pre .4), start .pre .5))
+    writing-start (transitionsIn _ (start .args .plan)) (code-lawful _ (start .args .plan)) _ _ _ _ (at-count .count .n) (start .pre .2) (counted c)
+    (omega (arith, counted c, recorded-short (transitionsIn _ (start .args .plan)) _ _ (start .pre .2), start .pre .3))
 
 sub-i : tie.Need-sub-i Inv-count μ-count Inv-write μ-write
 sub-i c = omega arith
@@ -149,33 +156,32 @@ sub-i c = omega arith
 cast-p-2 : tie.Need-cast-p-2 Inv-count μ-count Inv-write μ-write
 cast-p-2 c =
     let start : Start = search in
-    let bits = start .args .bits in
-    omega (arith, u-below c, pow-small bits (2 ^ bits) (start .pre .0) refl)
+    let bits = start .args .plan .bits in
+    omega (arith, u-below c, pow-small bits (2 ^ bits) (start .pre .0 .fewBits) refl)
 
 mul-p-2 : tie.Need-mul-p-2 Inv-count μ-count Inv-write μ-write
 mul-p-2 c =
     let start : Start = search in
-    let bits = start .args .bits in
-    omega (arith, u-below c, pow-small bits (2 ^ bits) (start .pre .0) refl)
+    let bits = start .args .plan .bits in
+    omega (arith, u-below c, pow-small bits (2 ^ bits) (start .pre .0 .fewBits) refl)
 
 shared-slice-read-p-2 : tie.Need-shared-slice-read-p-2 Inv-count μ-count Inv-write μ-write
 shared-slice-read-p-2 c =
     let start : Start = search in
-    omega (arith, u-below (c .before), start .pre .3)
+    omega (arith, u-below (c .before), start .pre .1)
 
 sub-p-2 : tie.Need-sub-p-2 Inv-count μ-count Inv-write μ-write
 sub-p-2 c =
+    let start : Start = search in
     let at-write : At-write = search in
-    recorded-one (transitionsIn _ _ _ _ _) (code-lawful _ _ _ _ _) _ (at-write .write .inv .here)
+    recorded-one (transitionsIn _ (start .args .plan)) (code-lawful _ (start .args .plan)) _ (at-write .write .inv .here)
 
 first-move-requires : tie.Need-first-move-requires Inv-count μ-count Inv-write μ-write
 first-move-requires c κs =
     let at-write : At-write = search in
     let start : Start = search in (
       start .pre .0,
-      start .pre .1,
-      start .pre .2,
-      writing-parent (transitionsIn _ _ _ _ _) (code-lawful _ _ _ _ _) _ _ _ _
+      writing-parent (transitionsIn _ (start .args .plan)) (code-lawful _ (start .args .plan)) _ _ _ _
           _ _ _ (at-write .write .inv) (c .before .write-test .taken),
     )
 
@@ -212,11 +218,11 @@ put-step-requires c κs =
     let at-write : At-write = search in
     let start : Start = search in (
       omega (arith, at-write .write .inv .room),
-      omega (arith, turn (c .before) .move .0, start .pre .1 .fewCommands),
+      omega (arith, turn (c .before) .move .0, start .pre .0 .fewCommands),
       omega (
         arith,
         turn (c .before) .move .1,
-        words-within _ _ (start .pre .1) (c .before .first-move .result .command)
+        words-within (start .pre .0) (c .before .first-move .result .command)
             (turn (c .before) .move .0),
       ),
     )
@@ -244,14 +250,14 @@ mul-result : tie.Need-mul-result Inv-count μ-count Inv-write μ-write
 mul-result c =
     let at-count : At-count = search in
     let start : Start = search in
-    let bits = start .args .bits in
-    omega (arith, at-count .count .inv .short, pow-small bits (2 ^ bits) (start .pre .0) refl)
+    let bits = start .args .plan .bits in
+    omega (arith, at-count .count .inv .short, pow-small bits (2 ^ bits) (start .pre .0 .fewBits) refl)
 
 add-result-2 : tie.Need-add-result-2 Inv-count μ-count Inv-write μ-write
 add-result-2 c =
     let at-count : At-count = search in
     let start : Start = search in
-    omega (arith, at-count .count .inv .short, start .pre .5)
+    omega (arith, at-count .count .inv .short, start .pre .3)
 
 same-length : tie.Need-same-length Inv-count μ-count Inv-write μ-write
 same-length c =
@@ -265,11 +271,13 @@ returns c =
     let after-write : After-write = search in
     let at-write : At-write = search in
     let then1 : Then1 = search in
-    let start : Start = search in (
-      after-put-start .put-start .ensures ∙ writing-end (transitionsIn _ _ _ _ _) (code-lawful _ _ _ _ _) _ _ _ _ _ _ _
-          (at-write .write .inv) (after-write .write-test .left),
-      ap (λ (n : ℕ). start .args .at + 8 + 10 * n) (counted then1),
-    )
+    let start : Start = search in
+    record {
+      bytes =
+          after-put-start .put-start .ensures
+          ∙ writing-end (transitionsIn _ (start .args .plan)) (code-lawful _ (start .args .plan)) _ _ _ _ _ _ _ (at-write .write .inv) (after-write .write-test .left);
+      ends = ap (λ (n : ℕ). start .args .at + 8 + 10 * n) (counted then1);
+    }
 
 pub write-trace-spec : {M : Type 1} → statement M
 write-trace-spec =
