@@ -2,7 +2,7 @@
 ghost use mathlib.Core.Path.{_≡_};
 ghost use Prim.Native.Nat.{_<_};
 ghost use Rattle.reader.specs.working.Cursors.{Ready};
-ghost use Rattle.reader.specs.working.Commands.{Naming, TitleSays, BodySays, CommandsSay, arrays, oneAt, commandsAt};
+ghost use Rattle.reader.specs.working.Commands.{Naming, TitleSays, BodySays, CommandsSay, atEntry, atExit, oneAt, commandsAt};
 use crate::clauses::Declared;
 use crate::cursor::Cursor;
 use crate::cursor::Ledger;
@@ -99,7 +99,7 @@ pub fn command(
     l: Ledger,
 ) -> Declared
     requires { ⌜ Naming (now text) (now names) l c × (c .next .kind ≡ 5) ⌝ }
-    ensures { λ r. ⌜ CommandsSay (now (text .entry)) l c (arrays (now (names .entry)) (now (ops .entry)) (now (ends .entry)) (now (stars .entry))) (oneAt (now (text .entry)) (now (names .entry)) l c) (arrays (now (names .exit)) (now (ops .exit)) (now (ends .exit)) (now (stars .exit))) r ⌝ }
+    ensures { λ r. ⌜ CommandsSay (now (text .entry)) l c (atEntry names ops ends stars) (oneAt (now (text .entry)) (now (names .entry)) l c) (atExit names ops ends stars) r ⌝ }
 {
     let k = l.commands;
     let titled = title(text, names, c, l);
@@ -128,7 +128,7 @@ pub fn commands(
     l: Ledger,
 ) -> Declared
     requires { ⌜ Naming (now text) (now names) l c × (c .next .kind ≡ 5) ⌝ }
-    ensures { λ r. ⌜ CommandsSay (now (text .entry)) l c (arrays (now (names .entry)) (now (ops .entry)) (now (ends .entry)) (now (stars .entry))) (commandsAt (now (text .entry)) (now (names .entry)) l c) (arrays (now (names .exit)) (now (ops .exit)) (now (ends .exit)) (now (stars .exit))) r ⌝ }
+    ensures { λ r. ⌜ CommandsSay (now (text .entry)) l c (atEntry names ops ends stars) (commandsAt (now (text .entry)) (now (names .entry)) l c) (atExit names ops ends stars) r ⌝ }
 {
     let mut cur = c;
     let mut led = l;

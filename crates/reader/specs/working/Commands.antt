@@ -3,6 +3,8 @@
 use mathlib.Core.Path.{_≡_}
 use mathlib.Core.List.{List, [], _∷_, map}
 use Prim.Native.Nat.{ℕ, _+_, _≤_, _<_}
+use denote.Ref.{RefT}
+use denote.Triple.Both.{Both}
 use lib.ListN.{length}
 use lib.Seq.{sets}
 use Rattle.notation.specs.Tokens.{sign, Word, Name, Lexeme}
@@ -87,6 +89,16 @@ pub record Arrays : Type 0 where
 
 abbrev pub arrays : List ℕ → List ℕ → List ℕ → List ℕ → Arrays
 arrays n o e s = record { names = n; ops = o; ends = e; stars = s }
+
+-- An array that is lent to a function, as its contract names it; and four of them, as they are lent and as they come back.
+abbrev pub Lent : Type 0
+Lent = Both (RefT (List ℕ)) (RefT (List ℕ))
+
+abbrev pub atEntry : Lent → Lent → Lent → Lent → Arrays
+atEntry n o e s = arrays (n .entry .now) (o .entry .now) (e .entry .now) (s .entry .now)
+
+abbrev pub atExit : Lent → Lent → Lent → Lent → Arrays
+atExit n o e s = arrays (n .exit .now) (o .exit .now) (e .exit .now) (s .exit .now)
 
 -- What a refusal leaves of them: each was written only from a place of its own on.
 pub record WroteArrays (n i e k : ℕ) (s s′ : Arrays) : Type 0 where
