@@ -1,7 +1,7 @@
 -- What the parts of a text count: no more than the limits where they break no rule, and enough to pay for the code words and the stars of what they say.
 -- Assumes nothing.
 use mathlib.Core.Path.{_≡_, refl, sym, _∙_, ap, subst}
-use mathlib.Core.Bool.{Bool, true, false, cond, false≢true}
+use mathlib.Core.Bool.{Bool, true, false, cond, false≢true, _||_}
 use mathlib.Core.List.{List, [], _∷_, _++_, map, append-assoc, append-nil}
 use mathlib.Core.Option.{Option, none, some}
 use Prim.Native.Nat.{ℕ, suc, _+_, _*_, _≤_}
@@ -37,7 +37,7 @@ passed : (x : Bool) (n : ℕ) (o : Option ℕ) → cond x (some n) o ≡ none �
 passed true n o e = ((cc), (cc))
 passed false n o e = (refl, e)
 
-neither : (x y : Bool) → cond x true y ≡ false → (x ≡ false) × (y ≡ false)
+neither : (x y : Bool) → x || y ≡ false → (x ≡ false) × (y ≡ false)
 neither true y e = ((cc), (cc))
 neither false y e = (refl, e)
 
@@ -56,7 +56,7 @@ unfolding elem over
 over-at k [] ps i e = absurd (false≢true i)
 over-at k (j ∷ js) ps i e = let h = neither _ _ e in go (eqb j k) refl i (ltb-false _ _ (h .0)) (λ i. over-at k js ps i (h .1))
   where
-    go : (x : Bool) → eqb j k ≡ x → cond x true (elem k js) ≡ true → total j ps ≤ getD limits j 0 → (elem k js ≡ true → total k ps ≤ getD limits k 0) → total k ps ≤ getD limits k 0
+    go : (x : Bool) → eqb j k ≡ x → x || elem k js ≡ true → total j ps ≤ getD limits j 0 → (elem k js ≡ true → total k ps ≤ getD limits k 0) → total k ps ≤ getD limits k 0
     go true a i h rec = subst (λ (n : ℕ). total n ps ≤ getD limits n 0) (eqb-true j k a) h
     go false a i h rec = rec i
 

@@ -19,7 +19,7 @@ use Rattle.reader.specs.working.Expressions.{orAt}
 use Rattle.reader.specs.working.Items.{itemsWords}
 use Rattle.reader.specs.working.Sequences.{Tested, tested, testedWords, allItems}
 use Rattle.reader.specs.working.Commands.{bodyReader, BodySays}
-use Rattle.reader.proofs.Answers.{is-past}
+use Rattle.reader.proofs.Moves.{is-past}
 use Rattle.reader.proofs.Factors.{expected-ok, expected-bad}
 use Rattle.reader.proofs.Sequences.{says-from, sign-ready}
 

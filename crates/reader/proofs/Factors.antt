@@ -27,8 +27,8 @@ use Rattle.reader.specs.working.Expressions.{exprWords, SaysExpr, SaysOp
 use Rattle.reader.proofs.Books.{quiet-fits, opens-deep, opens-fits, negates-deep, negates-full, negates-fits, note-quiet, note-opens, note-negates}
 use Rattle.reader.proofs.Symbols.{lit-is, lit-missing, open-is, not-is}
 use Rattle.reader.proofs.Lexing.{tokened}
-use Rattle.reader.proofs.Answers.{Past, is-past}
-use Rattle.reader.proofs.Done.{stores, wrote-none, wrote-same, wrote-from, done-wrote}
+use Rattle.reader.proofs.Moves.{Past, is-past}
+use Rattle.reader.proofs.StoredCode.{stores, wrote-none, wrote-same, wrote-from, done-wrote}
 
 -- ---- a sign that has to stand
 

@@ -28,8 +28,8 @@ use Rattle.reader.specs.working.Cursors.{modeOf, bookOf, Expected, Ready
 use Rattle.reader.specs.working.Expressions.{exprWords, SaysExpr, orAt}
 use Rattle.reader.specs.working.Clauses.{fixedIn, segmentAt, SegmentSays, clauseWords, clauseEnds, clauseAt, ClauseSays}
 use Rattle.reader.proofs.Symbols.{listed-sign, missing, lit-missing}
-use Rattle.reader.proofs.Done.{wrote-none, wrote-same, said-ok, said-bad, done-wrote, done-then, done-ready, then-bad}
-use Rattle.reader.proofs.Answers.{expected-said, is-past}
+use Rattle.reader.proofs.StoredCode.{wrote-none, wrote-same, said-ok, said-bad, done-wrote, done-then, done-ready, then-bad}
+use Rattle.reader.proofs.Moves.{expected-said, is-past}
 use Rattle.reader.proofs.Factors.{expected-ok, expected-bad}
 use Rattle.reader.specs.working.Sequences.{Pair, pairOf, paired, pairing, signedBy}
 use Rattle.reader.proofs.Sequences.{says-pair, pair-bad, says-map, sign-done, sign-stops, says-from}

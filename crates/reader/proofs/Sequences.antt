@@ -19,8 +19,8 @@ use Rattle.reader.specs.working.Cursors.{bookOf, emitted, Expected, Read
 use Rattle.reader.specs.working.Expressions.{roomed}
 use Rattle.reader.specs.working.Items.{withWord, Marked}
 use Rattle.reader.specs.working.Sequences.{pairOf, paired, pairing, signedBy}
-use Rattle.reader.proofs.Done.{stores, wrote-same, wrote-from, done-wrote, done-then}
-use Rattle.reader.proofs.Answers.{Past, expected-said, is-past}
+use Rattle.reader.proofs.StoredCode.{stores, wrote-same, wrote-from, done-wrote, done-then}
+use Rattle.reader.proofs.Moves.{Past, expected-said, is-past}
 use Rattle.reader.proofs.Factors.{expected-ok, expected-bad}
 
 module _ (text names : List ℕ) (l : Ledger) where

@@ -28,7 +28,7 @@ use Rattle.reader.specs.working.Names.{window, wordsIn, sharedWords, row
 use Rattle.reader.specs.working.Cursors.{bookOf}
 use Rattle.reader.specs.Read.{placed}
 use Rattle.reader.specs.working.Commands.{withCommands, titleAt, TitleSays}
-use Rattle.reader.proofs.Answers.{Past}
+use Rattle.reader.proofs.Moves.{Past}
 use Rattle.reader.proofs.Symbols.{listed-name, missing}
 use Rattle.reader.proofs.Lookup.{window-slice, window-length, any-name, found-among, withName, words-kept, words-declared}
 

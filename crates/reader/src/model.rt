@@ -4,6 +4,7 @@ ghost use mathlib.Core.Bool.{true, false};
 ghost use Prim.Native.Nat.{_<_, _≤_};
 ghost use lib.ListN.{length};
 ghost use Rattle.notation.specs.Texts.{longestText};
+ghost use Rattle.reader.specs.working.Pieces.{NAME};
 ghost use Rattle.reader.specs.working.Cursors.{Ready};
 ghost use Rattle.reader.specs.working.Clauses.{Listing, NamesSay};
 ghost use Rattle.reader.specs.working.Commands.{atEntry, atExit};
@@ -34,7 +35,7 @@ pub fn declaration(
     rows: bool,
     kind: u8,
 ) -> Declared
-    requires { ⌜ Listing (now text) (now names) l rows c × (kind < 24) ⌝ }
+    requires { ⌜ Listing (now text) (now names) l rows c × (kind < NAME) ⌝ }
     ensures { λ r. ⌜ NamesSay (now (text .entry)) (now (names .entry)) l rows c (headAt (now (text .entry)) (now (names .entry)) l rows kind c) (now (names .exit)) r ⌝ }
 {
     let sign = expect(text, c, kind);

@@ -4,7 +4,7 @@ use mathlib.Core.Path.{ap}
 use lib.ListN.{length}
 use native.Mathlib.Omega.{arith}
 use Rattle.reader.specs.working.Commands.{Arrays, arrays}
-use Rattle.reader.proofs.Answering.{too-long, is-read, is-refused}
+use Rattle.reader.proofs.TextAnswers.{too-long, is-read, is-refused}
 use borrow.Author.Needs.{needs}
 use Rattle.reader.proofs.read_into.Statement.{statement}
 use Rattle.reader.proofs.read_into.Tie as tie

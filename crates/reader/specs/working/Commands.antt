@@ -7,7 +7,7 @@ use denote.Ref.{RefT}
 use denote.Triple.Both.{Both}
 use lib.ListN.{length}
 use lib.Seq.{sets}
-use Rattle.notation.specs.Tokens.{sign, Word, Name, Lexeme}
+use Rattle.notation.specs.Tokens.{sign, COMMAND, IF, DOT, Word, Name, Lexeme}
 use Rattle.notation.specs.Notation.{part, beginsCommand, freeShared, Item, Command, command′}
 use Rattle.notation.specs.Texts.{exprOf, itemsOf, commandOf, titleOf}
 use Rattle.notation.specs.Layout.{commandCode, endsFrom, joined}
@@ -40,8 +40,8 @@ pub record Naming (text names : List ℕ) (l : Ledger) (c : Cursor) : Type 0 whe
 -- The descent's answer at `command` and its name.
 unfoldable pub titleAt : List ℕ → List ℕ → Ledger → Cursor → Got Name
 titleAt text names l c =
-    ruling (c .next .start) (fault (bookOf text names l c) (part beginsCommand (sign 5)))
-    (reader (length text) T.title (tokensFrom text (c .next .end)) (note (bookOf text names l c) (part beginsCommand (sign 5))))
+    ruling (c .next .start) (fault (bookOf text names l c) (part beginsCommand (sign COMMAND)))
+    (reader (length text) T.title (tokensFrom text (c .next .end)) (note (bookOf text names l c) (part beginsCommand (sign COMMAND))))
 
 -- `command` and a name were read, and the name is stored.
 pub record Titled (text names : List ℕ) (l : Ledger) (c : Cursor) (names′ : List ℕ) (d : Cursor) (l′ : Ledger) : Type 0 where
@@ -59,7 +59,7 @@ TitleSays text names l c names′ (D.Refused n i) = (titleAt text names l c ≡ 
 
 -- `if`, the test, and the two branches.
 abbrev pub bodyReader : ℕ → List Lexeme → Book → Got (Tested Item)
-bodyReader len ts b = thenReads (reader len (T.lit 6) ts b) (λ u ts b. tested len (allItems len) 18 (orReader len freeShared 0 ts b))
+bodyReader len ts b = thenReads (reader len (T.lit IF) ts b) (λ u ts b. tested len (allItems len) DOT (orReader len freeShared 0 ts b))
 
 abbrev pub BodySays : List ℕ → List ℕ → Ledger → Cursor → List ℕ → List ℕ → Parsed → Type 0
 BodySays text names l c before after r =

@@ -1,6 +1,6 @@
 -- `declare_name` meets its contract: the look-up says whether the name is declared already, the counts whether it is one too many, and else it is stored as the next name.
 -- Assumes nothing.
-use Rattle.reader.proofs.Declaring.{name-again, name-many, row-full, shared-full, row-declared, shared-declared}
+use Rattle.reader.proofs.DeclaredNames.{name-again, name-many, row-full, shared-full, row-declared, shared-declared}
 use borrow.Author.Needs.{needs}
 use Rattle.reader.proofs.clauses.declare_name.Statement.{statement}
 use Rattle.reader.proofs.clauses.declare_name.Tie as tie

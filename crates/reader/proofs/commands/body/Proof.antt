@@ -4,11 +4,11 @@ use native.Mathlib.Omega.{arith}
 use lib.ListN.{length}
 use Rattle.reader.specs.working.Items.{itemsWords}
 use Rattle.reader.specs.working.Sequences.{allItems}
-use Rattle.reader.proofs.Done.{wrote-none, says-same}
-use Rattle.reader.proofs.Answers.{expected-said}
+use Rattle.reader.proofs.StoredCode.{wrote-none, says-same}
+use Rattle.reader.proofs.Moves.{expected-said}
 use Rattle.reader.proofs.Sequences.{ready-less}
-use Rattle.reader.proofs.Tests.{test-roomed, first-bad, yes-ready, done-roomed, second-bad, no-ready}
-use Rattle.reader.proofs.Tests.{rest-roomed, tested-says}
+use Rattle.reader.proofs.TwoBranches.{test-roomed, first-bad, yes-ready, done-roomed, second-bad, no-ready}
+use Rattle.reader.proofs.TwoBranches.{rest-roomed, tested-says}
 use Rattle.reader.proofs.Bodies.{body-bad, body-ready, body-says}
 use borrow.Author.Needs.{needs}
 use Rattle.reader.proofs.commands.body.Statement.{statement}

@@ -1,8 +1,8 @@
 -- `command` meets its contract: its title and its body are read, and its end and its number of stars stored.
 -- Assumes nothing.
 use native.Mathlib.Omega.{arith}
-use Rattle.reader.proofs.Commanding.{title-refused, title-ready, title-few, body-refused, command-small}
-use Rattle.reader.proofs.Commanding.{command-says}
+use Rattle.reader.proofs.OneCommand.{title-refused, title-ready, title-few, body-refused, command-small}
+use Rattle.reader.proofs.OneCommand.{command-says}
 use borrow.Author.Needs.{needs}
 use Rattle.reader.proofs.commands.command.Statement.{statement}
 use Rattle.reader.proofs.commands.command.Tie as tie

@@ -3,16 +3,16 @@
 use Prim.Native.Nat.{ℕ, _<_, _+_, _-_, _*_}
 use mathlib.Core.Path.{_≡_, ap}
 use native.Mathlib.Omega.{arith}
-use Rattle.reader.proofs.Answers.{is-past}
+use Rattle.reader.proofs.Moves.{is-past}
 use borrow.Author.Needs.{needs}
 use borrow.Fn.Kinds.{In}
 use borrow.Fn.PlainCycle.{Measures, is, falls, and}
 use Rattle.notation.proofs.Readers.{and-level-is, or-level-is}
 use Rattle.reader.specs.declared.cursor.Cursor.{Cursor}
 use Rattle.reader.specs.working.Cursors.{modeOf}
-use Rattle.reader.proofs.Done.{wrote-none, said-ok, says-ok, says-bad, says-alike, then-bad}
-use Rattle.reader.proofs.Chains.{andChain, orChain, Turn, rest-first, rest-stop, rest-full, rest-bad, turn-none}
-use Rattle.reader.proofs.Chains.{turn-ready, turn-room, turn-more}
+use Rattle.reader.proofs.StoredCode.{wrote-none, said-ok, says-ok, says-bad, says-alike, then-bad}
+use Rattle.reader.proofs.OperatorLoops.{andChain, orChain, Turn, rest-first, rest-stop, rest-full, rest-bad, turn-none}
+use Rattle.reader.proofs.OperatorLoops.{turn-ready, turn-room, turn-more}
 use Rattle.reader.proofs.Factors.{open-deep, open-ready, open-closes, not-deep, not-full, not-ready, not-room}
 use Rattle.reader.proofs.Factors.{not-closes}
 use Rattle.reader.proofs.expressions.and_level.Reads as and-level

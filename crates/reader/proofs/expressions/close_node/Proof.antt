@@ -2,7 +2,7 @@
 -- Assumes nothing.
 use mathlib.Core.Path.{subst}
 use Rattle.reader.specs.working.Expressions.{roomed}
-use Rattle.reader.proofs.Answers.{node-ok, node-bad}
+use Rattle.reader.proofs.Moves.{node-ok, node-bad}
 use borrow.Author.Needs.{needs}
 use Rattle.reader.proofs.expressions.close_node.Statement.{statement}
 use Rattle.reader.proofs.expressions.close_node.Tie as tie

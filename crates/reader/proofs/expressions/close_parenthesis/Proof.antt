@@ -1,6 +1,6 @@
 -- `close_parenthesis` meets its contract: it asks for the sign after an operand, and passes a refusal on.
 -- Assumes nothing.
-use Rattle.reader.proofs.Answers.{close-ok, close-bad}
+use Rattle.reader.proofs.Moves.{close-ok, close-bad}
 use borrow.Author.Needs.{needs}
 use Rattle.reader.proofs.expressions.close_parenthesis.Statement.{statement}
 use Rattle.reader.proofs.expressions.close_parenthesis.Tie as tie

@@ -1,6 +1,6 @@
 -- `leaf` meets its contract: one test of the count, and then the piece is passed and its code word stored.
 -- Assumes nothing.
-use Rattle.reader.proofs.Answers.{leaf-full, leaf-fits, past-room, is-past}
+use Rattle.reader.proofs.Moves.{leaf-full, leaf-fits, past-room, is-past}
 use borrow.Author.Needs.{needs}
 use Rattle.reader.proofs.expressions.leaf.Statement.{statement}
 use Rattle.reader.proofs.expressions.leaf.Tie as tie

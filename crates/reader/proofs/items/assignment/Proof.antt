@@ -1,11 +1,11 @@
 -- `assignment` meets its contract: the name is looked up and counted, `:=` asked for, and the expression's code followed by the store.
 -- Assumes nothing.
 use native.Mathlib.Omega.{arith}
-use Rattle.reader.proofs.Done.{wrote-none, says-bad, says-same}
-use Rattle.reader.proofs.Answers.{expected-said, is-past}
+use Rattle.reader.proofs.StoredCode.{wrote-none, says-bad, says-same}
+use Rattle.reader.proofs.Moves.{expected-said, is-past}
 use Rattle.reader.proofs.Operands.{target-range}
 use Rattle.reader.proofs.Sequences.{ready-less, says-roomed}
-use Rattle.reader.proofs.Branches.{assign-unknown, assign-full, assign-bad, value-ready, target-few, assign-says}
+use Rattle.reader.proofs.ItemForms.{assign-unknown, assign-full, assign-bad, value-ready, target-few, assign-says}
 use borrow.Author.Needs.{needs}
 use Rattle.reader.proofs.items.assignment.Statement.{statement}
 use Rattle.reader.proofs.items.assignment.Tie as tie

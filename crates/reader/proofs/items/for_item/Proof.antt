@@ -3,13 +3,13 @@
 use native.Mathlib.Omega.{arith}
 use lib.ListN.{length}
 use Rattle.reader.specs.working.Items.{rowItemsWords}
-use Rattle.reader.proofs.Done.{wrote-none, says-bad}
+use Rattle.reader.proofs.StoredCode.{wrote-none, says-bad}
 use Rattle.reader.proofs.Sequences.{ready-less}
 use Rattle.reader.specs.working.Sequences.{allRows}
-use Rattle.reader.proofs.Tests.{test-roomed, first-bad, yes-ready, done-roomed, second-bad, no-ready}
-use Rattle.reader.proofs.Tests.{rest-roomed, tested-says}
-use Rattle.reader.proofs.Branches.{for-full, for-ready, for-says}
-use Rattle.reader.proofs.Answers.{is-past}
+use Rattle.reader.proofs.TwoBranches.{test-roomed, first-bad, yes-ready, done-roomed, second-bad, no-ready}
+use Rattle.reader.proofs.TwoBranches.{rest-roomed, tested-says}
+use Rattle.reader.proofs.ItemForms.{for-full, for-ready, for-says}
+use Rattle.reader.proofs.Moves.{is-past}
 use borrow.Author.Needs.{needs}
 use Rattle.reader.proofs.items.for_item.Statement.{statement}
 use Rattle.reader.proofs.items.for_item.Tie as tie

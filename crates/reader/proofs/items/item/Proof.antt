@@ -1,7 +1,7 @@
 -- `item` meets its contract, by the kind of its first token.
 -- Assumes nothing.
-use Rattle.reader.proofs.Done.{wrote-none, says-bad}
-use Rattle.reader.proofs.Branches.{item-skip, item-assign, item-missing}
+use Rattle.reader.proofs.StoredCode.{wrote-none, says-bad}
+use Rattle.reader.proofs.ItemForms.{item-skip, item-assign, item-missing}
 use borrow.Author.Needs.{needs}
 use Rattle.reader.proofs.items.item.Statement.{statement}
 use Rattle.reader.proofs.items.item.Tie as tie

@@ -2,7 +2,7 @@
 -- Assumes nothing.
 use mathlib.Core.Path.{subst}
 use Rattle.reader.specs.working.Expressions.{roomed}
-use Rattle.reader.proofs.Answers.{mark-bad, mark-missing, mark-room, mark-ok}
+use Rattle.reader.proofs.Moves.{mark-bad, mark-missing, mark-room, mark-ok}
 use borrow.Author.Needs.{needs}
 use Rattle.reader.proofs.items.mark.Statement.{statement}
 use Rattle.reader.proofs.items.mark.Tie as tie

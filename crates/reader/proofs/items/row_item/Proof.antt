@@ -1,7 +1,7 @@
 -- `row_item` meets its contract, by the kind of its first token.
 -- Assumes nothing.
-use Rattle.reader.proofs.Done.{wrote-none, says-bad}
-use Rattle.reader.proofs.Branches.{row-skip, row-assign, row-missing}
+use Rattle.reader.proofs.StoredCode.{wrote-none, says-bad}
+use Rattle.reader.proofs.ItemForms.{row-skip, row-assign, row-missing}
 use borrow.Author.Needs.{needs}
 use Rattle.reader.proofs.items.row_item.Statement.{statement}
 use Rattle.reader.proofs.items.row_item.Tie as tie

@@ -2,12 +2,12 @@
 -- Assumes nothing.
 use Prim.Native.Nat.{_+_, _-_, _*_}
 use native.Mathlib.Omega.{arith}
-use Rattle.reader.proofs.Answers.{is-past}
+use Rattle.reader.proofs.Moves.{is-past}
 use borrow.Author.Needs.{needs}
-use Rattle.reader.proofs.Done.{said-ok, says-ok}
-use Rattle.reader.proofs.Series.{Turn, first-bad, rest-first, rest-stop, rest-bad, turn-none, turn-ready}
-use Rattle.reader.proofs.Series.{turn-less, turn-more}
-use Rattle.reader.proofs.Lists.{rowSeries}
+use Rattle.reader.proofs.StoredCode.{said-ok, says-ok}
+use Rattle.reader.proofs.ItemLoops.{Turn, first-bad, rest-first, rest-stop, rest-bad, turn-none, turn-ready}
+use Rattle.reader.proofs.ItemLoops.{turn-less, turn-more}
+use Rattle.reader.proofs.ItemLists.{rowSeries}
 use Rattle.reader.proofs.items.row_items.Statement.{statement}
 use Rattle.reader.proofs.items.row_items.Tie as tie
 

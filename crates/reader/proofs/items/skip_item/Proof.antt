@@ -1,6 +1,6 @@
 -- `skip_item` meets its contract: one test of the count, and then the piece is passed and its code word stored.
 -- Assumes nothing.
-use Rattle.reader.proofs.Answers.{skip-full, skip-fits, past-room, is-past}
+use Rattle.reader.proofs.Moves.{skip-full, skip-fits, past-room, is-past}
 use borrow.Author.Needs.{needs}
 use Rattle.reader.proofs.items.skip_item.Statement.{statement}
 use Rattle.reader.proofs.items.skip_item.Tie as tie

@@ -1,7 +1,7 @@
 -- `clauses` meets its contract: one clause after the other, their ends stored side by side.
 -- Assumes nothing.
 use native.Mathlib.Omega.{arith}
-use Rattle.reader.proofs.Modelling.{start-bad, keep-ready, clauses-say}
+use Rattle.reader.proofs.WholeTexts.{start-bad, keep-ready, clauses-say}
 use borrow.Author.Needs.{needs}
 use Rattle.reader.proofs.model.clauses.Statement.{statement}
 use Rattle.reader.proofs.model.clauses.Tie as tie

@@ -1,6 +1,6 @@
 -- `declaration` meets its contract: its answer is that of its sign, of the names after it, and of the full stop after them.
 -- Assumes nothing.
-use Rattle.reader.proofs.Headings.{head-bad, sign-listing, list-bad, end-bad, end-ok}
+use Rattle.reader.proofs.Declarations.{head-bad, sign-listing, list-bad, end-bad, end-ok}
 use borrow.Author.Needs.{needs}
 use Rattle.reader.proofs.model.declaration.Statement.{statement}
 use Rattle.reader.proofs.model.declaration.Tie as tie

@@ -1,7 +1,7 @@
 -- `declarations` meets its contract: from the front of the text, with nothing declared, its answer is that of the shared names and then of the row names, stored behind them.
 -- Assumes nothing.
 use native.Mathlib.Omega.{arith}
-use Rattle.reader.proofs.Headings.{shared-bad, row-listing, heads-say}
+use Rattle.reader.proofs.Declarations.{shared-bad, row-listing, heads-say}
 use Rattle.reader.proofs.Lexing.{is-tokened}
 use borrow.Author.Needs.{needs}
 use Rattle.reader.proofs.model.declarations.Statement.{statement}

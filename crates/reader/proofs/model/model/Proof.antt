@@ -1,8 +1,8 @@
 -- `model` meets its contract: declarations, clauses and commands in order, and the end of the text after them.
 -- Assumes nothing.
 use Rattle.reader.specs.working.Commands.{arrays}
-use Rattle.reader.proofs.Modelling.{head-refused, head-ready, both-refused, first-missing, both-naming}
-use Rattle.reader.proofs.Modelling.{all-refused, more-follows, model-says}
+use Rattle.reader.proofs.WholeTexts.{head-refused, head-ready, both-refused, first-missing, both-naming}
+use Rattle.reader.proofs.WholeTexts.{all-refused, more-follows, model-says}
 use borrow.Author.Needs.{needs}
 use Rattle.reader.proofs.model.model.Statement.{statement}
 use Rattle.reader.proofs.model.model.Tie as tie

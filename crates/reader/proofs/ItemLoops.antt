@@ -20,10 +20,10 @@ use Rattle.reader.specs.declared.cursor.Parsed.{Parsed}
 use Rattle.reader.specs.declared.cursor.Parsed.the-variants.{Refused}
 use Rattle.reader.specs.working.Pieces.{listed}
 use Rattle.reader.specs.working.Cursors.{bookOf, Ready, Done, Says}
-use Rattle.reader.proofs.Answers.{Past}
+use Rattle.reader.proofs.Moves.{Past}
 use Rattle.reader.proofs.Books.{quiet-fits, note-quiet}
 use Rattle.reader.proofs.Symbols.{listed-sign}
-use Rattle.reader.proofs.Done.{stores, wrote-from, said-bad, says-same, says-alike, done-then, done-ready}
+use Rattle.reader.proofs.StoredCode.{stores, wrote-from, said-bad, says-same, says-alike, done-then, done-ready}
 use Rattle.reader.proofs.Sequences.{past-ready}
 
 -- A list of things: the reader of one and of the rest, and their codes.

@@ -35,8 +35,8 @@ use Rattle.reader.specs.working.Items.{rowItemWords, rowItemsWords, item
 use Rattle.reader.proofs.Books.{target-unknown, target-full, target-fits, item-full, item-fits, note-target, note-item}
 use Rattle.reader.proofs.Symbols.{listed-sign, listed-name, missing}
 use Rattle.reader.proofs.Lexing.{tokened}
-use Rattle.reader.proofs.Answers.{Past, is-past}
-use Rattle.reader.proofs.Done.{stores, wrote-none, wrote-same}
+use Rattle.reader.proofs.Moves.{Past, is-past}
+use Rattle.reader.proofs.StoredCode.{stores, wrote-none, wrote-same}
 use Rattle.reader.proofs.Lookup.{words-length, shared-name, row-name}
 use Rattle.reader.proofs.Operands.{found-out, found-in}
 use Rattle.reader.proofs.Factors.{expected-ok, expected-bad}

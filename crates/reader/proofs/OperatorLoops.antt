@@ -24,10 +24,10 @@ use Rattle.reader.specs.declared.cursor.Parsed.the-variants.{Refused}
 use Rattle.reader.specs.working.Pieces.{listed}
 use Rattle.reader.specs.working.Cursors.{bookOf, emitted, Ready, Done}
 use Rattle.reader.specs.working.Expressions.{exprWords, SaysExpr}
-use Rattle.reader.proofs.Answers.{Past}
+use Rattle.reader.proofs.Moves.{Past}
 use Rattle.reader.proofs.Books.{joins-full, joins-fits, note-joins}
 use Rattle.reader.proofs.Symbols.{listed-sign, and-stops, or-stops}
-use Rattle.reader.proofs.Done.{stores, wrote-from, said-bad, says-bad, says-same, done-wrote, done-then, done-ready}
+use Rattle.reader.proofs.StoredCode.{stores, wrote-from, said-bad, says-bad, says-same, done-wrote, done-then, done-ready}
 
 -- An operator: its sign, its code word, how it joins, and the readers of its operand and of the rest of its operands.
 pub record Chain (text names : List ℕ) (l : Ledger) : Type 0 where

@@ -31,12 +31,12 @@ use Rattle.reader.specs.working.Clauses.{WroteNames, clauseWords, clause
 use Rattle.reader.specs.working.Sequences.{Pair, pairOf, paired, pairing}
 use Rattle.reader.specs.working.Commands.{withCommands, Naming, Arrays, arrays, WroteArrays, WroteCommands, storedIn, commandWords, starsIn, commandsAt, Commanded, CommandsSay}
 use Rattle.reader.specs.working.Whole.{Heads, HeadsSay, clausesAt, ClausesDone, ClausesSay, ModelSays}
-use Rattle.reader.proofs.Done.{sets-append, stores, wrote-none, wrote-from, wrote-behind, done-then, done-ready}
+use Rattle.reader.proofs.StoredCode.{sets-append, stores, wrote-none, wrote-from, wrote-behind, done-then, done-ready}
 use Rattle.reader.proofs.NameLists.{placed-append, named-behind}
 use Rattle.reader.proofs.CommandLists.{arrays-same, commanded-wrote}
 use Rattle.reader.proofs.Sequences.{pair-done, pair-bad}
-use Rattle.reader.proofs.Wholes.{heads-bad, clauses-bad, command-missing, commands-bad, text-ends, text-goes-on}
-use Rattle.reader.proofs.Stores.{stars-layout, code-layout, ends-layout, names-are}
+use Rattle.reader.proofs.WholeDescent.{heads-bad, clauses-bad, command-missing, commands-bad, text-ends, text-goes-on}
+use Rattle.reader.proofs.StoredModel.{stars-layout, code-layout, ends-layout, names-are}
 
 -- ---- `start` and `keep`
 

@@ -18,7 +18,7 @@ use Rattle.reader.specs.working.Pieces.{listed}
 use Rattle.reader.specs.working.Cursors.{bookOf, Ready, Done, Says}
 use Rattle.reader.specs.working.Expressions.{exprWords, SaysExpr, roomed}
 use Rattle.reader.specs.working.Items.{withWord, Marked}
-use Rattle.reader.proofs.Done.{said-ok, says-alike, done-ready}
+use Rattle.reader.proofs.StoredCode.{said-ok, says-alike, done-ready}
 use Rattle.reader.specs.working.Sequences.{Pair, paired, pairing, signedBy, tested, testedWords}
 use Rattle.reader.proofs.Sequences.{says-pair, pair-bad, says-mark, says-roomed, ready-less}
 

@@ -25,7 +25,7 @@ use Rattle.reader.specs.working.Items.{itemsWords}
 use Rattle.reader.specs.Read.{placed}
 use Rattle.reader.specs.working.Sequences.{Tested, testedWords}
 use Rattle.reader.specs.working.Commands.{withCommands, Naming, Titled, TitleSays, bodyReader, BodySays, commandWords, starsIn, oneAt, Arrays, arrays, CommandsSay}
-use Rattle.reader.proofs.Done.{wrote-none, wrote-from, said-bad, done-ready}
+use Rattle.reader.proofs.StoredCode.{wrote-none, wrote-from, said-bad, done-ready}
 use Rattle.reader.proofs.NameLists.{named-same}
 use Rattle.reader.proofs.Lookup.{words-kept}
 

@@ -28,8 +28,8 @@ use Rattle.reader.specs.working.Clauses.{grown, Listing, listAt, Noted, 
 use Rattle.reader.specs.working.Sequences.{pairOf, pairing, signedBy}
 use Rattle.reader.specs.working.Whole.{headReader, headAt, headsAt, Heads, HeadsSay}
 use Rattle.reader.proofs.Lexing.{Tokened}
-use Rattle.reader.proofs.Done.{then-bad}
-use Rattle.reader.proofs.Answers.{Past, expected-said, is-past}
+use Rattle.reader.proofs.StoredCode.{then-bad}
+use Rattle.reader.proofs.Moves.{Past, expected-said, is-past}
 use Rattle.reader.proofs.Factors.{expected-ok, expected-bad}
 use Rattle.reader.proofs.NameLists.{placed-append, named-same, named-behind, grown-names, listed-ok, listed-bad}
 
