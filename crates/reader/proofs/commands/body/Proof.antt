@@ -14,15 +14,6 @@ use borrow.Author.Needs.{needs}
 use Rattle.reader.proofs.commands.body.Statement.{statement}
 use Rattle.reader.proofs.commands.body.Tie as tie
 
-expect-requires : tie.Need-expect-requires
-expect-requires c κs = search needs
-
-enum-known-sign : tie.Need-enum-known-sign
-enum-known-sign c = search needs
-
-enum-told : tie.Need-enum-told
-enum-told c = search needs
-
 returns : tie.Need-returns
 returns c =
     let after-expect : tie.After-expect = search in
@@ -56,12 +47,6 @@ mark-requires c κs =
     (body-ready text names l _ (start .pre) _
     (expected-said _ _ _ _ _ (after-expect .expect .ensures) (after-sign .sign .given .1)))
     _ _ _ _ (c .before .or-level .ensures)
-
-enum-known-first : tie.Need-enum-known-first
-enum-known-first c = search needs
-
-enum-told-2 : tie.Need-enum-told-2
-enum-told-2 c = search needs
 
 returns-2 : tie.Need-returns-2
 returns-2 c =
@@ -112,12 +97,6 @@ mark-requires-2 c κs =
     (expected-said _ _ _ _ _ (after-expect .expect .ensures) (after-sign .sign .given .1)))
     _ _ _ _ (after-or-level .or-level .ensures) _ _ (after-mark .mark .ensures) _ (after-first .first .given .1) _ _
     (c .before .items .ensures)
-
-enum-known-second : tie.Need-enum-known-second
-enum-known-second c = search needs
-
-enum-told-3 : tie.Need-enum-told-3
-enum-told-3 c = search needs
 
 returns-3 : tie.Need-returns-3
 returns-3 c =
@@ -209,19 +188,19 @@ pub body-spec : {M : Type 1} → statement M
 body-spec =
     tie.close
     (tie.spec
-    expect-requires
-    enum-known-sign
-    enum-told
+    (λ c κs. search needs)
+    (λ c. search needs)
+    (λ c. search needs)
     returns
     or-level-requires
     mark-requires
-    enum-known-first
-    enum-told-2
+    (λ c. search needs)
+    (λ c. search needs)
     returns-2
     items-requires
     mark-requires-2
-    enum-known-second
-    enum-told-3
+    (λ c. search needs)
+    (λ c. search needs)
     returns-3
     items-requires-2
     mark-requires-3

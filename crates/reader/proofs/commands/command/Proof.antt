@@ -12,12 +12,6 @@ title-requires c κs =
     let start : tie.Start = search in
     start .pre
 
-enum-known-titled : tie.Need-enum-known-titled
-enum-known-titled c = search needs
-
-enum-told : tie.Need-enum-told
-enum-told c = search needs
-
 returns : tie.Need-returns
 returns c =
     let after-title : tie.After-title = search in
@@ -34,9 +28,6 @@ body-requires c κs =
     title-ready (start .args .text .now) (start .args .names .now) (start .args .ops .now) (start .args .ends .now)
     (start .args .stars .now) (start .args .l) (start .args .c) (start .pre .0) _ _ (after-title .title .ensures) _ _
     (after-titled .titled .given .1)
-
-enum-known-read : tie.Need-enum-known-read
-enum-known-read c = search needs
 
 cast-ends : tie.Need-cast-ends
 cast-ends c =
@@ -128,9 +119,6 @@ element-write-stars c =
           (after-title .title .ensures) _ _ (after-titled .titled .given .1),
     )
 
-enum-known-read-2 : tie.Need-enum-known-read-2
-enum-known-read-2 c = search needs
-
 returns-2 : tie.Need-returns-2
 returns-2 c =
     let after-read : tie.After-read = search in
@@ -157,11 +145,11 @@ command-spec =
     tie.close
     (tie.spec
     title-requires
-    enum-known-titled
-    enum-told
+    (λ c. search needs)
+    (λ c. search needs)
     returns
     body-requires
-    enum-known-read
+    (λ c. search needs)
     cast-ends
     add-ends
     mul-ends
@@ -169,6 +157,6 @@ command-spec =
     cast-stars
     mul-stars
     element-write-stars
-    enum-known-read-2
+    (λ c. search needs)
     returns-2
     returns-3)

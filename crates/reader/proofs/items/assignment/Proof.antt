@@ -10,9 +10,6 @@ use borrow.Author.Needs.{needs}
 use Rattle.reader.proofs.items.assignment.Statement.{statement}
 use Rattle.reader.proofs.items.assignment.Tie as tie
 
-first-target-requires : tie.Need-first-target-requires
-first-target-requires c κs = search needs
-
 visible-requires : tie.Need-visible-requires
 visible-requires c κs =
     let start : tie.Start = search in
@@ -48,21 +45,6 @@ returns-2 c =
     (after-first-target .first-target .ensures) (after-visible .visible .ensures) (after-find-name .find-name .ensures)
     (c .before .if1 .left) (c .if2 .taken))
     wrote-none
-
-add-past : tie.Need-add-past
-add-past c = search needs
-
-past-requires : tie.Need-past-requires
-past-requires c κs = search needs
-
-expect-requires : tie.Need-expect-requires
-expect-requires c κs = search needs
-
-enum-known-marked : tie.Need-enum-known-marked
-enum-known-marked c = search needs
-
-enum-told : tie.Need-enum-told
-enum-told c = search needs
 
 returns-3 : tie.Need-returns-3
 returns-3 c =
@@ -169,16 +151,16 @@ pub assignment-spec : {M : Type 1} → statement M
 assignment-spec =
     tie.close
     (tie.spec
-    first-target-requires
+    (λ c κs. search needs)
     visible-requires
     find-name-requires
     returns
     returns-2
-    add-past
-    past-requires
-    expect-requires
-    enum-known-marked
-    enum-told
+    (λ c. search needs)
+    (λ c κs. search needs)
+    (λ c κs. search needs)
+    (λ c. search needs)
+    (λ c. search needs)
     returns-3
     or-level-requires
     cast-close-node

@@ -20,12 +20,6 @@ returns c =
     says-bad _ _ _ _ _ _ _ _ _ _ _ (for-full _ _ _ _ (start .pre .0) (start .pre .1) (c .if1 .taken))
     wrote-none
 
-add-past : tie.Need-add-past
-add-past c = search needs
-
-past-requires : tie.Need-past-requires
-past-requires c κs = search needs
-
 or-level-requires : tie.Need-or-level-requires
 or-level-requires c κs =
     let else1 : tie.Else1 = search in
@@ -48,12 +42,6 @@ mark-requires c κs =
     test-roomed text names l (rowItemsWords text names l) (allRows (length text)) 10 (omega arith) _
     (for-ready text names l _ (start .pre .0) (start .pre .1) (else1 .if1 .left) _ (is-past (after-past .past .ensures))) _ _ _ _
     (c .before .or-level .ensures)
-
-enum-known-first : tie.Need-enum-known-first
-enum-known-first c = search needs
-
-enum-told : tie.Need-enum-told
-enum-told c = search needs
 
 returns-2 : tie.Need-returns-2
 returns-2 c =
@@ -100,12 +88,6 @@ mark-requires-2 c κs =
     (for-ready text names l _ (start .pre .0) (start .pre .1) (else1 .if1 .left) _ (is-past (after-past .past .ensures))) _ _ _ _
     (after-or-level .or-level .ensures) _ _ (after-mark .mark .ensures) _ (after-first .first .given .1) _ _
     (c .before .row-items .ensures)
-
-enum-known-second : tie.Need-enum-known-second
-enum-known-second c = search needs
-
-enum-told-2 : tie.Need-enum-told-2
-enum-told-2 c = search needs
 
 returns-3 : tie.Need-returns-3
 returns-3 c =
@@ -192,17 +174,17 @@ for-item-spec =
     tie.close
     (tie.spec
     returns
-    add-past
-    past-requires
+    (λ c. search needs)
+    (λ c κs. search needs)
     or-level-requires
     mark-requires
-    enum-known-first
-    enum-told
+    (λ c. search needs)
+    (λ c. search needs)
     returns-2
     row-items-requires
     mark-requires-2
-    enum-known-second
-    enum-told-2
+    (λ c. search needs)
+    (λ c. search needs)
     returns-3
     row-items-requires-2
     mark-requires-3

@@ -6,9 +6,6 @@ use borrow.Author.Needs.{needs}
 use Rattle.reader.proofs.items.item.Statement.{statement}
 use Rattle.reader.proofs.items.item.Tie as tie
 
-skip-item-requires : tie.Need-skip-item-requires
-skip-item-requires c κs = search needs
-
 returns : tie.Need-returns
 returns c =
     let then1 : tie.Then1 = search in
@@ -46,7 +43,7 @@ pub item-spec : {M : Type 1} → statement M
 item-spec =
     tie.close
     (tie.spec
-    skip-item-requires
+    (λ c κs. search needs)
     returns
     assignment-requires
     returns-2

@@ -44,12 +44,6 @@ item-requires c κs =
     let start : Start = search in
     start .pre
 
-enum-known-first : tie.Need-enum-known-first Inv-list μ-list
-enum-known-first c = search needs
-
-enum-told : tie.Need-enum-told Inv-list μ-list
-enum-told c = search needs
-
 returns : tie.Need-returns Inv-list μ-list
 returns c =
     let after-item : After-item = search in
@@ -76,19 +70,10 @@ returns-2 c =
     (said-ok _ _ _ _ _ _ _ _ _ _ _ (after-item .item .ensures) (after-first .first .given .1))))
     (c .if1 .taken))
 
-past-requires : tie.Need-past-requires Inv-list μ-list
-past-requires c κs = search needs
-
 item-requires-2 : tie.Need-item-requires-2 Inv-list μ-list
 item-requires-2 c κs =
     let at-list : At-list = search in
     turn-ready _ _ _ (itemSeries _ _ _) _ _ _ _ _ (at-list .list .inv) (is-past (c .before .past .ensures))
-
-enum-known-next : tie.Need-enum-known-next Inv-list μ-list
-enum-known-next c = search needs
-
-enum-told-2 : tie.Need-enum-told-2 Inv-list μ-list
-enum-told-2 c = search needs
 
 returns-3 : tie.Need-returns-3 Inv-list μ-list
 returns-3 c =
@@ -130,15 +115,15 @@ items-spec =
     Inv-list
     μ-list
     item-requires
-    enum-known-first
-    enum-told
+    (λ c. search needs)
+    (λ c. search needs)
     returns
     list-holds
     returns-2
-    past-requires
+    (λ c κs. search needs)
     item-requires-2
-    enum-known-next
-    enum-told-2
+    (λ c. search needs)
+    (λ c. search needs)
     returns-3
     list-less
     list-again)

@@ -6,9 +6,6 @@ use borrow.Author.Needs.{needs}
 use Rattle.reader.proofs.items.row_item.Statement.{statement}
 use Rattle.reader.proofs.items.row_item.Tie as tie
 
-skip-item-requires : tie.Need-skip-item-requires
-skip-item-requires c κs = search needs
-
 returns : tie.Need-returns
 returns c =
     let then1 : tie.Then1 = search in
@@ -34,4 +31,4 @@ returns-3 c =
 
 pub row-item-spec : {M : Type 1} → statement M
 row-item-spec =
-    tie.close (tie.spec skip-item-requires returns assignment-requires returns-2 returns-3)
+    tie.close (tie.spec (λ c κs. search needs) returns assignment-requires returns-2 returns-3)

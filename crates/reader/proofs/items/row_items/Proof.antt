@@ -44,12 +44,6 @@ row-item-requires c κs =
     let start : Start = search in
     start .pre
 
-enum-known-first : tie.Need-enum-known-first Inv-rows μ-rows
-enum-known-first c = search needs
-
-enum-told : tie.Need-enum-told Inv-rows μ-rows
-enum-told c = search needs
-
 returns : tie.Need-returns Inv-rows μ-rows
 returns c =
     let after-row-item : After-row-item = search in
@@ -76,19 +70,10 @@ returns-2 c =
     (said-ok _ _ _ _ _ _ _ _ _ _ _ (after-row-item .row-item .ensures) (after-first .first .given .1))))
     (c .if1 .taken))
 
-past-requires : tie.Need-past-requires Inv-rows μ-rows
-past-requires c κs = search needs
-
 row-item-requires-2 : tie.Need-row-item-requires-2 Inv-rows μ-rows
 row-item-requires-2 c κs =
     let at-rows : At-rows = search in
     turn-ready _ _ _ (rowSeries _ _ _) _ _ _ _ _ (at-rows .rows .inv) (is-past (c .before .past .ensures))
-
-enum-known-next : tie.Need-enum-known-next Inv-rows μ-rows
-enum-known-next c = search needs
-
-enum-told-2 : tie.Need-enum-told-2 Inv-rows μ-rows
-enum-told-2 c = search needs
 
 returns-3 : tie.Need-returns-3 Inv-rows μ-rows
 returns-3 c =
@@ -130,15 +115,15 @@ row-items-spec =
     Inv-rows
     μ-rows
     row-item-requires
-    enum-known-first
-    enum-told
+    (λ c. search needs)
+    (λ c. search needs)
     returns
     rows-holds
     returns-2
-    past-requires
+    (λ c κs. search needs)
     row-item-requires-2
-    enum-known-next
-    enum-told-2
+    (λ c. search needs)
+    (λ c. search needs)
     returns-3
     rows-less
     rows-again)

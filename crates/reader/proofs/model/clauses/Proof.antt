@@ -11,12 +11,6 @@ clause-requires c κs =
     let start : tie.Start = search in
     (start .pre, (omega arith, omega arith))
 
-enum-known-start : tie.Need-enum-known-start
-enum-known-start c = search needs
-
-enum-told : tie.Need-enum-told
-enum-told c = search needs
-
 returns : tie.Need-returns
 returns c =
     let after-clause : tie.After-clause = search in
@@ -48,4 +42,4 @@ returns-2 c =
 pub clauses-spec : {M : Type 1} → statement M
 clauses-spec =
     tie.close
-    (tie.spec clause-requires enum-known-start enum-told returns clause-requires-2 returns-2)
+    (tie.spec clause-requires (λ c. search needs) (λ c. search needs) returns clause-requires-2 returns-2)

@@ -12,12 +12,6 @@ declarations-requires c κs =
     let start : tie.Start = search in
     start .pre
 
-enum-known-head : tie.Need-enum-known-head
-enum-known-head c = search needs
-
-enum-told : tie.Need-enum-told
-enum-told c = search needs
-
 returns : tie.Need-returns
 returns c =
     let after-declarations : tie.After-declarations = search in
@@ -34,9 +28,6 @@ clauses-requires c κs =
     head-ready (start .args .text .now)
     (arrays (start .args .names .now) (start .args .ops .now) (start .args .ends .now) (start .args .stars .now)) _ _
     (after-declarations .declarations .ensures) _ _ (after-head .head .given .1)
-
-enum-known-both : tie.Need-enum-known-both
-enum-known-both c = search needs
 
 returns-2 : tie.Need-returns-2
 returns-2 c =
@@ -64,12 +55,6 @@ commands-requires c κs =
           (after-clauses .clauses .ensures) _ (after-both .both .given .1),
       else1 .if1 .left,
     )
-
-enum-known-all : tie.Need-enum-known-all
-enum-known-all c = search needs
-
-enum-told-2 : tie.Need-enum-told-2
-enum-told-2 c = search needs
 
 returns-3 : tie.Need-returns-3
 returns-3 c =
@@ -101,9 +86,6 @@ returns-4 c =
     (after-declarations .declarations .ensures) _ _ (after-head .head .given .1) _ _ _ (after-clauses .clauses .ensures)
     _ (after-both .both .given .1) (else1 .if1 .left) _ _ (after-commands .commands .ensures) _ _
     (after-all .all .given .1) (c .if2 .taken)
-
-enum-known-both-2 : tie.Need-enum-known-both-2
-enum-known-both-2 c = search needs
 
 returns-5 : tie.Need-returns-5
 returns-5 c =
@@ -137,17 +119,17 @@ model-spec =
     tie.close
     (tie.spec
     declarations-requires
-    enum-known-head
-    enum-told
+    (λ c. search needs)
+    (λ c. search needs)
     returns
     clauses-requires
-    enum-known-both
+    (λ c. search needs)
     returns-2
     commands-requires
-    enum-known-all
-    enum-told-2
+    (λ c. search needs)
+    (λ c. search needs)
     returns-3
     returns-4
-    enum-known-both-2
+    (λ c. search needs)
     returns-5
     returns-6)
