@@ -20,11 +20,10 @@ use Rattle.reader.specs.declared.cursor.Parsed.{Parsed}
 use Rattle.reader.specs.declared.cursor.Parsed.the-variants.{Refused}
 use Rattle.reader.specs.working.Pieces.{listed}
 use Rattle.reader.specs.working.Cursors.{bookOf, Ready, Done, Says}
-use Rattle.reader.proofs.Moves.{Past}
+use Rattle.reader.proofs.Moves.{Past, past-ready}
 use Rattle.reader.proofs.Books.{quiet-fits, note-quiet}
 use Rattle.reader.proofs.Symbols.{listed-sign}
 use Rattle.reader.proofs.StoredCode.{stores, wrote-from, said-bad, says-same, says-alike, done-then, done-ready}
-use Rattle.reader.proofs.Sequences.{past-ready}
 
 -- A list of things: the reader of one and of the rest, and their codes.
 pub record Series (A : Type 0) (text names : List ℕ) (l : Ledger) : Type 0 where
@@ -83,7 +82,7 @@ module _ {A : Type 0} (text names : List ℕ) (l : Ledger) (K : Series A text na
   all g = thenReads g (λ x ts b. thenReads (K .more ts b) (λ xs ts b. got (x ∷ xs) ts b))
 
   pub first-bad : (s : Cursor) (p : List ℕ) (g : Got A) (b : List ℕ) (r : Parsed) (n i : ℕ) → Says text names l (K .word) 0 s p g b r → r ≡ Refused n i → Says text names l (K .words) 0 s p (all g) b r
-  first-bad s p g b r n i h e = says-alike text names l (K .word) 0 (K .words) 0 s p g (all g) b r n i h e (λ z. ap (λ (o : Got A). all o) z)
+  first-bad s p g b r n i h e = says-alike h e (λ z. ap (λ (o : Got A). all o) z)
 
   module _ (s : Cursor) (p : List ℕ) (g : Got A) (b : List ℕ) (c : Cursor) (d : ReadOne s p g b c) where
     pub rest-first : Rest s p (all g) b c
@@ -107,7 +106,7 @@ module _ {A : Type 0} (text names : List ℕ) (l : Ledger) (K : Series A text na
     }
 
     pub turn-none : Ready text l 0 s → Turn b c b c
-    turn-none r = record { ready = done-ready text names l (K .word) 0 s p g b 0 c r d; back = λ s p g x. x }
+    turn-none r = record { ready = done-ready d 0 r; back = λ s p g x. x }
 
   module _ (s : Cursor) (p : List ℕ) (g : Got (List A)) (b : List ℕ) (c : Cursor) (h : Rest s p g b c) where
     pub rest-stop : (c .next .kind ≡ 19 → ⊥) → Read s p g b c
@@ -145,16 +144,14 @@ module _ {A : Type 0} (text names : List ℕ) (l : Ledger) (K : Series A text na
 
       pub rest-bad : (m : List ℕ) (r : Parsed) (n i : ℕ) → Says text names l (K .word) 0 d b next m r → r ≡ Refused n i → Says text names l (K .words) 0 s p g m r
       rest-bad m r n i z e =
-          let k = said-bad text names l (K .word) 0 d b next m r n i z e in
-          says-same text names l (K .words) 0 s p g m r n i e (goes ∙ ap then (k .0))
-          (done-then text names l (K .words) 0 s p (h .o) b c m (h .done) (wrote-from (ap (λ (z : Cursor). z .emitted) (q .is)) (k .1)))
+          let k = said-bad z e in
+          says-same e (goes ∙ ap then (k .0))
+          (done-then (h .done) (wrote-from (q .place) (k .1)))
 
       pub rest-more : (m : List ℕ) (v : Cursor) → ReadOne d b next m v → Rest s p g m v
       rest-more m v e =
-          let same : d .emitted ≡ c .emitted = ap (λ (z : Cursor). z .emitted) (q .is) in
-          let from : d .stars ≡ K .words (s .stars) (h .done .tree) .next = ap (λ (z : Cursor). z .stars) (q .is) ∙ h .done .numbered in
-          let node : d .nodes ≡ c .nodes = ap (λ (z : Cursor). z .nodes) (q .is) in
-          let item : d .items ≡ c .items = ap (λ (z : Cursor). z .items) (q .is) in
+          let same = q .place in
+          let from : d .stars ≡ K .words (s .stars) (h .done .tree) .next = q .starsAre ∙ h .done .numbered in
           let first : List ℕ = K .words (s .stars) (h .done .tree) .is in
           let new : Numbered (List ℕ) = K .word (K .words (s .stars) (h .done .tree) .next) (e .tree) in
           let one : K .word (d .stars) (e .tree) ≡ new = ap (λ (k : ℕ). K .word k (e .tree)) from in
@@ -192,18 +189,16 @@ module _ {A : Type 0} (text names : List ℕ) (l : Ledger) (K : Series A text na
 
   module _ (b₀ : List ℕ) (c₀ : Cursor) (b : List ℕ) (c d : Cursor) (i : Turn b₀ c₀ b c) (q : Past text c (c .items) (c .nodes) (c .stars) d) where
     pub turn-ready : Ready text l 0 d
-    turn-ready = past-ready text names l 0 0 c d (c .items) (c .nodes) (c .stars) (i .ready) q (i .ready .items) (i .ready .nodes) (i .ready .stars) (i .ready .room)
+    turn-ready = past-ready (i .ready) q (i .ready .items) (i .ready .nodes) (i .ready .stars) (i .ready .room)
 
     module _ (g : Got A) (m : List ℕ) (v : Cursor) (e : ReadOne d b g m v) where
       -- nodes and items have grown, and stay within their limits
       pub turn-less : (c .nodes + 3 * c .items < v .nodes + 3 * v .items) × (v .nodes ≤ 1024) × (v .items ≤ 256)
       turn-less =
-          let node : d .nodes ≡ c .nodes = ap (λ (z : Cursor). z .nodes) (q .is) in
-          let item : d .items ≡ c .items = ap (λ (z : Cursor). z .items) (q .is) in
           (omega (arith, e .level, e .long, K .some (d .stars) (e .tree)), e .nodes, e .items)
 
     pub turn-more : c .next .kind ≡ 19 → (m : List ℕ) (v : Cursor) → ReadOne d b (K .one (listed text (d .next)) (bookOf text names l d)) m v → Turn b₀ c₀ m v
     turn-more u m v e = record {
-      ready = done-ready text names l (K .word) 0 d b (K .one (listed text (d .next)) (bookOf text names l d)) m 0 v turn-ready e;
+      ready = done-ready e 0 turn-ready;
       back = λ s p g w. rest-more s p g b c (i .back s p g w) u d q m v e;
     }

@@ -2,6 +2,7 @@ pub mod Books
 pub mod Symbols
 pub mod StoredCode
 pub mod OperatorLoops
+pub mod Sequences
 pub mod Factors
 pub mod Lookup
 pub mod Spelling
@@ -9,7 +10,6 @@ pub mod Runs
 pub mod Lexing
 pub mod Operands
 pub mod Moves
-pub mod Sequences
 pub mod ItemLoops
 pub mod ItemLists
 pub mod TwoBranches

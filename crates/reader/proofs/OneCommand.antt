@@ -19,13 +19,13 @@ use Rattle.reader.specs.declared.clauses.Declared.{Declared}
 use Rattle.reader.specs.declared.clauses.Declared.the-variants as D
 use Rattle.reader.specs.working.Pieces.{listed}
 use Rattle.reader.specs.working.Names.{sharedWords, rowWords}
-use Rattle.reader.specs.working.Cursors.{bookOf, Ready, Done, Says}
+use Rattle.reader.specs.working.Cursors.{bookOf, Ready, Done}
 use Rattle.reader.specs.working.Expressions.{exprWords}
 use Rattle.reader.specs.working.Items.{itemsWords}
 use Rattle.reader.specs.Read.{placed}
 use Rattle.reader.specs.working.Sequences.{Tested, testedWords}
 use Rattle.reader.specs.working.Commands.{withCommands, Naming, Titled, TitleSays, bodyReader, BodySays, commandWords, starsIn, oneAt, Arrays, arrays, CommandsSay}
-use Rattle.reader.proofs.StoredCode.{wrote-none, wrote-from, said-bad, done-ready}
+use Rattle.reader.proofs.StoredCode.{wrote-none, wrote-from, said-ok, said-bad, done-ready}
 use Rattle.reader.proofs.NameLists.{named-same}
 use Rattle.reader.proofs.Lookup.{words-kept}
 
@@ -106,7 +106,7 @@ module _ (text names ops ends stars : List ℕ) (l : Ledger) (c : Cursor) (g : N
         CommandsSay text l c S (oneAt text names l c) (arrays names′ ops′ ends stars) (D.Refused n i)
     unfolding CommandsSay
     body-refused ops′ read n i b f =
-        let k = said-bad text names′ l′ (testedWords text names′ l′ (itemsWords text names′ l′)) 3 d ops body ops′ read n i b f in (
+        let k = said-bad b f in (
           titled-is ∙ ap (λ (o : Got (Tested Item)). thenReads (thenReads o (λ v ts b. got (made (T .tree) v) ts b)) (λ x ts b. got (x ∷ []) ts b)) (k .0),
           record { names = record { names = T .tree ∷ []; is = T .stored }; ops = wrote-from from-place (k .1); ends = wrote-none; stars = wrote-none },
         )
@@ -116,8 +116,7 @@ module _ (text names ops ends stars : List ℕ) (l : Ledger) (c : Cursor) (g : N
       W = testedWords text names′ l′ (itemsWords text names′ l′)
 
       done : Done text names′ l′ W 3 d ops body ops′ v
-      unfolding Says
-      done = subst (λ (z : Parsed). BodySays text names′ l′ d ops ops′ z) f b
+      done = said-ok b f
 
       pub command-small : (v .emitted < 65536) × (v .stars < 65536)
       command-small = (omega (arith, title-ready .room, title-ready .commands, done .level, done .nodes, done .items), omega (arith, done .stars))
@@ -170,5 +169,5 @@ module _ (text names ops ends stars : List ℕ) (l : Ledger) (c : Cursor) (g : N
             (set ends (4 + l .commands) (place-is t)) (set stars (l .commands) (stars-are t));
         place = place-is ∙ ap (λ (z : List ℕ). c .emitted + length z) (sym (append-nil code));
         ledger = T .ledger;
-        naming = record { ready = done-ready text names′ l′ W 3 d ops body ops′ 0 v title-ready done; long = ap length (T .stored) ∙ placed-length names j (T .tree) ∙ g .long };
+        naming = record { ready = done-ready done 0 title-ready; long = ap length (T .stored) ∙ placed-length names j (T .tree) ∙ g .long };
       }

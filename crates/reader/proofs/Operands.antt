@@ -27,12 +27,12 @@ use Rattle.reader.specs.declared.cursor.Parsed.{Parsed}
 use Rattle.reader.specs.declared.cursor.Parsed.the-variants.{Refused}
 use Rattle.reader.specs.working.Pieces.{nameIn}
 use Rattle.reader.specs.working.Names.{wordsIn, sharedWords, rowWords, namesKept}
-use Rattle.reader.specs.working.Cursors.{modeOf, bookOf, Ready}
+use Rattle.reader.specs.working.Cursors.{modeOf, bookOf, Ready, wasRefused}
 use Rattle.reader.specs.working.Expressions.{exprWords, SaysOperand, factorAt, Leaf, Kept}
 use Rattle.reader.proofs.Books.{constant-full, constant-fits, chance-barred, chance-many, chance-full, chance-fits, uses-unknown, uses-full, uses-fits, note-constant, note-chance, note-uses}
 use Rattle.reader.proofs.Symbols.{zero-is, one-is, star-is, name-is}
 use Rattle.reader.proofs.Lookup.{words-length, words-append, place-among, place-le, place-front, place-append, among-append, shared-name, table-name}
-use Rattle.reader.proofs.StoredCode.{wrote-none, says-bad}
+use Rattle.reader.proofs.StoredCode.{wrote-none}
 use Rattle.reader.proofs.Factors.{leaf-says}
 
 -- ---- the name that a look-up finds
@@ -139,7 +139,7 @@ module _ (text names : List ℕ) (sc : Scope) (l : Ledger) (depth : ℕ) (c : Cu
   -- Refused, with nothing stored.
   pub operand-bad : (p : List ℕ) (n i : ℕ) → G ≡ stop n i → SaysOperand text names l c p G p (Refused n i)
   unfolding Kept
-  operand-bad p n i e = (says-bad text names l (exprWords text names l) 0 c p G p n i e wrote-none, refl)
+  operand-bad p n i e = (wasRefused e wrote-none, refl)
 
   pub star-barred : t .kind ≡ 17 → sc .stars ≡ false → G ≡ stop 6 (t .start)
   star-barred u s = star-is text t (length text) m (16 - depth) (bookOf text names l c) u

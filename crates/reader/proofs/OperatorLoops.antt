@@ -3,7 +3,7 @@
 use mathlib.Core.Path.{_≡_, refl, sym, ap, _∙_, subst}
 use mathlib.Core.List.{List, [], _∷_, _++_}
 use mathlib.Core.Option.{Option, some}
-use Prim.Native.Nat.{ℕ, _+_, _*_, _≤_, _<_}
+use Prim.Native.Nat.{ℕ, _+_, _≤_, _<_}
 use native.Mathlib.Omega.{arith}
 use lib.ListN.{length, set, length-append}
 use lib.Seq.{sets}
@@ -22,12 +22,12 @@ use Rattle.reader.specs.declared.cursor.Ledger.{Ledger}
 use Rattle.reader.specs.declared.cursor.Parsed.{Parsed}
 use Rattle.reader.specs.declared.cursor.Parsed.the-variants.{Refused}
 use Rattle.reader.specs.working.Pieces.{listed}
-use Rattle.reader.specs.working.Cursors.{bookOf, emitted, Ready, Done}
+use Rattle.reader.specs.working.Cursors.{bookOf, emitted, Ready, Done, wasRefused}
 use Rattle.reader.specs.working.Expressions.{exprWords, SaysExpr}
-use Rattle.reader.proofs.Moves.{Past}
+use Rattle.reader.proofs.Moves.{Past, past-ready}
 use Rattle.reader.proofs.Books.{joins-full, joins-fits, note-joins}
 use Rattle.reader.proofs.Symbols.{listed-sign, and-stops, or-stops}
-use Rattle.reader.proofs.StoredCode.{stores, wrote-from, said-bad, says-bad, says-same, done-wrote, done-then, done-ready}
+use Rattle.reader.proofs.StoredCode.{stores, wrote-from, said-bad, says-same, done-wrote, done-then, done-ready}
 
 -- An operator: its sign, its code word, how it joins, and the readers of its operand and of the rest of its operands.
 pub record Chain (text names : List ℕ) (l : Ledger) : Type 0 where
@@ -125,7 +125,7 @@ module _ (text names : List ℕ) (l : Ledger) where
     rest-first s p o g b c e h = record { o = o; done = h; says = e ∙ ap (λ (x : Got Expr). thenReads x (λ e ts b. K .loop e ts b)) (h .says) }
 
     pub turn-none : (s : Cursor) (p : List ℕ) (o : Got Expr) (b₀ : List ℕ) (c₀ : Cursor) → Ready text l 0 s → Read s p o b₀ c₀ → Turn b₀ c₀ b₀ c₀
-    turn-none s p o b₀ c₀ r h = record { ready = done-ready text names l (exprWords text names l) 0 s p o b₀ 0 c₀ r h; back = λ s p g x. x }
+    turn-none s p o b₀ c₀ r h = record { ready = done-ready h 0 r; back = λ s p g x. x }
 
     module _ (s : Cursor) (p : List ℕ) (g : Got Expr) (b : List ℕ) (c : Cursor) (h : Rest s p g b c) where
       pub rest-stop : (c .next .kind ≡ K .op → ⊥) → Read s p g b c
@@ -141,9 +141,9 @@ module _ (text names : List ℕ) (l : Ledger) where
 
         pub rest-full : 1024 ≤ c .nodes → SaysExpr text names l s p g b (Refused 7 (c .next .start))
         rest-full x =
-            says-bad text names l (exprWords text names l) 0 s p g b 7 (c .next .start)
+            wasRefused
             (turned ∙ ap (λ (o : Option ℕ). ruling (c .next .start) o after) (joins-full text names l c (sign (K .op)) x))
-            (done-wrote text names l (exprWords text names l) 0 s p (h .o) b c (h .done))
+            (done-wrote (h .done))
 
         module _ (x : c .nodes < 1024) (d : Cursor) (q : Past text c (c .items) (c .nodes + 1) (c .stars) d) where
           abbrev right : Got Expr
@@ -157,10 +157,10 @@ module _ (text names : List ℕ) (l : Ledger) where
 
           pub rest-bad : (m : List ℕ) (r : Parsed) (n i : ℕ) → SaysExpr text names l d b right m r → r ≡ Refused n i → SaysExpr text names l s p g m r
           rest-bad m r n i z e =
-              let k = said-bad text names l (exprWords text names l) 0 d b right m r n i z e in
-              says-same text names l (exprWords text names l) 0 s p g m r n i e
+              let k = said-bad z e in
+              says-same e
               (goes ∙ ap (λ (o : Got Expr). thenReads o (λ y ts b. K .loop (K .join (h .done .tree) y) ts b)) (k .0))
-              (done-then text names l (exprWords text names l) 0 s p (h .o) b c m (h .done) (wrote-from (ap (λ (z : Cursor). z .emitted) (q .is)) (k .1)))
+              (done-then (h .done) (wrote-from (q .place) (k .1)))
 
           module _ (m : List ℕ) (v : Cursor) (e : Read d b right m v) where
             abbrev W : ℕ → Expr → List ℕ
@@ -174,19 +174,16 @@ module _ (text names : List ℕ) (l : Ledger) where
 
             -- the right operand's code, by where the left one's stars ended
             same-stars : d .stars ≡ exprWords text names l (s .stars) (h .done .tree) .next
-            same-stars = ap (λ (z : Cursor). z .stars) (q .is) ∙ h .done .numbered
-
-            same-place : d .emitted ≡ c .emitted
-            same-place = ap (λ (z : Cursor). z .emitted) (q .is)
+            same-stars = q .starsAre ∙ h .done .numbered
 
             whole : W (s .stars) (K .join (h .done .tree) (e .tree)) ≡ first ++ (second ++ K .word ∷ [])
             whole = K .words (s .stars) (h .done .tree) (e .tree)
 
             stored-second : m ≡ sets b (c .emitted) second
-            stored-second = e .stored ∙ ap (λ (i : ℕ). sets b i (W (d .stars) (e .tree))) same-place ∙ ap (λ (k : ℕ). sets b (c .emitted) (W k (e .tree))) same-stars
+            stored-second = e .stored ∙ ap (λ (i : ℕ). sets b i (W (d .stars) (e .tree))) (q .place) ∙ ap (λ (k : ℕ). sets b (c .emitted) (W k (e .tree))) same-stars
 
             long-second : v .emitted ≡ c .emitted + length second
-            long-second = e .long ∙ ap (λ (i : ℕ). i + length (W (d .stars) (e .tree))) same-place ∙ ap (λ (k : ℕ). c .emitted + length (W k (e .tree))) same-stars
+            long-second = e .long ∙ ap (λ (i : ℕ). i + length (W (d .stars) (e .tree))) (q .place) ∙ ap (λ (k : ℕ). c .emitted + length (W k (e .tree))) same-stars
 
             pub rest-more : Rest s p g (set m (v .emitted) (K .word)) (emitted v)
             rest-more = record {
@@ -203,10 +200,9 @@ module _ (text names : List ℕ) (l : Ledger) where
                     ap length whole ∙ length-append first (second ++ K .word ∷ []) ∙ ap (λ (i : ℕ). length first + i) (length-append second (K .word ∷ [])) in
                     omega (arith, a, long-second, h .done .long);
                 numbered = e .numbered ∙ ap (λ (k : ℕ). exprWords text names l k (e .tree) .next) same-stars ∙ sym (K .next (s .stars) (h .done .tree) (e .tree));
-                level = let n : d .nodes ≡ c .nodes + 1 = ap (λ (z : Cursor). z .nodes) (q .is) in let i : d .items
-                    ≡ c .items = ap (λ (z : Cursor). z .items) (q .is) in omega (arith, e .level, h .done .level, same-place);
-                moreNodes = let n : d .nodes ≡ c .nodes + 1 = ap (λ (z : Cursor). z .nodes) (q .is) in omega (arith, e .moreNodes, h .done .moreNodes);
-                moreItems = let i : d .items ≡ c .items = ap (λ (z : Cursor). z .items) (q .is) in omega (arith, e .moreItems, h .done .moreItems);
+                level = omega (arith, e .level, h .done .level);
+                moreNodes = omega (arith, e .moreNodes, h .done .moreNodes);
+                moreItems = omega (arith, e .moreItems, h .done .moreItems);
                 nodes = e .nodes;
                 items = e .items;
                 stars = e .stars;
@@ -219,23 +215,14 @@ module _ (text names : List ℕ) (l : Ledger) where
 
     module _ (b₀ : List ℕ) (c₀ : Cursor) (b : List ℕ) (c d : Cursor) (i : Turn b₀ c₀ b c) (x : c .nodes < 1024) (q : Past text c (c .items) (c .nodes + 1) (c .stars) d) where
       pub turn-ready : Ready text l 0 d
-      turn-ready = record {
-        fits = i .ready .fits;
-        fresh = q .next .fresh;
-        names = i .ready .names;
-        commands = i .ready .commands;
-        items = subst (λ (z : Cursor). z .items ≤ 256) (sym (q .is)) (i .ready .items);
-        nodes = subst (λ (z : Cursor). z .nodes ≤ 1024) (sym (q .is)) (omega arith);
-        stars = subst (λ (z : Cursor). z .stars ≤ 8) (sym (q .is)) (i .ready .stars);
-        room = subst (λ (z : Cursor). z .emitted + 0 ≤ z .nodes + 3 * z .items + 3 * l .commands) (sym (q .is)) (omega (arith, i .ready .room));
-      }
+      turn-ready = past-ready (i .ready) q (i .ready .items) (omega arith) (i .ready .stars) (omega (arith, i .ready .room))
 
       module _ (o : Got Expr) (m : List ℕ) (v : Cursor) (e : Read d b o m v) where
         -- there is room for the operator's code word, and the nodes have grown
         pub turn-room : (v .emitted < 2048) × (c .nodes < v .nodes) × (v .nodes ≤ 1024)
         turn-room = (
           omega (arith, e .level, e .nodes, e .items, turn-ready .room, i .ready .commands),
-          let n : d .nodes ≡ c .nodes + 1 = ap (λ (z : Cursor). z .nodes) (q .is) in omega (arith, e .moreNodes),
+          omega (arith, e .moreNodes),
           e .nodes,
         )
 
@@ -251,9 +238,9 @@ module _ (text names : List ℕ) (l : Ledger) where
           nodes = e .nodes;
           stars = e .stars;
           room =
-              let n : d .nodes ≡ c .nodes + 1 = ap (λ (z : Cursor). z .nodes) (q .is) in
-              let j : d .items ≡ c .items = ap (λ (z : Cursor). z .items) (q .is) in
-              let k : d .emitted ≡ c .emitted = ap (λ (z : Cursor). z .emitted) (q .is) in
+              let n : d .nodes ≡ c .nodes + 1 = q .nodesAre in
+              let j : d .items ≡ c .items = q .itemsAre in
+              let k : d .emitted ≡ c .emitted = q .place in
               omega (arith, e .level, i .ready .room);
         };
         back = λ s p g w. rest-more s p g b c (i .back s p g w) u x d q m v e;

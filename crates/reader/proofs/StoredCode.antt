@@ -15,7 +15,7 @@ use Rattle.reader.specs.declared.cursor.Cursor.{Cursor}
 use Rattle.reader.specs.declared.cursor.Ledger.{Ledger}
 use Rattle.reader.specs.declared.cursor.Parsed.{Parsed}
 use Rattle.reader.specs.declared.cursor.Parsed.the-variants.{Ok, Refused}
-use Rattle.reader.specs.working.Cursors.{Ready, Done, Wrote, Says}
+use Rattle.reader.specs.working.Cursors.{Ready, Done, Wrote, Says, wasRead, wasRefused}
 
 -- ---- stores
 
@@ -45,57 +45,58 @@ wrote-behind p b m e c vs h k w = record { words = vs ++ w .words; is = stores p
 
 -- ---- answers
 
-module _ {A : Type 0} (text names : List ℕ) (l : Ledger) (code : ℕ → A → Numbered (List ℕ)) (extra : ℕ) (s : Cursor) (p : List ℕ) (g : Got A) (b : List ℕ) where
-  pub said-ok : (r : Parsed) (c : Cursor) → Says text names l code extra s p g b r → r ≡ Ok c → Done text names l code extra s p g b c
-  unfolding Says
-  said-ok r c h e = subst (λ (x : Parsed). Says text names l code extra s p g b x) e h
+module _ {A : Type 0} {text names : List ℕ} {l : Ledger} {code : ℕ → A → Numbered (List ℕ)} {extra : ℕ} {s : Cursor} {p : List ℕ} {g : Got A} {b : List ℕ} where
+  pub is-read : {c : Cursor} → Says text names l code extra s p g b (Ok c) → Done text names l code extra s p g b c
+  is-read (wasRead d) = d
 
-  pub said-bad : (r : Parsed) (n q : ℕ) → Says text names l code extra s p g b r → r ≡ Refused n q → (g ≡ stop n q) × Wrote (s .emitted) p b
-  unfolding Says
-  said-bad r n q h e = subst (λ (x : Parsed). Says text names l code extra s p g b x) e h
+  pub is-refused : {n q : ℕ} → Says text names l code extra s p g b (Refused n q) → (g ≡ stop n q) × Wrote (s .emitted) p b
+  is-refused (wasRefused h w) = (h, w)
 
-  pub says-ok : (c : Cursor) → Done text names l code extra s p g b c → Says text names l code extra s p g b (Ok c)
-  unfolding Says
-  says-ok c h = h
+  pub said-as : {r r′ : Parsed} → r ≡ r′ → Says text names l code extra s p g b r → Says text names l code extra s p g b r′
+  said-as e h = subst (λ (x : Parsed). Says text names l code extra s p g b x) e h
 
-  pub says-bad : (n q : ℕ) → g ≡ stop n q → Wrote (s .emitted) p b → Says text names l code extra s p g b (Refused n q)
-  unfolding Says
-  says-bad n q h w = (h, w)
+  pub said-ok : {r : Parsed} {c : Cursor} → Says text names l code extra s p g b r → r ≡ Ok c → Done text names l code extra s p g b c
+  said-ok h e = is-read (said-as e h)
 
-  pub says-same : (r : Parsed) (n q : ℕ) → r ≡ Refused n q → g ≡ stop n q → Wrote (s .emitted) p b → Says text names l code extra s p g b r
-  unfolding Says
-  says-same r n q e h w = subst (λ (x : Parsed). Says text names l code extra s p g b x) (sym e) (h, w)
+  pub said-bad : {r : Parsed} {n q : ℕ} → Says text names l code extra s p g b r → r ≡ Refused n q → (g ≡ stop n q) × Wrote (s .emitted) p b
+  said-bad h e = is-refused (said-as e h)
 
-  pub done-wrote : (c : Cursor) → Done text names l code extra s p g b c → Wrote (s .emitted) p b
-  done-wrote c d = record { words = code (s .stars) (d .tree) .is; is = d .stored }
+  pub says-same : {r : Parsed} {n q : ℕ} → r ≡ Refused n q → g ≡ stop n q → Wrote (s .emitted) p b → Says text names l code extra s p g b r
+  says-same e h w = said-as (sym e) (wasRefused h w)
 
-  -- Written behind what was read.
-  pub done-then : (c : Cursor) (m : List ℕ) → Done text names l code extra s p g b c → Wrote (c .emitted) b m → Wrote (s .emitted) p m
-  done-then c m d w = wrote-behind p b m (s .emitted) (c .emitted) (code (s .stars) (d .tree) .is) (d .stored) (d .long) w
+  pub says-of : {o : Got A} {r : Parsed} → o ≡ g → Says text names l code extra s p g b r → Says text names l code extra s p o b r
+  says-of {r = r} e h = subst (λ (x : Got A). Says text names l code extra s p x b r) (sym e) h
 
-  -- What follows may be read where this was.
-  pub done-ready : (spare : ℕ) (c : Cursor) → Ready text l (extra + spare) s → Done text names l code extra s p g b c → Ready text l spare c
-  done-ready spare c r d = record {
-    fits = r .fits;
-    fresh = d .fresh;
-    names = r .names;
-    commands = r .commands;
-    items = d .items;
-    nodes = d .nodes;
-    stars =
-        d .stars;
-    room = omega (arith, r .room, d .level);
-  }
+  module _ {c : Cursor} (d : Done text names l code extra s p g b c) where
+    pub done-wrote : Wrote (s .emitted) p b
+    done-wrote = record { words = code (s .stars) (d .tree) .is; is = d .stored }
+
+    -- Written behind what was read.
+    pub done-then : {m : List ℕ} → Wrote (c .emitted) b m → Wrote (s .emitted) p m
+    done-then {m} w = wrote-behind p b m (s .emitted) (c .emitted) (code (s .stars) (d .tree) .is) (d .stored) (d .long) w
+
+    -- What follows may be read where this was.
+    pub done-ready : (spare : ℕ) → Ready text l (extra + spare) s → Ready text l spare c
+    done-ready spare r = record {
+      fits = r .fits;
+      fresh = d .fresh;
+      names = r .names;
+      commands = r .commands;
+      items = d .items;
+      nodes = d .nodes;
+      stars = d .stars;
+      room = omega (arith, r .room, d .level);
+    }
 
 -- ---- one after the other
 
 -- A reader that stops where another one does is refused as that one is.
-pub says-alike : {A B : Type 0} (text names : List ℕ) (l : Ledger) (code : ℕ → A → Numbered (List ℕ)) (extra : ℕ) (code′ : ℕ → B → Numbered (List ℕ)) (extra′ : ℕ)
-    (s : Cursor) (p : List ℕ) (g : Got A) (G : Got B) (b : List ℕ)
-    (r : Parsed) (n q : ℕ) → Says text names l code extra s p g b r → r ≡ Refused n q → (g ≡ stop n q → G ≡ stop n q) → Says text names l code′ extra′ s p G b r
-says-alike text names l code extra code′ extra′ s p g G b r n q h e f =
-    let k = said-bad text names l code extra s p g b r n q h e in
-    says-same text names l code′ extra′ s p G b r n q e (f (k .0)) (k .1)
+pub says-alike : {A B : Type 0} {text names : List ℕ} {l : Ledger} {code : ℕ → A → Numbered (List ℕ)} {extra : ℕ} {code′ : ℕ → B → Numbered (List ℕ)} {extra′ : ℕ}
+    {s : Cursor} {p : List ℕ} {g : Got A} {G : Got B} {b : List ℕ} {r : Parsed} {n q : ℕ} →
+    Says text names l code extra s p g b r → r ≡ Refused n q → (g ≡ stop n q → G ≡ stop n q) → Says text names l code′ extra′ s p G b r
+says-alike h e f =
+    let k = said-bad h e in
+    says-same e (f (k .0)) (k .1)
 
-pub then-bad : {A B : Type 0} (f : A → List Lexeme → Book → Got B) (o : Got A) (g : Got B) (n q : ℕ) → g ≡ thenReads o f → o ≡ stop n q → g ≡ stop n q
-then-bad f o g n q e h = e ∙ ap (λ (x : Got _). thenReads x f) h
+pub then-bad : {A B : Type 0} (f : A → List Lexeme → Book → Got B) {o : Got A} {g : Got B} {n q : ℕ} → g ≡ thenReads o f → o ≡ stop n q → g ≡ stop n q
+then-bad f e h = e ∙ ap (λ (x : Got _). thenReads x f) h

@@ -20,7 +20,8 @@ use Rattle.reader.specs.working.Expressions.{exprWords, SaysExpr, roomed
 use Rattle.reader.specs.working.Items.{withWord, Marked}
 use Rattle.reader.proofs.StoredCode.{said-ok, says-alike, done-ready}
 use Rattle.reader.specs.working.Sequences.{Pair, paired, pairing, signedBy, tested, testedWords}
-use Rattle.reader.proofs.Sequences.{says-pair, pair-bad, says-mark, says-roomed, ready-less}
+use Rattle.reader.proofs.Sequences.{says-pair, pair-bad, says-mark, says-roomed}
+use Rattle.reader.proofs.Moves.{ready-less}
 
 module _ {A : Type 0} (text names : List ℕ) (l : Ledger) (code : ℕ → List A → Numbered (List ℕ)) (all : List Lexeme → Book → Got (List A)) (last : ℕ) where
   abbrev ending : List Lexeme → Book → Got (List A)
@@ -46,62 +47,61 @@ module _ {A : Type 0} (text names : List ℕ) (l : Ledger) (code : ℕ → List 
     Whole z y = Says text names l (testedWords text names l code) 3 d p (tested (length text) all last g) z y
 
     pub test-roomed : roomed test
-    test-roomed = says-roomed text names l (exprWords text names l) 0 d p g a 2 test r s₁
+    test-roomed = says-roomed 2 r s₁
 
     module _ (a₁ : List ℕ) (first : Parsed) (m₁ : Marked text 7 224 test a a₁ first) where
       marked₁ : Says text names l testWords 1 d p (signedBy (length text) 7 g) a₁ first
-      marked₁ = says-mark text names l (exprWords text names l) 0 d p g a 7 224 (omega arith) a₁ test first s₁ m₁
+      marked₁ = says-mark 7 224 (omega arith) s₁ m₁
 
       pub first-bad : (n i : ℕ) → first ≡ Refused n i → Whole a₁ first
       first-bad n i e =
-          says-alike text names l testWords 1 (testedWords text names l code) 3 d p (signedBy (length text) 7 g) (tested (length text) all last g) a₁ first n i marked₁ e
-          (pair-bad text names l (signedBy (length text) 7 g) branches n i)
+          says-alike marked₁ e
+          (pair-bad branches)
 
       module _ (yes : Cursor) (e₁ : first ≡ Ok yes) where
         done₁ : Done text names l testWords 1 d p (signedBy (length text) 7 g) a₁ yes
-        done₁ = said-ok text names l testWords 1 d p (signedBy (length text) 7 g) a₁ first yes marked₁ e₁
+        done₁ = said-ok marked₁ e₁
 
         two-ready : Ready text l 2 yes
-        two-ready = done-ready text names l testWords 1 d p (signedBy (length text) 7 g) a₁ 2 yes r done₁
+        two-ready = done-ready done₁ 2 r
 
         pub yes-ready : Ready text l 0 yes
-        yes-ready = ready-less text names l 2 0 yes (omega arith) two-ready
+        yes-ready = ready-less two-ready (omega arith)
 
         module _ (b : List ℕ) (done : Parsed) (s₂ : Says text names l code 0 yes a₁ (At yes) b done) where
           pub done-roomed : roomed done
-          done-roomed = says-roomed text names l code 0 yes a₁ (At yes) b 1 done two-ready s₂
+          done-roomed = says-roomed 1 two-ready s₂
 
           module _ (b₁ : List ℕ) (second : Parsed) (m₂ : Marked text 8 256 done b b₁ second) where
             marked₂ : Says text names l firstWords 1 yes a₁ (signedBy (length text) 8 (At yes)) b₁ second
-            marked₂ = says-mark text names l code 0 yes a₁ (At yes) b 8 256 (omega arith) b₁ done second s₂ m₂
+            marked₂ = says-mark 8 256 (omega arith) s₂ m₂
 
             -- what the branches answer, after the test
             after-test : (z : List ℕ) (y : Parsed) → Says text names l (paired firstWords lastWords) 2 yes a₁ (branches (listed text (yes .next)) (bookOf text names l yes)) z y → Whole z y
-            after-test z y h = says-pair text names l testWords (paired firstWords lastWords) 1 2 d yes p a₁ (signedBy (length text) 7 g) branches done₁ z y h
+            after-test z y h = says-pair branches done₁ h
 
             pub second-bad : (n i : ℕ) → second ≡ Refused n i → Whole b₁ second
             second-bad n i e =
                 after-test b₁ second
-                (says-alike text names l firstWords 1 (paired firstWords lastWords) 2 yes a₁ (signedBy (length text) 8 (At yes))
-                (branches (listed text (yes .next)) (bookOf text names l yes)) b₁ second n i marked₂ e
-                (pair-bad text names l (signedBy (length text) 8 (At yes)) ending n i))
+                (says-alike marked₂ e
+                (pair-bad ending))
 
             module _ (no : Cursor) (e₂ : second ≡ Ok no) where
               done₂ : Done text names l firstWords 1 yes a₁ (signedBy (length text) 8 (At yes)) b₁ no
-              done₂ = said-ok text names l firstWords 1 yes a₁ (signedBy (length text) 8 (At yes)) b₁ second no marked₂ e₂
+              done₂ = said-ok marked₂ e₂
 
               one-ready : Ready text l 1 no
-              one-ready = done-ready text names l firstWords 1 yes a₁ (signedBy (length text) 8 (At yes)) b₁ 1 no two-ready done₂
+              one-ready = done-ready done₂ 1 two-ready
 
               pub no-ready : Ready text l 0 no
-              no-ready = ready-less text names l 1 0 no (omega arith) one-ready
+              no-ready = ready-less one-ready (omega arith)
 
               module _ (z : List ℕ) (rest : Parsed) (s₃ : Says text names l code 0 no b₁ (At no) z rest) where
                 pub rest-roomed : roomed rest
-                rest-roomed = says-roomed text names l code 0 no b₁ (At no) z 0 rest one-ready s₃
+                rest-roomed = says-roomed 0 one-ready s₃
 
                 pub tested-says : (z₁ : List ℕ) (y : Parsed) → Marked text last 288 rest z z₁ y → Whole z₁ y
                 tested-says z₁ y m₃ =
                     after-test z₁ y
-                    (says-pair text names l firstWords lastWords 1 1 yes no a₁ b₁ (signedBy (length text) 8 (At yes)) ending done₂ z₁ y
-                    (says-mark text names l code 0 no b₁ (At no) z last 288 small z₁ rest y s₃ m₃))
+                    (says-pair ending done₂
+                    (says-mark last 288 small s₃ m₃))

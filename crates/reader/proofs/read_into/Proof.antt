@@ -3,7 +3,7 @@
 use mathlib.Core.Path.{ap}
 use lib.ListN.{length}
 use native.Mathlib.Omega.{arith}
-use Rattle.reader.specs.working.Commands.{Arrays, arrays}
+use Rattle.reader.specs.working.Commands.{Arrays}
 use Rattle.reader.proofs.TextAnswers.{too-long, is-read, is-refused}
 use borrow.Author.Needs.{needs}
 use Rattle.reader.proofs.read_into.Statement.{statement}

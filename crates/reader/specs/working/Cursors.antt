@@ -72,6 +72,6 @@ pub record Wrote (i : ℕ) (before after : List ℕ) : Type 0 where
   pub is : after ≡ sets before i words
 
 -- The answer is what the descent answers, g. What was stored before the reader began stands after a refusal too.
-unfoldable pub Says : {A : Type 0} → List ℕ → List ℕ → Ledger → (ℕ → A → Numbered (List ℕ)) → ℕ → Cursor → List ℕ → Got A → List ℕ → Parsed → Type 0
-Says text names l code extra c₀ before g after (Ok c) = Done text names l code extra c₀ before g after c
-Says text names l code extra c₀ before g after (Refused n i) = (g ≡ stop n i) × Wrote (c₀ .emitted) before after
+pub data Says {A : Type 0} (text names : List ℕ) (l : Ledger) (code : ℕ → A → Numbered (List ℕ)) (extra : ℕ) (c₀ : Cursor) (before : List ℕ) (g : Got A) (after : List ℕ) : Parsed → Type 0 where
+  wasRead : {c : Cursor} → Done text names l code extra c₀ before g after c → Says text names l code extra c₀ before g after (Ok c)
+  wasRefused : {n i : ℕ} → g ≡ stop n i → Wrote (c₀ .emitted) before after → Says text names l code extra c₀ before g after (Refused n i)

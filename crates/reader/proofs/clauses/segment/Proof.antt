@@ -20,7 +20,7 @@ or-level-requires c κs =
     let after-expect : tie.After-expect = search in
     let start : tie.Start = search in (
       omega arith,
-      sign-ready _ (start .args .names .now) _ _ _ _ _ _ (start .pre .0) (after-expect .expect .ensures)
+      sign-ready _ (start .pre .0) (after-expect .expect .ensures)
           (after-sign .sign .given .1),
     )
 

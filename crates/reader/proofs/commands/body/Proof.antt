@@ -5,8 +5,7 @@ use lib.ListN.{length}
 use Rattle.reader.specs.working.Items.{itemsWords}
 use Rattle.reader.specs.working.Sequences.{allItems}
 use Rattle.reader.proofs.StoredCode.{wrote-none, says-same}
-use Rattle.reader.proofs.Moves.{expected-said}
-use Rattle.reader.proofs.Sequences.{ready-less}
+use Rattle.reader.proofs.Moves.{expected-said, ready-less}
 use Rattle.reader.proofs.TwoBranches.{test-roomed, first-bad, yes-ready, done-roomed, second-bad, no-ready}
 use Rattle.reader.proofs.TwoBranches.{rest-roomed, tested-says}
 use Rattle.reader.proofs.Bodies.{body-bad, body-ready, body-says}
@@ -18,7 +17,7 @@ returns : tie.Need-returns
 returns c =
     let after-expect : tie.After-expect = search in
     let start : tie.Start = search in
-    says-same _ _ _ _ _ _ _ _ _ _ _ _ (c .enum-told .given .1)
+    says-same (c .enum-told .given .1)
     (body-bad _ _ _ _ (start .pre) _ _
     (expected-said _ _ _ _ _ (after-expect .expect .ensures) (c .enum-told .given .1)))
     wrote-none
@@ -30,9 +29,9 @@ or-level-requires c κs =
     let start : tie.Start = search in
     let names = start .args .names .now in (
       omega arith,
-      ready-less _ names _ 3 0 _ (omega arith)
+      ready-less
           (body-ready (start .args .text .now) names (start .args .l) _ (start .pre) _
-          (expected-said _ _ _ _ _ (after-expect .expect .ensures) (after-sign .sign .given .1))),
+          (expected-said _ _ _ _ _ (after-expect .expect .ensures) (after-sign .sign .given .1))) (omega arith),
     )
 
 mark-requires : tie.Need-mark-requires

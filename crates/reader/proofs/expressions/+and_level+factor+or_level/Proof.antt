@@ -9,8 +9,8 @@ use borrow.Fn.Kinds.{In, Out}
 use borrow.Fn.PlainCycle.{Measures, is, falls, and}
 use Rattle.notation.proofs.Readers.{and-level-is, or-level-is}
 use Rattle.reader.specs.declared.cursor.Cursor.{Cursor}
-use Rattle.reader.specs.working.Cursors.{modeOf}
-use Rattle.reader.proofs.StoredCode.{wrote-none, said-ok, says-ok, says-bad, says-alike, then-bad}
+use Rattle.reader.specs.working.Cursors.{modeOf, wasRead, wasRefused}
+use Rattle.reader.proofs.StoredCode.{wrote-none, said-ok, says-alike, then-bad}
 use Rattle.reader.proofs.OperatorLoops.{andChain, orChain, Turn, rest-first, rest-stop, rest-full, rest-bad, turn-none}
 use Rattle.reader.proofs.OperatorLoops.{turn-ready, turn-room, turn-more}
 use Rattle.reader.proofs.Factors.{open-deep, open-ready, open-closes, not-deep, not-full, not-ready, not-room}
@@ -116,26 +116,26 @@ module _ (t : ℕ) where
   and-returns : In-and and-lts.Need-returns
   and-returns c =
       let after-factor : In-and and-lts.After-factor = search in
-      says-alike _ _ _ _ _ _ _ _ _ _ _ _ _ _ _ (after-factor .factor .ensures) (c .enum-told .given .1)
-      (then-bad _ _ _ _ _ (and-level-is _ _ _ _ _))
+      says-alike (after-factor .factor .ensures) (c .enum-told .given .1)
+      (then-bad _ (and-level-is _ _ _ _ _))
 
   and-ands-holds : In-and and-lts.Need-ands-holds
   and-ands-holds c =
       let after-factor : In-and and-lts.After-factor = search in
       let start : In-and and-lts.Start = search in
       turn-none _ _ _ (andChain _ _ _ _ _) _ _ _ _ _ (start .pre .1 .1)
-      (said-ok _ _ _ _ _ _ _ _ _ _ _ (after-factor .factor .ensures) (c .before .first .given .1))
+      (said-ok (after-factor .factor .ensures) (c .before .first .given .1))
 
   and-returns-2 : In-and and-lts.Need-returns-2
   and-returns-2 c =
       let at-ands : In-and and-lts.At-ands = search in
       let after-first : In-and and-lts.After-first = search in
       let after-factor : In-and and-lts.After-factor = search in
-      says-ok _ _ _ _ _ _ _ _ _ _
+      wasRead
       (rest-stop _ _ _ (andChain _ _ _ _ _) _ _ _ _ _
       (at-ands .ands .inv .back _ _ _
       (rest-first _ _ _ (andChain _ _ _ _ _) _ _ _ _ _ _ (and-level-is _ _ _ _ _)
-      (said-ok _ _ _ _ _ _ _ _ _ _ _ (after-factor .factor .ensures) (after-first .first .given .1))))
+      (said-ok (after-factor .factor .ensures) (after-first .first .given .1))))
       (c .if1 .taken))
 
   and-returns-3 : In-and and-lts.Need-returns-3
@@ -146,7 +146,7 @@ module _ (t : ℕ) where
       rest-full _ _ _ (andChain _ _ _ _ _) _ _ _ _ _
       (at-ands .ands .inv .back _ _ _
       (rest-first _ _ _ (andChain _ _ _ _ _) _ _ _ _ _ _ (and-level-is _ _ _ _ _)
-      (said-ok _ _ _ _ _ _ _ _ _ _ _ (after-factor .factor .ensures) (after-first .first .given .1))))
+      (said-ok (after-factor .factor .ensures) (after-first .first .given .1))))
       (c .before .if1 .left) (c .if2 .taken)
 
   and-add-past : In-and and-lts.Need-add-past
@@ -177,7 +177,7 @@ module _ (t : ℕ) where
       rest-bad _ _ _ (andChain _ _ _ _ _) _ _ _ _ _
       (at-ands .ands .inv .back _ _ _
       (rest-first _ _ _ (andChain _ _ _ _ _) _ _ _ _ _ _ (and-level-is _ _ _ _ _)
-      (said-ok _ _ _ _ _ _ _ _ _ _ _ (after-factor .factor .ensures) (after-first .first .given .1))))
+      (said-ok (after-factor .factor .ensures) (after-first .first .given .1))))
       (else1 .if1 .left) (else2 .if2 .left) _ (is-past (after-past .past .ensures)) _ _ _ _
       (after-factor2 .factor2 .ensures) (c .enum-told2 .given .1)
 
@@ -189,7 +189,7 @@ module _ (t : ℕ) where
       let else2 : In-and and-lts.Else2 = search in
       let at-ands : In-and and-lts.At-ands = search in
       turn-room _ _ _ (andChain _ _ _ _ _) _ _ _ _ _ (at-ands .ands .inv) (else2 .if2 .left) (is-past (after-past .past .ensures)) _
-      _ _ (said-ok _ _ _ _ _ _ _ _ _ _ _ (after-factor2 .factor2 .ensures) (after-next .next .given .1)) .0
+      _ _ (said-ok (after-factor2 .factor2 .ensures) (after-next .next .given .1)) .0
 
   and-ands-less : In-and and-lts.Need-ands-less
   and-ands-less c =
@@ -200,7 +200,7 @@ module _ (t : ℕ) where
       let at-ands : In-and and-lts.At-ands = search in
       let k = turn-room _ _ _ (andChain _ _ _ _ _) _ _ _ _ _ (at-ands .ands .inv) (else2 .if2 .left)
       (is-past (after-past .past .ensures)) _ _ _
-      (said-ok _ _ _ _ _ _ _ _ _ _ _ (after-factor2 .factor2 .ensures) (after-next .next .given .1)) in
+      (said-ok (after-factor2 .factor2 .ensures) (after-next .next .given .1)) in
       let e : c .emit .result .nodes ≡ _ = ap (λ (x : Cursor). x .nodes) (c .emit .ensures .0) in
       omega (arith, k .1, k .2)
 
@@ -214,12 +214,12 @@ module _ (t : ℕ) where
       let at-ands : In-and and-lts.At-ands = search in
       turn-more _ _ _ (andChain _ _ _ _ _) _ _ _ _ _ (at-ands .ands .inv) (else2 .if2 .left) (is-past (after-past .past .ensures))
       (else1 .if1 .left) _ _ _ _
-      (said-ok _ _ _ _ _ _ _ _ _ _ _ (after-factor2 .factor2 .ensures) (after-next .next .given .1)) (c .emit .ensures)
+      (said-ok (after-factor2 .factor2 .ensures) (after-next .next .given .1)) (c .emit .ensures)
 
   factor-returns : In-factor factor-lts.Need-returns
   factor-returns c =
       let start : In-factor factor-lts.Start = search in
-      says-bad _ _ _ _ _ _ _ _ _ _ _ (open-deep _ _ _ _ _ _ (start .pre .1 .1) (c .before .if1 .taken) (c .if2 .taken)) wrote-none
+      wasRefused (open-deep _ _ _ _ _ _ (start .pre .1 .1) (c .before .if1 .taken) (c .if2 .taken)) wrote-none
 
   factor-or-level-requires : In-factor factor-lts.Need-or-level-requires
   factor-or-level-requires c κs =
@@ -242,18 +242,18 @@ module _ (t : ℕ) where
       let then1 : In-factor factor-lts.Then1 = search in
       let start : In-factor factor-lts.Start = search in
       open-closes _ _ _ _ _ _ (start .pre .1 .1) (then1 .if1 .taken) (start .pre .1 .0) (else2 .if2 .left) _
-      (is-past (after-past .past .ensures)) _ _ _ _ (c .before .or-level .ensures) (c .close-parenthesis .ensures)
+      (is-past (after-past .past .ensures)) (c .before .or-level .ensures) (c .close-parenthesis .ensures)
 
   factor-returns-3 : In-factor factor-lts.Need-returns-3
   factor-returns-3 c =
       let start : In-factor factor-lts.Start = search in
-      says-bad _ _ _ _ _ _ _ _ _ _ _ (not-deep _ _ _ _ _ _ (start .pre .1 .1) (c .before .if3 .taken) (c .if4 .taken)) wrote-none
+      wasRefused (not-deep _ _ _ _ _ _ (start .pre .1 .1) (c .before .if3 .taken) (c .if4 .taken)) wrote-none
 
   factor-returns-4 : In-factor factor-lts.Need-returns-4
   factor-returns-4 c =
       let then3 : In-factor factor-lts.Then3 = search in
       let start : In-factor factor-lts.Start = search in
-      says-bad _ _ _ _ _ _ _ _ _ _ _
+      wasRefused
       (not-full _ _ _ _ _ _ (start .pre .1 .1) (then3 .if3 .taken) (start .pre .1 .0) (c .before .if4 .left)
       (c .if5 .taken))
       wrote-none
@@ -285,7 +285,7 @@ module _ (t : ℕ) where
       let start : In-factor factor-lts.Start = search in
       not-room (start .args .text .now) (start .args .names .now) (start .args .sc) _ (start .args .depth) _
       (start .pre .1 .1) (then3 .if3 .taken) (start .pre .1 .0) (else4 .if4 .left) (else5 .if5 .left) _
-      (is-past (after-past2 .past2 .ensures)) _ _ _ _ (c .before .factor .ensures)
+      (is-past (after-past2 .past2 .ensures)) (c .before .factor .ensures)
 
   factor-returns-5 : In-factor factor-lts.Need-returns-5
   factor-returns-5 c =
@@ -296,7 +296,7 @@ module _ (t : ℕ) where
       let then3 : In-factor factor-lts.Then3 = search in
       let start : In-factor factor-lts.Start = search in
       not-closes _ _ _ _ _ _ (start .pre .1 .1) (then3 .if3 .taken) (start .pre .1 .0) (else4 .if4 .left)
-      (else5 .if5 .left) _ (is-past (after-past2 .past2 .ensures)) _ _ _ _ _ (after-factor .factor .ensures)
+      (else5 .if5 .left) _ (is-past (after-past2 .past2 .ensures)) (after-factor .factor .ensures)
       (c .close-node .ensures)
 
   factor-operand-requires : In-factor factor-lts.Need-operand-requires
@@ -316,26 +316,26 @@ module _ (t : ℕ) where
   or-returns : In-or or-lts.Need-returns
   or-returns c =
       let after-and-level : In-or or-lts.After-and-level = search in
-      says-alike _ _ _ _ _ _ _ _ _ _ _ _ _ _ _ (after-and-level .and-level .ensures) (c .enum-told .given .1)
-      (then-bad _ _ _ _ _ (or-level-is _ _ _ _ _))
+      says-alike (after-and-level .and-level .ensures) (c .enum-told .given .1)
+      (then-bad _ (or-level-is _ _ _ _ _))
 
   or-ors-holds : In-or or-lts.Need-ors-holds
   or-ors-holds c =
       let after-and-level : In-or or-lts.After-and-level = search in
       let start : In-or or-lts.Start = search in
       turn-none _ _ _ (orChain _ _ _ _ _) _ _ _ _ _ (start .pre .1 .1)
-      (said-ok _ _ _ _ _ _ _ _ _ _ _ (after-and-level .and-level .ensures) (c .before .first .given .1))
+      (said-ok (after-and-level .and-level .ensures) (c .before .first .given .1))
 
   or-returns-2 : In-or or-lts.Need-returns-2
   or-returns-2 c =
       let at-ors : In-or or-lts.At-ors = search in
       let after-first : In-or or-lts.After-first = search in
       let after-and-level : In-or or-lts.After-and-level = search in
-      says-ok _ _ _ _ _ _ _ _ _ _
+      wasRead
       (rest-stop _ _ _ (orChain _ _ _ _ _) _ _ _ _ _
       (at-ors .ors .inv .back _ _ _
       (rest-first _ _ _ (orChain _ _ _ _ _) _ _ _ _ _ _ (or-level-is _ _ _ _ _)
-      (said-ok _ _ _ _ _ _ _ _ _ _ _ (after-and-level .and-level .ensures) (after-first .first .given .1))))
+      (said-ok (after-and-level .and-level .ensures) (after-first .first .given .1))))
       (c .if1 .taken))
 
   or-returns-3 : In-or or-lts.Need-returns-3
@@ -346,7 +346,7 @@ module _ (t : ℕ) where
       rest-full _ _ _ (orChain _ _ _ _ _) _ _ _ _ _
       (at-ors .ors .inv .back _ _ _
       (rest-first _ _ _ (orChain _ _ _ _ _) _ _ _ _ _ _ (or-level-is _ _ _ _ _)
-      (said-ok _ _ _ _ _ _ _ _ _ _ _ (after-and-level .and-level .ensures) (after-first .first .given .1))))
+      (said-ok (after-and-level .and-level .ensures) (after-first .first .given .1))))
       (c .before .if1 .left) (c .if2 .taken)
 
   or-add-past : In-or or-lts.Need-add-past
@@ -377,7 +377,7 @@ module _ (t : ℕ) where
       rest-bad _ _ _ (orChain _ _ _ _ _) _ _ _ _ _
       (at-ors .ors .inv .back _ _ _
       (rest-first _ _ _ (orChain _ _ _ _ _) _ _ _ _ _ _ (or-level-is _ _ _ _ _)
-      (said-ok _ _ _ _ _ _ _ _ _ _ _ (after-and-level .and-level .ensures) (after-first .first .given .1))))
+      (said-ok (after-and-level .and-level .ensures) (after-first .first .given .1))))
       (else1 .if1 .left) (else2 .if2 .left) _ (is-past (after-past .past .ensures)) _ _ _ _
       (after-and-level2 .and-level2 .ensures) (c .enum-told2 .given .1)
 
@@ -389,7 +389,7 @@ module _ (t : ℕ) where
       let else2 : In-or or-lts.Else2 = search in
       let at-ors : In-or or-lts.At-ors = search in
       turn-room _ _ _ (orChain _ _ _ _ _) _ _ _ _ _ (at-ors .ors .inv) (else2 .if2 .left) (is-past (after-past .past .ensures)) _ _
-      _ (said-ok _ _ _ _ _ _ _ _ _ _ _ (after-and-level2 .and-level2 .ensures) (after-next .next .given .1)) .0
+      _ (said-ok (after-and-level2 .and-level2 .ensures) (after-next .next .given .1)) .0
 
   or-ors-less : In-or or-lts.Need-ors-less
   or-ors-less c =
@@ -400,7 +400,7 @@ module _ (t : ℕ) where
       let at-ors : In-or or-lts.At-ors = search in
       let k = turn-room _ _ _ (orChain _ _ _ _ _) _ _ _ _ _ (at-ors .ors .inv) (else2 .if2 .left)
       (is-past (after-past .past .ensures)) _ _ _
-      (said-ok _ _ _ _ _ _ _ _ _ _ _ (after-and-level2 .and-level2 .ensures) (after-next .next .given .1)) in
+      (said-ok (after-and-level2 .and-level2 .ensures) (after-next .next .given .1)) in
       let e : c .emit .result .nodes ≡ _ = ap (λ (x : Cursor). x .nodes) (c .emit .ensures .0) in
       omega (arith, k .1, k .2)
 
@@ -414,7 +414,7 @@ module _ (t : ℕ) where
       let at-ors : In-or or-lts.At-ors = search in
       turn-more _ _ _ (orChain _ _ _ _ _) _ _ _ _ _ (at-ors .ors .inv) (else2 .if2 .left) (is-past (after-past .past .ensures))
       (else1 .if1 .left) _ _ _ _
-      (said-ok _ _ _ _ _ _ _ _ _ _ _ (after-and-level2 .and-level2 .ensures) (after-next .next .given .1))
+      (said-ok (after-and-level2 .and-level2 .ensures) (after-next .next .given .1))
       (c .emit .ensures)
 
 pub +and-level+factor+or-level-spec : {M : Type 1} → statement M

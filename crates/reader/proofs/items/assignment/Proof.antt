@@ -1,14 +1,15 @@
 -- `assignment` meets its contract: the name is looked up and counted, `:=` asked for, and the expression's code followed by the store.
 -- Assumes nothing.
 use native.Mathlib.Omega.{arith}
-use Rattle.reader.proofs.StoredCode.{wrote-none, says-bad, says-same}
-use Rattle.reader.proofs.Moves.{expected-said, is-past}
+use Rattle.reader.proofs.StoredCode.{wrote-none, says-same}
+use Rattle.reader.proofs.Moves.{expected-said, is-past, ready-less}
 use Rattle.reader.proofs.Operands.{target-range}
-use Rattle.reader.proofs.Sequences.{ready-less, says-roomed}
+use Rattle.reader.proofs.Sequences.{says-roomed}
 use Rattle.reader.proofs.ItemForms.{assign-unknown, assign-full, assign-bad, value-ready, target-few, assign-says}
 use borrow.Author.Needs.{needs}
 use Rattle.reader.proofs.items.assignment.Statement.{statement}
 use Rattle.reader.proofs.items.assignment.Tie as tie
+use Rattle.reader.specs.working.Cursors.{wasRefused}
 
 visible-requires : tie.Need-visible-requires
 visible-requires c κs =
@@ -28,7 +29,7 @@ returns c =
     let after-visible : tie.After-visible = search in
     let after-first-target : tie.After-first-target = search in
     let start : tie.Start = search in
-    says-bad _ _ _ _ _ _ _ _ _ _ _
+    wasRefused
     (assign-unknown _ (start .args .names .now) _ _ (start .pre .0) (start .args .rows) _ _ _
     (after-first-target .first-target .ensures) (after-visible .visible .ensures) (c .before .find-name .ensures)
     (c .if1 .taken))
@@ -40,7 +41,7 @@ returns-2 c =
     let after-visible : tie.After-visible = search in
     let after-first-target : tie.After-first-target = search in
     let start : tie.Start = search in
-    says-bad _ _ _ _ _ _ _ _ _ _ _
+    wasRefused
     (assign-full _ (start .args .names .now) _ _ (start .pre .0) (start .args .rows) _ _ _
     (after-first-target .first-target .ensures) (after-visible .visible .ensures) (after-find-name .find-name .ensures)
     (c .before .if1 .left) (c .if2 .taken))
@@ -56,7 +57,7 @@ returns-3 c =
     let after-visible : tie.After-visible = search in
     let after-first-target : tie.After-first-target = search in
     let start : tie.Start = search in
-    says-same _ _ _ _ _ _ _ _ _ _ _ _ (c .enum-told .given .1)
+    says-same (c .enum-told .given .1)
     (assign-bad _ (start .args .names .now) _ _ (start .pre .0) (start .args .rows) _ _ _
     (after-first-target .first-target .ensures) (after-visible .visible .ensures) (after-find-name .find-name .ensures)
     (else1 .if1 .left) (else2 .if2 .left) _ (is-past (after-past .past .ensures)) _ _
@@ -76,11 +77,11 @@ or-level-requires c κs =
     let start : tie.Start = search in
     let names = start .args .names .now in (
       omega arith,
-      ready-less _ names _ 1 0 _ (omega arith)
+      ready-less
           (value-ready _ names _ _ (start .pre .0) (start .args .rows) _ _ _ (after-first-target .first-target .ensures)
           (after-visible .visible .ensures) (after-find-name .find-name .ensures) (else1 .if1 .left) (else2 .if2 .left) _
           (is-past (after-past .past .ensures)) _
-          (expected-said _ _ _ _ _ (after-expect .expect .ensures) (after-marked .marked .given .1))),
+          (expected-said _ _ _ _ _ (after-expect .expect .ensures) (after-marked .marked .given .1))) (omega arith),
     )
 
 cast-close-node : tie.Need-cast-close-node
@@ -122,7 +123,7 @@ close-node-requires c κs =
     let after-visible : tie.After-visible = search in
     let after-first-target : tie.After-first-target = search in
     let start : tie.Start = search in
-    says-roomed _ _ _ _ 0 _ _ _ _ 0 _
+    says-roomed 0
     (value-ready _ (start .args .names .now) _ _ (start .pre .0) (start .args .rows) _ _ _
     (after-first-target .first-target .ensures) (after-visible .visible .ensures) (after-find-name .find-name .ensures)
     (else1 .if1 .left) (else2 .if2 .left) _ (is-past (after-past .past .ensures)) _

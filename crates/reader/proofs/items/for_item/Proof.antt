@@ -3,8 +3,8 @@
 use native.Mathlib.Omega.{arith}
 use lib.ListN.{length}
 use Rattle.reader.specs.working.Items.{rowItemsWords}
-use Rattle.reader.proofs.StoredCode.{wrote-none, says-bad}
-use Rattle.reader.proofs.Sequences.{ready-less}
+use Rattle.reader.proofs.StoredCode.{wrote-none}
+use Rattle.reader.proofs.Moves.{ready-less}
 use Rattle.reader.specs.working.Sequences.{allRows}
 use Rattle.reader.proofs.TwoBranches.{test-roomed, first-bad, yes-ready, done-roomed, second-bad, no-ready}
 use Rattle.reader.proofs.TwoBranches.{rest-roomed, tested-says}
@@ -13,11 +13,12 @@ use Rattle.reader.proofs.Moves.{is-past}
 use borrow.Author.Needs.{needs}
 use Rattle.reader.proofs.items.for_item.Statement.{statement}
 use Rattle.reader.proofs.items.for_item.Tie as tie
+use Rattle.reader.specs.working.Cursors.{wasRefused}
 
 returns : tie.Need-returns
 returns c =
     let start : tie.Start = search in
-    says-bad _ _ _ _ _ _ _ _ _ _ _ (for-full _ _ _ _ (start .pre .0) (start .pre .1) (c .if1 .taken))
+    wasRefused (for-full _ _ _ _ (start .pre .0) (start .pre .1) (c .if1 .taken))
     wrote-none
 
 or-level-requires : tie.Need-or-level-requires
@@ -26,9 +27,9 @@ or-level-requires c κs =
     let start : tie.Start = search in
     let names = start .args .names .now in (
       omega arith,
-      ready-less _ names _ 3 0 _ (omega arith)
+      ready-less
           (for-ready (start .args .text .now) names (start .args .l) _ (start .pre .0) (start .pre .1) (else1 .if1 .left) _
-          (is-past (c .before .past .ensures))),
+          (is-past (c .before .past .ensures))) (omega arith),
     )
 
 mark-requires : tie.Need-mark-requires

@@ -1,10 +1,11 @@
 -- `item` meets its contract, by the kind of its first token.
 -- Assumes nothing.
-use Rattle.reader.proofs.StoredCode.{wrote-none, says-bad}
+use Rattle.reader.proofs.StoredCode.{wrote-none}
 use Rattle.reader.proofs.ItemForms.{item-skip, item-assign, item-missing}
 use borrow.Author.Needs.{needs}
 use Rattle.reader.proofs.items.item.Statement.{statement}
 use Rattle.reader.proofs.items.item.Tie as tie
+use Rattle.reader.specs.working.Cursors.{wasRefused}
 
 returns : tie.Need-returns
 returns c =
@@ -35,7 +36,7 @@ returns-4 : tie.Need-returns-4
 returns-4 c =
     let else1 : tie.Else1 = search in
     let start : tie.Start = search in
-    says-bad _ _ _ _ _ _ _ _ _ _ _
+    wasRefused
     (item-missing _ _ _ _ (start .pre) (else1 .if1 .left) (c .before .if2 .left) (c .if3 .left))
     wrote-none
 

@@ -4,12 +4,13 @@ use Prim.Native.Nat.{_+_, _-_, _*_}
 use native.Mathlib.Omega.{arith}
 use Rattle.reader.proofs.Moves.{is-past}
 use borrow.Author.Needs.{needs}
-use Rattle.reader.proofs.StoredCode.{said-ok, says-ok}
+use Rattle.reader.proofs.StoredCode.{said-ok}
 use Rattle.reader.proofs.ItemLoops.{Turn, first-bad, rest-first, rest-stop, rest-bad, turn-none, turn-ready}
 use Rattle.reader.proofs.ItemLoops.{turn-less, turn-more}
 use Rattle.reader.proofs.ItemLists.{rowSeries}
 use Rattle.reader.proofs.items.row_items.Statement.{statement}
 use Rattle.reader.proofs.items.row_items.Tie as tie
+use Rattle.reader.specs.working.Cursors.{wasRead}
 
 abbrev Inv-rows : tie.InvT-rows
 Inv-rows text names ops₀ l cur₀ ops cur = Turn text names l (rowSeries text names l) ops₀ cur₀ ops cur
@@ -56,18 +57,18 @@ rows-holds c =
     let after-row-item : After-row-item = search in
     let start : Start = search in
     turn-none _ _ _ (rowSeries _ _ _) _ _ _ _ _
-    (said-ok _ _ _ _ _ _ _ _ _ _ _ (after-row-item .row-item .ensures) (c .before .first .given .1)) (start .pre)
+    (said-ok (after-row-item .row-item .ensures) (c .before .first .given .1)) (start .pre)
 
 returns-2 : tie.Need-returns-2 Inv-rows μ-rows
 returns-2 c =
     let at-rows : At-rows = search in
     let after-first : After-first = search in
     let after-row-item : After-row-item = search in
-    says-ok _ _ _ _ _ _ _ _ _ _
+    wasRead
     (rest-stop _ _ _ (rowSeries _ _ _) _ _ _ _ _
     (at-rows .rows .inv .back _ _ _
     (rest-first _ _ _ (rowSeries _ _ _) _ _ _ _ _
-    (said-ok _ _ _ _ _ _ _ _ _ _ _ (after-row-item .row-item .ensures) (after-first .first .given .1))))
+    (said-ok (after-row-item .row-item .ensures) (after-first .first .given .1))))
     (c .if1 .taken))
 
 row-item-requires-2 : tie.Need-row-item-requires-2 Inv-rows μ-rows
@@ -86,7 +87,7 @@ returns-3 c =
     rest-bad _ _ _ (rowSeries _ _ _) _ _ _ _ _
     (at-rows .rows .inv .back _ _ _
     (rest-first _ _ _ (rowSeries _ _ _) _ _ _ _ _
-    (said-ok _ _ _ _ _ _ _ _ _ _ _ (after-row-item .row-item .ensures) (after-first .first .given .1))))
+    (said-ok (after-row-item .row-item .ensures) (after-first .first .given .1))))
     (else1 .if1 .left) _ (is-past (after-past .past .ensures)) _ _ _ _
     (after-row-item2 .row-item2 .ensures) (c .enum-told2 .given .1)
 
@@ -96,7 +97,7 @@ rows-less c =
     let after-past : After-past = search in
     let at-rows : At-rows = search in
     let k = turn-less _ _ _ (rowSeries _ _ _) _ _ _ _ _ (at-rows .rows .inv) (is-past (after-past .past .ensures)) _ _ _
-    (said-ok _ _ _ _ _ _ _ _ _ _ _ (after-row-item2 .row-item2 .ensures) (c .before .next .given .1)) in
+    (said-ok (after-row-item2 .row-item2 .ensures) (c .before .next .given .1)) in
     omega (arith, k .0, k .1, k .2)
 
 rows-again : tie.Need-rows-again Inv-rows μ-rows
@@ -106,7 +107,7 @@ rows-again c =
     let else1 : Else1 = search in
     let at-rows : At-rows = search in
     turn-more _ _ _ (rowSeries _ _ _) _ _ _ _ _ (at-rows .rows .inv) (is-past (after-past .past .ensures)) (else1 .if1 .left) _ _
-    (said-ok _ _ _ _ _ _ _ _ _ _ _ (after-row-item2 .row-item2 .ensures) (c .before .next .given .1))
+    (said-ok (after-row-item2 .row-item2 .ensures) (c .before .next .given .1))
 
 pub row-items-spec : {M : Type 1} → statement M
 row-items-spec =
