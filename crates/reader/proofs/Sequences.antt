@@ -23,7 +23,7 @@ use Rattle.reader.specs.working.Cursors.{bookOf, emitted, Expected, Read
 use Rattle.reader.specs.working.Expressions.{AfterNode, AfterClose, roomed}
 use Rattle.reader.specs.working.Items.{withWord, Marked}
 use Rattle.reader.specs.working.Sequences.{pairOf, paired, pairing, signedBy}
-use Rattle.reader.proofs.StoredCode.{stores, wrote-same, wrote-from, is-refused, said-as, done-wrote, done-then}
+use Rattle.reader.proofs.StoredCode.{stores, wrote-same, wrote-from, is-refused, said-as, done-wrote, done-map, done-then}
 use Rattle.reader.proofs.Books.{quiet-fits, note-quiet}
 use Rattle.reader.proofs.Symbols.{lit-is, lit-missing}
 use Rattle.reader.proofs.Moves.{Past, expected-said, is-past, past-ready}
@@ -89,20 +89,7 @@ module _ {text names : List ℕ} {l : Ledger} where
     pub says-map : {B : Type 0} {code′ : ℕ → B → Numbered (List ℕ)} {G : Got B} (f : A → B) {r : Parsed} →
         G ≡ thenReads g (λ v ts b. got (f v) ts b) → Says text names l code x s p g b r → ((v : A) → code′ (s .stars) (f v) ≡ code (s .stars) v) → Says text names l code′ x s p G b r
     says-map f e (wasRefused h w) same = wasRefused (e ∙ ap (λ (o : Got _). thenReads o (λ v ts b. got (f v) ts b)) h) w
-    says-map f e (wasRead h) same = wasRead (record {
-      tree = f (h .tree);
-      says = e ∙ ap (λ (o : Got _). thenReads o (λ v ts b. got (f v) ts b)) (h .says);
-      stored = h .stored ∙ ap (λ (z : Numbered (List ℕ)). sets p (s .emitted) (z .is)) (sym (same (h .tree)));
-      long = h .long ∙ ap (λ (z : Numbered (List ℕ)). s .emitted + length (z .is)) (sym (same (h .tree)));
-      numbered = h .numbered ∙ ap (λ (z : Numbered (List ℕ)). z .next) (sym (same (h .tree)));
-      level = h .level;
-      moreNodes = h .moreNodes;
-      moreItems = h .moreItems;
-      nodes = h .nodes;
-      items = h .items;
-      stars = h .stars;
-      fresh = h .fresh;
-    })
+    says-map f e (wasRead h) same = wasRead (done-map h (f (h .tree)) (same (h .tree)) (e ∙ ap (λ (o : Got _). thenReads o (λ v ts b. got (f v) ts b)) (h .says)))
 
     module _ {c : Cursor} (d : Done text names l code x s p g b c) where
       -- A sign after what was read.
@@ -134,7 +121,7 @@ module _ {text names : List ℕ} {l : Ledger} where
           (done-wrote d)
 
       -- A code word after what was read.
-      word-done : (word : ℕ) {a : List ℕ} → a ≡ set b (c .emitted) word → Done text names l (withWord code word) (x + 1) s p g a (emitted c)
+      unfoldable pub word-done : (word : ℕ) {a : List ℕ} → a ≡ set b (c .emitted) word → Done text names l (withWord code word) (x + 1) s p g a (emitted c)
       word-done word {a} e = record {
         tree = d .tree;
         says = d .says;
@@ -149,6 +136,26 @@ module _ {text names : List ℕ} {l : Ledger} where
         stars = d .stars;
         fresh = d .fresh;
       }
+
+      -- The same, seen from a cursor one piece before, where what is counted at that piece pays for code words.
+      unfoldable pub done-from : {y : ℕ} {c₀ : Cursor} {items nodes : ℕ} → Past text c₀ items nodes (c₀ .stars) s →
+          c₀ .nodes ≤ nodes → c₀ .items ≤ items → x + (c₀ .nodes + 3 * c₀ .items) ≤ y + (nodes + 3 * items) → Done text names l code y c₀ p g b c
+      done-from {c₀ = c₀} q u v w =
+          let one : code (s .stars) (d .tree) ≡ code (c₀ .stars) (d .tree) = ap (λ (k : ℕ). code k (d .tree)) (q .starsAre) in
+          record {
+            tree = d .tree;
+            says = d .says;
+            stored = d .stored ∙ ap (λ (i : ℕ). sets p i (code (s .stars) (d .tree) .is)) (q .place) ∙ ap (λ (z : Numbered (List ℕ)). sets p (c₀ .emitted) (z .is)) one;
+            long = d .long ∙ ap (λ (i : ℕ). i + length (code (s .stars) (d .tree) .is)) (q .place) ∙ ap (λ (z : Numbered (List ℕ)). c₀ .emitted + length (z .is)) one;
+            numbered = d .numbered ∙ ap (λ (z : Numbered (List ℕ)). z .next) one;
+            level = omega (arith, d .level);
+            moreNodes = omega (arith, d .moreNodes);
+            moreItems = omega (arith, d .moreItems);
+            nodes = d .nodes;
+            items = d .items;
+            stars = d .stars;
+            fresh = d .fresh;
+          }
 
   module _ {A : Type 0} {code : ℕ → A → Numbered (List ℕ)} {x : ℕ} {s : Cursor} {p : List ℕ} {g : Got A} {b : List ℕ} where
     -- A closing parenthesis after an answer.
@@ -170,31 +177,15 @@ module _ {text names : List ℕ} {l : Ledger} where
     says-mark kind word small {r = Refused n i} (wasRead d) e = let z = is-refused (says-sign d kind small (e .0)) in wasRefused (z .0) (wrote-same (e .1) (z .1))
     says-mark kind word small {r = Ok v} (wasRead d) e = said-as (ap Ok (sym (e .1 .1 .0))) (wasRead (word-done (sign-done d kind small (e .1 .0)) word (e .1 .1 .1)))
 
+    pub says-from : {y : ℕ} {c : Cursor} {items nodes : ℕ} {r : Parsed} → Past text c items nodes (c .stars) s → Says text names l code x s p g b r →
+        c .nodes ≤ nodes → c .items ≤ items → x + (c .nodes + 3 * c .items) ≤ y + (nodes + 3 * items) → Says text names l code y c p g b r
+    says-from q (wasRefused h k) u v w = wasRefused h (wrote-from (q .place) k)
+    says-from q (wasRead h) u v w = wasRead (done-from h q u v w)
+
     -- There is room for one code word more.
     pub says-roomed : (spare : ℕ) {q : Parsed} → Ready text l (x + suc spare) s → Says text names l code x s p g b q → roomed q
     says-roomed spare r (wasRefused h w) = tt
     says-roomed spare r (wasRead h) = omega (arith, r .room, h .level, h .nodes, h .items, r .commands)
-
-    -- The same, seen from a cursor one piece before, where what is counted at that piece pays for code words.
-    pub says-from : {y : ℕ} {c : Cursor} {items nodes : ℕ} {r : Parsed} → Past text c items nodes (c .stars) s → Says text names l code x s p g b r →
-        c .nodes ≤ nodes → c .items ≤ items → x + (c .nodes + 3 * c .items) ≤ y + (nodes + 3 * items) → Says text names l code y c p g b r
-    says-from q (wasRefused h k) u v w = wasRefused h (wrote-from (q .place) k)
-    says-from {c = c} q (wasRead h) u v w =
-        let one : code (s .stars) (h .tree) ≡ code (c .stars) (h .tree) = ap (λ (k : ℕ). code k (h .tree)) (q .starsAre) in
-        wasRead (record {
-          tree = h .tree;
-          says = h .says;
-          stored = h .stored ∙ ap (λ (i : ℕ). sets p i (code (s .stars) (h .tree) .is)) (q .place) ∙ ap (λ (z : Numbered (List ℕ)). sets p (c .emitted) (z .is)) one;
-          long = h .long ∙ ap (λ (i : ℕ). i + length (code (s .stars) (h .tree) .is)) (q .place) ∙ ap (λ (z : Numbered (List ℕ)). c .emitted + length (z .is)) one;
-          numbered = h .numbered ∙ ap (λ (z : Numbered (List ℕ)). z .next) one;
-          level = omega (arith, h .level);
-          moreNodes = omega (arith, h .moreNodes);
-          moreItems = omega (arith, h .moreItems);
-          nodes = h .nodes;
-          items = h .items;
-          stars = h .stars;
-          fresh = h .fresh;
-        })
 
 -- A reader may be called past a sign.
 pub sign-ready : {text : List ℕ} {l : Ledger} {spare : ℕ} (k : ℕ) {c d : Cursor} {sign : Parsed} → Ready text l spare c → Expected text c k sign → sign ≡ Ok d → Ready text l spare d

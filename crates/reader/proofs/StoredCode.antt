@@ -10,12 +10,13 @@ use lib.Seq.{sets}
 use Rattle.notation.specs.Tokens.{Lexeme}
 use Rattle.notation.specs.Texts.{Numbered}
 use Rattle.notation.specs.working.Ledger.{Book}
-use Rattle.notation.specs.working.Descent.{Got, stop, thenReads}
+use Rattle.notation.specs.working.Descent.{Got, got, stop, thenReads}
 use Rattle.reader.specs.declared.cursor.Cursor.{Cursor}
 use Rattle.reader.specs.declared.cursor.Ledger.{Ledger}
 use Rattle.reader.specs.declared.cursor.Parsed.{Parsed}
 use Rattle.reader.specs.declared.cursor.Parsed.the-variants.{Ok, Refused}
-use Rattle.reader.specs.working.Cursors.{Ready, Done, Wrote, Says, wasRead, wasRefused}
+use Rattle.reader.specs.working.Pieces.{listed}
+use Rattle.reader.specs.working.Cursors.{bookOf, Ready, Done, Wrote, Says, wasRead, wasRefused}
 
 -- ---- stores
 
@@ -70,6 +71,24 @@ module _ {A : Type 0} {text names : List ℕ} {l : Ledger} {code : ℕ → A →
   module _ {c : Cursor} (d : Done text names l code extra s p g b c) where
     pub done-wrote : Wrote (s .emitted) p b
     done-wrote = record { words = code (s .stars) (d .tree) .is; is = d .stored }
+
+    -- The same code, for another value.
+    unfoldable pub done-map : {B : Type 0} {code′ : ℕ → B → Numbered (List ℕ)} {G : Got B} (v : B) → code′ (s .stars) v ≡ code (s .stars) (d .tree) →
+        G ≡ got v (listed text (c .next)) (bookOf text names l c) → Done text names l code′ extra s p G b c
+    done-map v same e = record {
+      tree = v;
+      says = e;
+      stored = d .stored ∙ ap (λ (z : Numbered (List ℕ)). sets p (s .emitted) (z .is)) (sym same);
+      long = d .long ∙ ap (λ (z : Numbered (List ℕ)). s .emitted + length (z .is)) (sym same);
+      numbered = d .numbered ∙ ap (λ (z : Numbered (List ℕ)). z .next) (sym same);
+      level = d .level;
+      moreNodes = d .moreNodes;
+      moreItems = d .moreItems;
+      nodes = d .nodes;
+      items = d .items;
+      stars = d .stars;
+      fresh = d .fresh;
+    }
 
     -- Written behind what was read.
     pub done-then : {m : List ℕ} → Wrote (c .emitted) b m → Wrote (s .emitted) p m

@@ -85,14 +85,14 @@ or-calls t =
 
 abbrev and-level-Inv-ands : and-lts.InvT-ands
 and-level-Inv-ands text names ops₀ depth sc l cur₀ ops cur =
-    Turn text names l (andChain text names l (modeOf sc) (16 - depth)) ops₀ cur₀ ops cur
+    Turn (andChain text names l (modeOf sc) (16 - depth)) ops₀ cur₀ ops cur
 
 abbrev and-level-μ-ands : and-lts.MeasureT-ands
 and-level-μ-ands text names ops₀ depth sc l cur₀ ops cur = 1024 - cur .nodes
 
 abbrev or-level-Inv-ors : or-lts.InvT-ors
 or-level-Inv-ors text names ops₀ depth sc l cur₀ ops cur =
-    Turn text names l (orChain text names l (modeOf sc) (16 - depth)) ops₀ cur₀ ops cur
+    Turn (orChain text names l (modeOf sc) (16 - depth)) ops₀ cur₀ ops cur
 
 abbrev or-level-μ-ors : or-lts.MeasureT-ors
 or-level-μ-ors text names ops₀ depth sc l cur₀ ops cur = 1024 - cur .nodes
@@ -123,7 +123,7 @@ module _ (t : ℕ) where
   and-ands-holds c =
       let after-factor : In-and and-lts.After-factor = search in
       let start : In-and and-lts.Start = search in
-      turn-none _ _ _ (andChain _ _ _ _ _) _ _ _ _ _ (start .pre .1 .1)
+      turn-none (start .pre .1 .1)
       (said-ok (after-factor .factor .ensures) (c .before .first .given .1))
 
   and-returns-2 : In-and and-lts.Need-returns-2
@@ -132,9 +132,9 @@ module _ (t : ℕ) where
       let after-first : In-and and-lts.After-first = search in
       let after-factor : In-and and-lts.After-factor = search in
       wasRead
-      (rest-stop _ _ _ (andChain _ _ _ _ _) _ _ _ _ _
+      (rest-stop
       (at-ands .ands .inv .back _ _ _
-      (rest-first _ _ _ (andChain _ _ _ _ _) _ _ _ _ _ _ (and-level-is _ _ _ _ _)
+      (rest-first (and-level-is _ _ _ _ _)
       (said-ok (after-factor .factor .ensures) (after-first .first .given .1))))
       (c .if1 .taken))
 
@@ -143,9 +143,9 @@ module _ (t : ℕ) where
       let at-ands : In-and and-lts.At-ands = search in
       let after-first : In-and and-lts.After-first = search in
       let after-factor : In-and and-lts.After-factor = search in
-      rest-full _ _ _ (andChain _ _ _ _ _) _ _ _ _ _
+      rest-full
       (at-ands .ands .inv .back _ _ _
-      (rest-first _ _ _ (andChain _ _ _ _ _) _ _ _ _ _ _ (and-level-is _ _ _ _ _)
+      (rest-first (and-level-is _ _ _ _ _)
       (said-ok (after-factor .factor .ensures) (after-first .first .given .1))))
       (c .before .if1 .left) (c .if2 .taken)
 
@@ -160,7 +160,7 @@ module _ (t : ℕ) where
         omega (arith, start .pre .0),
         (
           start .pre .1 .0,
-          turn-ready _ _ _ (andChain _ _ _ _ _) _ _ _ _ _ (at-ands .ands .inv) (else2 .if2 .left)
+          turn-ready (at-ands .ands .inv) (else2 .if2 .left)
               (is-past (c .before .past .ensures)),
         ),
       )
@@ -174,11 +174,11 @@ module _ (t : ℕ) where
       let at-ands : In-and and-lts.At-ands = search in
       let after-first : In-and and-lts.After-first = search in
       let after-factor : In-and and-lts.After-factor = search in
-      rest-bad _ _ _ (andChain _ _ _ _ _) _ _ _ _ _
+      rest-bad
       (at-ands .ands .inv .back _ _ _
-      (rest-first _ _ _ (andChain _ _ _ _ _) _ _ _ _ _ _ (and-level-is _ _ _ _ _)
+      (rest-first (and-level-is _ _ _ _ _)
       (said-ok (after-factor .factor .ensures) (after-first .first .given .1))))
-      (else1 .if1 .left) (else2 .if2 .left) _ (is-past (after-past .past .ensures)) _ _ _ _
+      (else1 .if1 .left) (else2 .if2 .left) (is-past (after-past .past .ensures))
       (after-factor2 .factor2 .ensures) (c .enum-told2 .given .1)
 
   and-emit-requires : In-and and-lts.Need-emit-requires
@@ -188,8 +188,7 @@ module _ (t : ℕ) where
       let after-past : In-and and-lts.After-past = search in
       let else2 : In-and and-lts.Else2 = search in
       let at-ands : In-and and-lts.At-ands = search in
-      turn-room _ _ _ (andChain _ _ _ _ _) _ _ _ _ _ (at-ands .ands .inv) (else2 .if2 .left) (is-past (after-past .past .ensures)) _
-      _ _ (said-ok (after-factor2 .factor2 .ensures) (after-next .next .given .1)) .0
+      turn-room (at-ands .ands .inv) (else2 .if2 .left) (is-past (after-past .past .ensures)) (said-ok (after-factor2 .factor2 .ensures) (after-next .next .given .1)) .0
 
   and-ands-less : In-and and-lts.Need-ands-less
   and-ands-less c =
@@ -198,8 +197,8 @@ module _ (t : ℕ) where
       let after-past : In-and and-lts.After-past = search in
       let else2 : In-and and-lts.Else2 = search in
       let at-ands : In-and and-lts.At-ands = search in
-      let k = turn-room _ _ _ (andChain _ _ _ _ _) _ _ _ _ _ (at-ands .ands .inv) (else2 .if2 .left)
-      (is-past (after-past .past .ensures)) _ _ _
+      let k = turn-room (at-ands .ands .inv) (else2 .if2 .left)
+      (is-past (after-past .past .ensures))
       (said-ok (after-factor2 .factor2 .ensures) (after-next .next .given .1)) in
       let e : c .emit .result .nodes ≡ _ = ap (λ (x : Cursor). x .nodes) (c .emit .ensures .0) in
       omega (arith, k .1, k .2)
@@ -212,8 +211,8 @@ module _ (t : ℕ) where
       let else2 : In-and and-lts.Else2 = search in
       let else1 : In-and and-lts.Else1 = search in
       let at-ands : In-and and-lts.At-ands = search in
-      turn-more _ _ _ (andChain _ _ _ _ _) _ _ _ _ _ (at-ands .ands .inv) (else2 .if2 .left) (is-past (after-past .past .ensures))
-      (else1 .if1 .left) _ _ _ _
+      turn-more (at-ands .ands .inv) (else2 .if2 .left) (is-past (after-past .past .ensures))
+      (else1 .if1 .left)
       (said-ok (after-factor2 .factor2 .ensures) (after-next .next .given .1)) (c .emit .ensures)
 
   factor-returns : In-factor factor-lts.Need-returns
@@ -323,7 +322,7 @@ module _ (t : ℕ) where
   or-ors-holds c =
       let after-and-level : In-or or-lts.After-and-level = search in
       let start : In-or or-lts.Start = search in
-      turn-none _ _ _ (orChain _ _ _ _ _) _ _ _ _ _ (start .pre .1 .1)
+      turn-none (start .pre .1 .1)
       (said-ok (after-and-level .and-level .ensures) (c .before .first .given .1))
 
   or-returns-2 : In-or or-lts.Need-returns-2
@@ -332,9 +331,9 @@ module _ (t : ℕ) where
       let after-first : In-or or-lts.After-first = search in
       let after-and-level : In-or or-lts.After-and-level = search in
       wasRead
-      (rest-stop _ _ _ (orChain _ _ _ _ _) _ _ _ _ _
+      (rest-stop
       (at-ors .ors .inv .back _ _ _
-      (rest-first _ _ _ (orChain _ _ _ _ _) _ _ _ _ _ _ (or-level-is _ _ _ _ _)
+      (rest-first (or-level-is _ _ _ _ _)
       (said-ok (after-and-level .and-level .ensures) (after-first .first .given .1))))
       (c .if1 .taken))
 
@@ -343,9 +342,9 @@ module _ (t : ℕ) where
       let at-ors : In-or or-lts.At-ors = search in
       let after-first : In-or or-lts.After-first = search in
       let after-and-level : In-or or-lts.After-and-level = search in
-      rest-full _ _ _ (orChain _ _ _ _ _) _ _ _ _ _
+      rest-full
       (at-ors .ors .inv .back _ _ _
-      (rest-first _ _ _ (orChain _ _ _ _ _) _ _ _ _ _ _ (or-level-is _ _ _ _ _)
+      (rest-first (or-level-is _ _ _ _ _)
       (said-ok (after-and-level .and-level .ensures) (after-first .first .given .1))))
       (c .before .if1 .left) (c .if2 .taken)
 
@@ -360,7 +359,7 @@ module _ (t : ℕ) where
         omega (arith, start .pre .0),
         (
           start .pre .1 .0,
-          turn-ready _ _ _ (orChain _ _ _ _ _) _ _ _ _ _ (at-ors .ors .inv) (else2 .if2 .left)
+          turn-ready (at-ors .ors .inv) (else2 .if2 .left)
               (is-past (c .before .past .ensures)),
         ),
       )
@@ -374,11 +373,11 @@ module _ (t : ℕ) where
       let at-ors : In-or or-lts.At-ors = search in
       let after-first : In-or or-lts.After-first = search in
       let after-and-level : In-or or-lts.After-and-level = search in
-      rest-bad _ _ _ (orChain _ _ _ _ _) _ _ _ _ _
+      rest-bad
       (at-ors .ors .inv .back _ _ _
-      (rest-first _ _ _ (orChain _ _ _ _ _) _ _ _ _ _ _ (or-level-is _ _ _ _ _)
+      (rest-first (or-level-is _ _ _ _ _)
       (said-ok (after-and-level .and-level .ensures) (after-first .first .given .1))))
-      (else1 .if1 .left) (else2 .if2 .left) _ (is-past (after-past .past .ensures)) _ _ _ _
+      (else1 .if1 .left) (else2 .if2 .left) (is-past (after-past .past .ensures))
       (after-and-level2 .and-level2 .ensures) (c .enum-told2 .given .1)
 
   or-emit-requires : In-or or-lts.Need-emit-requires
@@ -388,8 +387,7 @@ module _ (t : ℕ) where
       let after-past : In-or or-lts.After-past = search in
       let else2 : In-or or-lts.Else2 = search in
       let at-ors : In-or or-lts.At-ors = search in
-      turn-room _ _ _ (orChain _ _ _ _ _) _ _ _ _ _ (at-ors .ors .inv) (else2 .if2 .left) (is-past (after-past .past .ensures)) _ _
-      _ (said-ok (after-and-level2 .and-level2 .ensures) (after-next .next .given .1)) .0
+      turn-room (at-ors .ors .inv) (else2 .if2 .left) (is-past (after-past .past .ensures)) (said-ok (after-and-level2 .and-level2 .ensures) (after-next .next .given .1)) .0
 
   or-ors-less : In-or or-lts.Need-ors-less
   or-ors-less c =
@@ -398,8 +396,8 @@ module _ (t : ℕ) where
       let after-past : In-or or-lts.After-past = search in
       let else2 : In-or or-lts.Else2 = search in
       let at-ors : In-or or-lts.At-ors = search in
-      let k = turn-room _ _ _ (orChain _ _ _ _ _) _ _ _ _ _ (at-ors .ors .inv) (else2 .if2 .left)
-      (is-past (after-past .past .ensures)) _ _ _
+      let k = turn-room (at-ors .ors .inv) (else2 .if2 .left)
+      (is-past (after-past .past .ensures))
       (said-ok (after-and-level2 .and-level2 .ensures) (after-next .next .given .1)) in
       let e : c .emit .result .nodes ≡ _ = ap (λ (x : Cursor). x .nodes) (c .emit .ensures .0) in
       omega (arith, k .1, k .2)
@@ -412,8 +410,8 @@ module _ (t : ℕ) where
       let else2 : In-or or-lts.Else2 = search in
       let else1 : In-or or-lts.Else1 = search in
       let at-ors : In-or or-lts.At-ors = search in
-      turn-more _ _ _ (orChain _ _ _ _ _) _ _ _ _ _ (at-ors .ors .inv) (else2 .if2 .left) (is-past (after-past .past .ensures))
-      (else1 .if1 .left) _ _ _ _
+      turn-more (at-ors .ors .inv) (else2 .if2 .left) (is-past (after-past .past .ensures))
+      (else1 .if1 .left)
       (said-ok (after-and-level2 .and-level2 .ensures) (after-next .next .given .1))
       (c .emit .ensures)
 

@@ -13,7 +13,7 @@ use Rattle.reader.proofs.items.items.Tie as tie
 use Rattle.reader.specs.working.Cursors.{wasRead}
 
 abbrev Inv-list : tie.InvT-list
-Inv-list text names ops₀ l cur₀ ops cur = Turn text names l (itemSeries text names l) ops₀ cur₀ ops cur
+Inv-list text names ops₀ l cur₀ ops cur = Turn (itemSeries text names l) ops₀ cur₀ ops cur
 
 abbrev μ-list : tie.MeasureT-list
 μ-list text names ops₀ l cur₀ ops cur = 2048 - (cur .nodes + 3 * cur .items)
@@ -49,14 +49,14 @@ returns : tie.Need-returns Inv-list μ-list
 returns c =
     let after-item : After-item = search in
     let start : Start = search in
-    first-bad _ _ _ (itemSeries (start .args .text .now) (start .args .names .now) (start .args .l)) _ _ _ _ _ _ _
+    first-bad (itemSeries (start .args .text .now) (start .args .names .now) (start .args .l))
     (after-item .item .ensures) (c .enum-told .given .1)
 
 list-holds : tie.Need-list-holds Inv-list μ-list
 list-holds c =
     let after-item : After-item = search in
     let start : Start = search in
-    turn-none _ _ _ (itemSeries _ _ _) _ _ _ _ _
+    turn-none
     (said-ok (after-item .item .ensures) (c .before .first .given .1)) (start .pre)
 
 returns-2 : tie.Need-returns-2 Inv-list μ-list
@@ -65,16 +65,16 @@ returns-2 c =
     let after-first : After-first = search in
     let after-item : After-item = search in
     wasRead
-    (rest-stop _ _ _ (itemSeries _ _ _) _ _ _ _ _
+    (rest-stop
     (at-list .list .inv .back _ _ _
-    (rest-first _ _ _ (itemSeries _ _ _) _ _ _ _ _
+    (rest-first
     (said-ok (after-item .item .ensures) (after-first .first .given .1))))
     (c .if1 .taken))
 
 item-requires-2 : tie.Need-item-requires-2 Inv-list μ-list
 item-requires-2 c κs =
     let at-list : At-list = search in
-    turn-ready _ _ _ (itemSeries _ _ _) _ _ _ _ _ (at-list .list .inv) (is-past (c .before .past .ensures))
+    turn-ready (at-list .list .inv) (is-past (c .before .past .ensures))
 
 returns-3 : tie.Need-returns-3 Inv-list μ-list
 returns-3 c =
@@ -84,11 +84,11 @@ returns-3 c =
     let at-list : At-list = search in
     let after-first : After-first = search in
     let after-item : After-item = search in
-    rest-bad _ _ _ (itemSeries _ _ _) _ _ _ _ _
+    rest-bad
     (at-list .list .inv .back _ _ _
-    (rest-first _ _ _ (itemSeries _ _ _) _ _ _ _ _
+    (rest-first
     (said-ok (after-item .item .ensures) (after-first .first .given .1))))
-    (else1 .if1 .left) _ (is-past (after-past .past .ensures)) _ _ _ _
+    (else1 .if1 .left) (is-past (after-past .past .ensures))
     (after-item2 .item2 .ensures) (c .enum-told2 .given .1)
 
 list-less : tie.Need-list-less Inv-list μ-list
@@ -96,7 +96,7 @@ list-less c =
     let after-item2 : After-item2 = search in
     let after-past : After-past = search in
     let at-list : At-list = search in
-    let k = turn-less _ _ _ (itemSeries _ _ _) _ _ _ _ _ (at-list .list .inv) (is-past (after-past .past .ensures)) _ _ _
+    let k = turn-less (at-list .list .inv) (is-past (after-past .past .ensures))
     (said-ok (after-item2 .item2 .ensures) (c .before .next .given .1)) in
     omega (arith, k .0, k .1, k .2)
 
@@ -106,7 +106,7 @@ list-again c =
     let after-past : After-past = search in
     let else1 : Else1 = search in
     let at-list : At-list = search in
-    turn-more _ _ _ (itemSeries _ _ _) _ _ _ _ _ (at-list .list .inv) (is-past (after-past .past .ensures)) (else1 .if1 .left) _ _
+    turn-more (at-list .list .inv) (is-past (after-past .past .ensures)) (else1 .if1 .left)
     (said-ok (after-item2 .item2 .ensures) (c .before .next .given .1))
 
 pub items-spec : {M : Type 1} → statement M

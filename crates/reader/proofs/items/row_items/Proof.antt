@@ -13,7 +13,7 @@ use Rattle.reader.proofs.items.row_items.Tie as tie
 use Rattle.reader.specs.working.Cursors.{wasRead}
 
 abbrev Inv-rows : tie.InvT-rows
-Inv-rows text names ops₀ l cur₀ ops cur = Turn text names l (rowSeries text names l) ops₀ cur₀ ops cur
+Inv-rows text names ops₀ l cur₀ ops cur = Turn (rowSeries text names l) ops₀ cur₀ ops cur
 
 abbrev μ-rows : tie.MeasureT-rows
 μ-rows text names ops₀ l cur₀ ops cur = 2048 - (cur .nodes + 3 * cur .items)
@@ -49,14 +49,14 @@ returns : tie.Need-returns Inv-rows μ-rows
 returns c =
     let after-row-item : After-row-item = search in
     let start : Start = search in
-    first-bad _ _ _ (rowSeries (start .args .text .now) (start .args .names .now) (start .args .l)) _ _ _ _ _ _ _
+    first-bad (rowSeries (start .args .text .now) (start .args .names .now) (start .args .l))
     (after-row-item .row-item .ensures) (c .enum-told .given .1)
 
 rows-holds : tie.Need-rows-holds Inv-rows μ-rows
 rows-holds c =
     let after-row-item : After-row-item = search in
     let start : Start = search in
-    turn-none _ _ _ (rowSeries _ _ _) _ _ _ _ _
+    turn-none
     (said-ok (after-row-item .row-item .ensures) (c .before .first .given .1)) (start .pre)
 
 returns-2 : tie.Need-returns-2 Inv-rows μ-rows
@@ -65,16 +65,16 @@ returns-2 c =
     let after-first : After-first = search in
     let after-row-item : After-row-item = search in
     wasRead
-    (rest-stop _ _ _ (rowSeries _ _ _) _ _ _ _ _
+    (rest-stop
     (at-rows .rows .inv .back _ _ _
-    (rest-first _ _ _ (rowSeries _ _ _) _ _ _ _ _
+    (rest-first
     (said-ok (after-row-item .row-item .ensures) (after-first .first .given .1))))
     (c .if1 .taken))
 
 row-item-requires-2 : tie.Need-row-item-requires-2 Inv-rows μ-rows
 row-item-requires-2 c κs =
     let at-rows : At-rows = search in
-    turn-ready _ _ _ (rowSeries _ _ _) _ _ _ _ _ (at-rows .rows .inv) (is-past (c .before .past .ensures))
+    turn-ready (at-rows .rows .inv) (is-past (c .before .past .ensures))
 
 returns-3 : tie.Need-returns-3 Inv-rows μ-rows
 returns-3 c =
@@ -84,11 +84,11 @@ returns-3 c =
     let at-rows : At-rows = search in
     let after-first : After-first = search in
     let after-row-item : After-row-item = search in
-    rest-bad _ _ _ (rowSeries _ _ _) _ _ _ _ _
+    rest-bad
     (at-rows .rows .inv .back _ _ _
-    (rest-first _ _ _ (rowSeries _ _ _) _ _ _ _ _
+    (rest-first
     (said-ok (after-row-item .row-item .ensures) (after-first .first .given .1))))
-    (else1 .if1 .left) _ (is-past (after-past .past .ensures)) _ _ _ _
+    (else1 .if1 .left) (is-past (after-past .past .ensures))
     (after-row-item2 .row-item2 .ensures) (c .enum-told2 .given .1)
 
 rows-less : tie.Need-rows-less Inv-rows μ-rows
@@ -96,7 +96,7 @@ rows-less c =
     let after-row-item2 : After-row-item2 = search in
     let after-past : After-past = search in
     let at-rows : At-rows = search in
-    let k = turn-less _ _ _ (rowSeries _ _ _) _ _ _ _ _ (at-rows .rows .inv) (is-past (after-past .past .ensures)) _ _ _
+    let k = turn-less (at-rows .rows .inv) (is-past (after-past .past .ensures))
     (said-ok (after-row-item2 .row-item2 .ensures) (c .before .next .given .1)) in
     omega (arith, k .0, k .1, k .2)
 
@@ -106,7 +106,7 @@ rows-again c =
     let after-past : After-past = search in
     let else1 : Else1 = search in
     let at-rows : At-rows = search in
-    turn-more _ _ _ (rowSeries _ _ _) _ _ _ _ _ (at-rows .rows .inv) (is-past (after-past .past .ensures)) (else1 .if1 .left) _ _
+    turn-more (at-rows .rows .inv) (is-past (after-past .past .ensures)) (else1 .if1 .left)
     (said-ok (after-row-item2 .row-item2 .ensures) (c .before .next .given .1))
 
 pub row-items-spec : {M : Type 1} → statement M
