@@ -42,7 +42,7 @@ module _ {A : Type 0} (text names : List ℕ) (l : Ledger) (code : ℕ → List 
   abbrev At : Cursor → Got (List A)
   At c = all (listed text (c .next)) (bookOf text names l c)
 
-  module _ (small : last < 24) (d : Cursor) (r : Ready text l 3 d) (p : List ℕ) (g : Got Expr) (a : List ℕ) (test : Parsed) (s₁ : SaysExpr text names l d p g a test) where
+  module _ (small : last < 24) {d : Cursor} (r : Ready text l 3 d) {p : List ℕ} {g : Got Expr} {a : List ℕ} {test : Parsed} (s₁ : SaysExpr text names l d p g a test) where
     abbrev Whole : List ℕ → Parsed → Type 0
     Whole z y = Says text names l (testedWords text names l code) 3 d p (tested (length text) all last g) z y
 
@@ -53,12 +53,12 @@ module _ {A : Type 0} (text names : List ℕ) (l : Ledger) (code : ℕ → List 
       marked₁ : Says text names l testWords 1 d p (signedBy (length text) 7 g) a₁ first
       marked₁ = says-mark 7 224 (omega arith) s₁ m₁
 
-      pub first-bad : (n i : ℕ) → first ≡ Refused n i → Whole a₁ first
-      first-bad n i e =
+      pub first-bad : {n i : ℕ} → first ≡ Refused n i → Whole a₁ first
+      first-bad e =
           says-alike marked₁ e
           (pair-bad branches)
 
-      module _ (yes : Cursor) (e₁ : first ≡ Ok yes) where
+      module _ {yes : Cursor} (e₁ : first ≡ Ok yes) where
         done₁ : Done text names l testWords 1 d p (signedBy (length text) 7 g) a₁ yes
         done₁ = said-ok marked₁ e₁
 
@@ -68,7 +68,7 @@ module _ {A : Type 0} (text names : List ℕ) (l : Ledger) (code : ℕ → List 
         pub yes-ready : Ready text l 0 yes
         yes-ready = ready-less two-ready (omega arith)
 
-        module _ (b : List ℕ) (done : Parsed) (s₂ : Says text names l code 0 yes a₁ (At yes) b done) where
+        module _ {b : List ℕ} {done : Parsed} (s₂ : Says text names l code 0 yes a₁ (At yes) b done) where
           pub done-roomed : roomed done
           done-roomed = says-roomed 1 two-ready s₂
 
@@ -77,16 +77,16 @@ module _ {A : Type 0} (text names : List ℕ) (l : Ledger) (code : ℕ → List 
             marked₂ = says-mark 8 256 (omega arith) s₂ m₂
 
             -- what the branches answer, after the test
-            after-test : (z : List ℕ) (y : Parsed) → Says text names l (paired firstWords lastWords) 2 yes a₁ (branches (listed text (yes .next)) (bookOf text names l yes)) z y → Whole z y
-            after-test z y h = says-pair branches done₁ h
+            after-test : {z : List ℕ} {y : Parsed} → Says text names l (paired firstWords lastWords) 2 yes a₁ (branches (listed text (yes .next)) (bookOf text names l yes)) z y → Whole z y
+            after-test h = says-pair branches done₁ h
 
-            pub second-bad : (n i : ℕ) → second ≡ Refused n i → Whole b₁ second
-            second-bad n i e =
-                after-test b₁ second
+            pub second-bad : {n i : ℕ} → second ≡ Refused n i → Whole b₁ second
+            second-bad e =
+                after-test
                 (says-alike marked₂ e
                 (pair-bad ending))
 
-            module _ (no : Cursor) (e₂ : second ≡ Ok no) where
+            module _ {no : Cursor} (e₂ : second ≡ Ok no) where
               done₂ : Done text names l firstWords 1 yes a₁ (signedBy (length text) 8 (At yes)) b₁ no
               done₂ = said-ok marked₂ e₂
 
@@ -96,12 +96,12 @@ module _ {A : Type 0} (text names : List ℕ) (l : Ledger) (code : ℕ → List 
               pub no-ready : Ready text l 0 no
               no-ready = ready-less one-ready (omega arith)
 
-              module _ (z : List ℕ) (rest : Parsed) (s₃ : Says text names l code 0 no b₁ (At no) z rest) where
+              module _ {z : List ℕ} {rest : Parsed} (s₃ : Says text names l code 0 no b₁ (At no) z rest) where
                 pub rest-roomed : roomed rest
                 rest-roomed = says-roomed 0 one-ready s₃
 
-                pub tested-says : (z₁ : List ℕ) (y : Parsed) → Marked text last 288 rest z z₁ y → Whole z₁ y
-                tested-says z₁ y m₃ =
-                    after-test z₁ y
+                pub tested-says : {z₁ : List ℕ} {y : Parsed} → Marked text last 288 rest z z₁ y → Whole z₁ y
+                tested-says m₃ =
+                    after-test
                     (says-pair ending done₂
                     (says-mark last 288 small s₃ m₃))

@@ -9,6 +9,9 @@ use Rattle.reader.proofs.Moves.{expected-said, ready-less}
 use Rattle.reader.proofs.TwoBranches.{test-roomed, first-bad, yes-ready, done-roomed, second-bad, no-ready}
 use Rattle.reader.proofs.TwoBranches.{rest-roomed, tested-says}
 use Rattle.reader.proofs.Bodies.{body-bad, body-ready, body-says}
+use Rattle.notation.specs.Tokens.{IF}
+use Rattle.reader.specs.declared.cursor.Parsed.the-variants.{Ok}
+use Rattle.reader.specs.working.Cursors.{Expected, Ready}
 use borrow.Author.Needs.{needs}
 use Rattle.reader.proofs.commands.body.Statement.{statement}
 use Rattle.reader.proofs.commands.body.Tie as tie
@@ -22,47 +25,49 @@ returns c =
     (expected-said _ _ _ _ _ (after-expect .expect .ensures) (c .enum-told .given .1)))
     wrote-none
 
+-- The sign is there, and a reader may be called past it.
+there : (c : tie.After-sign) → let start : tie.Start = search in Expected (start .args .text .now) (start .args .c) IF (Ok (c .sign .given .0 .0))
+there c =
+    let after-expect : tie.After-expect = search in
+    expected-said _ _ _ _ _ (after-expect .expect .ensures) (c .sign .given .1)
+
+ready : (c : tie.After-sign) → let start : tie.Start = search in Ready (start .args .text .now) (start .args .l) 3 (c .sign .given .0 .0)
+ready c =
+    let start : tie.Start = search in
+    body-ready _ (start .args .names .now) _ _ (start .pre) _ (there c)
+
 or-level-requires : tie.Need-or-level-requires
 or-level-requires c κs =
     let after-sign : tie.After-sign = search in
-    let after-expect : tie.After-expect = search in
     let start : tie.Start = search in
     let names = start .args .names .now in (
       omega arith,
-      ready-less
-          (body-ready (start .args .text .now) names (start .args .l) _ (start .pre) _
-          (expected-said _ _ _ _ _ (after-expect .expect .ensures) (after-sign .sign .given .1))) (omega arith),
+      ready-less (ready after-sign) (omega arith),
     )
 
 mark-requires : tie.Need-mark-requires
 mark-requires c κs =
     let after-sign : tie.After-sign = search in
-    let after-expect : tie.After-expect = search in
     let start : tie.Start = search in
     let names = start .args .names .now in
     let text = start .args .text .now in
     let l = start .args .l in
-    test-roomed text names l (itemsWords text names l) (allItems (length text)) 18 (omega arith) _
-    (body-ready text names l _ (start .pre) _
-    (expected-said _ _ _ _ _ (after-expect .expect .ensures) (after-sign .sign .given .1)))
-    _ _ _ _ (c .before .or-level .ensures)
+    test-roomed text names l (itemsWords text names l) (allItems (length text)) 18 (omega arith) (ready after-sign)
+    (c .before .or-level .ensures)
 
 returns-2 : tie.Need-returns-2
 returns-2 c =
     let after-mark : tie.After-mark = search in
     let after-or-level : tie.After-or-level = search in
     let after-sign : tie.After-sign = search in
-    let after-expect : tie.After-expect = search in
     let start : tie.Start = search in
     let names = start .args .names .now in
     let text = start .args .text .now in
     let l = start .args .l in
     body-says _ _ _ _ (start .pre) _
-    (expected-said _ _ _ _ _ (after-expect .expect .ensures) (after-sign .sign .given .1)) _ _ _
-    (first-bad text names l (itemsWords text names l) (allItems (length text)) 18 (omega arith) _
-    (body-ready text names l _ (start .pre) _
-    (expected-said _ _ _ _ _ (after-expect .expect .ensures) (after-sign .sign .given .1)))
-    _ _ _ _ (after-or-level .or-level .ensures) _ _ (after-mark .mark .ensures) _ _ (c .enum-told2 .given .1))
+    (there after-sign) _ _ _
+    (first-bad text names l (itemsWords text names l) (allItems (length text)) 18 (omega arith) (ready after-sign)
+    (after-or-level .or-level .ensures) _ _ (after-mark .mark .ensures) (c .enum-told2 .given .1))
 
 items-requires : tie.Need-items-requires
 items-requires c κs =
@@ -70,15 +75,12 @@ items-requires c κs =
     let after-mark : tie.After-mark = search in
     let after-or-level : tie.After-or-level = search in
     let after-sign : tie.After-sign = search in
-    let after-expect : tie.After-expect = search in
     let start : tie.Start = search in
     let names = start .args .names .now in
     let text = start .args .text .now in
     let l = start .args .l in
-    yes-ready text names l (itemsWords text names l) (allItems (length text)) 18 (omega arith) _
-    (body-ready text names l _ (start .pre) _
-    (expected-said _ _ _ _ _ (after-expect .expect .ensures) (after-sign .sign .given .1)))
-    _ _ _ _ (after-or-level .or-level .ensures) _ _ (after-mark .mark .ensures) _ (after-first .first .given .1)
+    yes-ready text names l (itemsWords text names l) (allItems (length text)) 18 (omega arith) (ready after-sign)
+    (after-or-level .or-level .ensures) _ _ (after-mark .mark .ensures) (after-first .first .given .1)
 
 mark-requires-2 : tie.Need-mark-requires-2
 mark-requires-2 c κs =
@@ -86,15 +88,12 @@ mark-requires-2 c κs =
     let after-mark : tie.After-mark = search in
     let after-or-level : tie.After-or-level = search in
     let after-sign : tie.After-sign = search in
-    let after-expect : tie.After-expect = search in
     let start : tie.Start = search in
     let names = start .args .names .now in
     let text = start .args .text .now in
     let l = start .args .l in
-    done-roomed text names l (itemsWords text names l) (allItems (length text)) 18 (omega arith) _
-    (body-ready text names l _ (start .pre) _
-    (expected-said _ _ _ _ _ (after-expect .expect .ensures) (after-sign .sign .given .1)))
-    _ _ _ _ (after-or-level .or-level .ensures) _ _ (after-mark .mark .ensures) _ (after-first .first .given .1) _ _
+    done-roomed text names l (itemsWords text names l) (allItems (length text)) 18 (omega arith) (ready after-sign)
+    (after-or-level .or-level .ensures) _ _ (after-mark .mark .ensures) (after-first .first .given .1)
     (c .before .items .ensures)
 
 returns-3 : tie.Need-returns-3
@@ -105,18 +104,15 @@ returns-3 c =
     let after-mark : tie.After-mark = search in
     let after-or-level : tie.After-or-level = search in
     let after-sign : tie.After-sign = search in
-    let after-expect : tie.After-expect = search in
     let start : tie.Start = search in
     let names = start .args .names .now in
     let text = start .args .text .now in
     let l = start .args .l in
     body-says _ _ _ _ (start .pre) _
-    (expected-said _ _ _ _ _ (after-expect .expect .ensures) (after-sign .sign .given .1)) _ _ _
-    (second-bad text names l (itemsWords text names l) (allItems (length text)) 18 (omega arith) _
-    (body-ready text names l _ (start .pre) _
-    (expected-said _ _ _ _ _ (after-expect .expect .ensures) (after-sign .sign .given .1)))
-    _ _ _ _ (after-or-level .or-level .ensures) _ _ (after-mark .mark .ensures) _ (after-first .first .given .1) _ _
-    (after-items .items .ensures) _ _ (after-mark2 .mark2 .ensures) _ _ (c .enum-told3 .given .1))
+    (there after-sign) _ _ _
+    (second-bad text names l (itemsWords text names l) (allItems (length text)) 18 (omega arith) (ready after-sign)
+    (after-or-level .or-level .ensures) _ _ (after-mark .mark .ensures) (after-first .first .given .1)
+    (after-items .items .ensures) _ _ (after-mark2 .mark2 .ensures) (c .enum-told3 .given .1))
 
 items-requires-2 : tie.Need-items-requires-2
 items-requires-2 c κs =
@@ -127,16 +123,13 @@ items-requires-2 c κs =
     let after-mark : tie.After-mark = search in
     let after-or-level : tie.After-or-level = search in
     let after-sign : tie.After-sign = search in
-    let after-expect : tie.After-expect = search in
     let start : tie.Start = search in
     let names = start .args .names .now in
     let text = start .args .text .now in
     let l = start .args .l in
-    no-ready text names l (itemsWords text names l) (allItems (length text)) 18 (omega arith) _
-    (body-ready text names l _ (start .pre) _
-    (expected-said _ _ _ _ _ (after-expect .expect .ensures) (after-sign .sign .given .1)))
-    _ _ _ _ (after-or-level .or-level .ensures) _ _ (after-mark .mark .ensures) _ (after-first .first .given .1) _ _
-    (after-items .items .ensures) _ _ (after-mark2 .mark2 .ensures) _ (after-second .second .given .1)
+    no-ready text names l (itemsWords text names l) (allItems (length text)) 18 (omega arith) (ready after-sign)
+    (after-or-level .or-level .ensures) _ _ (after-mark .mark .ensures) (after-first .first .given .1)
+    (after-items .items .ensures) _ _ (after-mark2 .mark2 .ensures) (after-second .second .given .1)
 
 mark-requires-3 : tie.Need-mark-requires-3
 mark-requires-3 c κs =
@@ -147,16 +140,13 @@ mark-requires-3 c κs =
     let after-mark : tie.After-mark = search in
     let after-or-level : tie.After-or-level = search in
     let after-sign : tie.After-sign = search in
-    let after-expect : tie.After-expect = search in
     let start : tie.Start = search in
     let names = start .args .names .now in
     let text = start .args .text .now in
     let l = start .args .l in
-    rest-roomed text names l (itemsWords text names l) (allItems (length text)) 18 (omega arith) _
-    (body-ready text names l _ (start .pre) _
-    (expected-said _ _ _ _ _ (after-expect .expect .ensures) (after-sign .sign .given .1)))
-    _ _ _ _ (after-or-level .or-level .ensures) _ _ (after-mark .mark .ensures) _ (after-first .first .given .1) _ _
-    (after-items .items .ensures) _ _ (after-mark2 .mark2 .ensures) _ (after-second .second .given .1) _ _
+    rest-roomed text names l (itemsWords text names l) (allItems (length text)) 18 (omega arith) (ready after-sign)
+    (after-or-level .or-level .ensures) _ _ (after-mark .mark .ensures) (after-first .first .given .1)
+    (after-items .items .ensures) _ _ (after-mark2 .mark2 .ensures) (after-second .second .given .1)
     (c .before .items2 .ensures)
 
 returns-4 : tie.Need-returns-4
@@ -169,19 +159,16 @@ returns-4 c =
     let after-mark : tie.After-mark = search in
     let after-or-level : tie.After-or-level = search in
     let after-sign : tie.After-sign = search in
-    let after-expect : tie.After-expect = search in
     let start : tie.Start = search in
     let names = start .args .names .now in
     let text = start .args .text .now in
     let l = start .args .l in
     body-says _ _ _ _ (start .pre) _
-    (expected-said _ _ _ _ _ (after-expect .expect .ensures) (after-sign .sign .given .1)) _ _ _
-    (tested-says text names l (itemsWords text names l) (allItems (length text)) 18 (omega arith) _
-    (body-ready text names l _ (start .pre) _
-    (expected-said _ _ _ _ _ (after-expect .expect .ensures) (after-sign .sign .given .1)))
-    _ _ _ _ (after-or-level .or-level .ensures) _ _ (after-mark .mark .ensures) _ (after-first .first .given .1) _ _
-    (after-items .items .ensures) _ _ (after-mark2 .mark2 .ensures) _ (after-second .second .given .1) _ _
-    (after-items2 .items2 .ensures) _ _ (c .mark3 .ensures))
+    (there after-sign) _ _ _
+    (tested-says text names l (itemsWords text names l) (allItems (length text)) 18 (omega arith) (ready after-sign)
+    (after-or-level .or-level .ensures) _ _ (after-mark .mark .ensures) (after-first .first .given .1)
+    (after-items .items .ensures) _ _ (after-mark2 .mark2 .ensures) (after-second .second .given .1)
+    (after-items2 .items2 .ensures) (c .mark3 .ensures))
 
 pub body-spec : {M : Type 1} → statement M
 body-spec =

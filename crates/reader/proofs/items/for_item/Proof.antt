@@ -13,7 +13,7 @@ use Rattle.reader.proofs.Moves.{is-past}
 use borrow.Author.Needs.{needs}
 use Rattle.reader.proofs.items.for_item.Statement.{statement}
 use Rattle.reader.proofs.items.for_item.Tie as tie
-use Rattle.reader.specs.working.Cursors.{wasRefused}
+use Rattle.reader.specs.working.Cursors.{Ready, wasRefused}
 
 returns : tie.Need-returns
 returns c =
@@ -21,27 +21,29 @@ returns c =
     wasRefused (for-full _ _ _ _ (start .pre .0) (start .pre .1) (c .if1 .taken))
     wrote-none
 
+-- A reader may be called past `for`.
+ready : (c : tie.After-past) → let start : tie.Start = search in Ready (start .args .text .now) (start .args .l) 3 (c .past .result)
+ready c =
+    let else1 : tie.Else1 = search in
+    let start : tie.Start = search in
+    for-ready _ (start .args .names .now) _ _ (start .pre .0) (start .pre .1) (else1 .if1 .left) _ (is-past (c .past .ensures))
+
 or-level-requires : tie.Need-or-level-requires
 or-level-requires c κs =
-    let else1 : tie.Else1 = search in
     let start : tie.Start = search in
     let names = start .args .names .now in (
       omega arith,
-      ready-less
-          (for-ready (start .args .text .now) names (start .args .l) _ (start .pre .0) (start .pre .1) (else1 .if1 .left) _
-          (is-past (c .before .past .ensures))) (omega arith),
+      ready-less (ready (c .before)) (omega arith),
     )
 
 mark-requires : tie.Need-mark-requires
 mark-requires c κs =
     let after-past : tie.After-past = search in
-    let else1 : tie.Else1 = search in
     let start : tie.Start = search in
     let names = start .args .names .now in
     let text = start .args .text .now in
     let l = start .args .l in
-    test-roomed text names l (rowItemsWords text names l) (allRows (length text)) 10 (omega arith) _
-    (for-ready text names l _ (start .pre .0) (start .pre .1) (else1 .if1 .left) _ (is-past (after-past .past .ensures))) _ _ _ _
+    test-roomed text names l (rowItemsWords text names l) (allRows (length text)) 10 (omega arith) (ready after-past)
     (c .before .or-level .ensures)
 
 returns-2 : tie.Need-returns-2
@@ -55,9 +57,8 @@ returns-2 c =
     let text = start .args .text .now in
     let l = start .args .l in
     for-says _ _ _ _ (start .pre .0) (start .pre .1) (else1 .if1 .left) _ (is-past (after-past .past .ensures)) _ _ _
-    (first-bad text names l (rowItemsWords text names l) (allRows (length text)) 10 (omega arith) _
-    (for-ready text names l _ (start .pre .0) (start .pre .1) (else1 .if1 .left) _ (is-past (after-past .past .ensures))) _ _ _ _
-    (after-or-level .or-level .ensures) _ _ (after-mark .mark .ensures) _ _ (c .enum-told .given .1))
+    (first-bad text names l (rowItemsWords text names l) (allRows (length text)) 10 (omega arith) (ready after-past)
+    (after-or-level .or-level .ensures) _ _ (after-mark .mark .ensures) (c .enum-told .given .1))
 
 row-items-requires : tie.Need-row-items-requires
 row-items-requires c κs =
@@ -65,14 +66,12 @@ row-items-requires c κs =
     let after-mark : tie.After-mark = search in
     let after-or-level : tie.After-or-level = search in
     let after-past : tie.After-past = search in
-    let else1 : tie.Else1 = search in
     let start : tie.Start = search in
     let names = start .args .names .now in
     let text = start .args .text .now in
     let l = start .args .l in
-    yes-ready text names l (rowItemsWords text names l) (allRows (length text)) 10 (omega arith) _
-    (for-ready text names l _ (start .pre .0) (start .pre .1) (else1 .if1 .left) _ (is-past (after-past .past .ensures))) _ _ _ _
-    (after-or-level .or-level .ensures) _ _ (after-mark .mark .ensures) _ (after-first .first .given .1)
+    yes-ready text names l (rowItemsWords text names l) (allRows (length text)) 10 (omega arith) (ready after-past)
+    (after-or-level .or-level .ensures) _ _ (after-mark .mark .ensures) (after-first .first .given .1)
 
 mark-requires-2 : tie.Need-mark-requires-2
 mark-requires-2 c κs =
@@ -80,14 +79,12 @@ mark-requires-2 c κs =
     let after-mark : tie.After-mark = search in
     let after-or-level : tie.After-or-level = search in
     let after-past : tie.After-past = search in
-    let else1 : tie.Else1 = search in
     let start : tie.Start = search in
     let names = start .args .names .now in
     let text = start .args .text .now in
     let l = start .args .l in
-    done-roomed text names l (rowItemsWords text names l) (allRows (length text)) 10 (omega arith) _
-    (for-ready text names l _ (start .pre .0) (start .pre .1) (else1 .if1 .left) _ (is-past (after-past .past .ensures))) _ _ _ _
-    (after-or-level .or-level .ensures) _ _ (after-mark .mark .ensures) _ (after-first .first .given .1) _ _
+    done-roomed text names l (rowItemsWords text names l) (allRows (length text)) 10 (omega arith) (ready after-past)
+    (after-or-level .or-level .ensures) _ _ (after-mark .mark .ensures) (after-first .first .given .1)
     (c .before .row-items .ensures)
 
 returns-3 : tie.Need-returns-3
@@ -104,10 +101,9 @@ returns-3 c =
     let text = start .args .text .now in
     let l = start .args .l in
     for-says _ _ _ _ (start .pre .0) (start .pre .1) (else1 .if1 .left) _ (is-past (after-past .past .ensures)) _ _ _
-    (second-bad text names l (rowItemsWords text names l) (allRows (length text)) 10 (omega arith) _
-    (for-ready text names l _ (start .pre .0) (start .pre .1) (else1 .if1 .left) _ (is-past (after-past .past .ensures))) _ _ _ _
-    (after-or-level .or-level .ensures) _ _ (after-mark .mark .ensures) _ (after-first .first .given .1) _ _
-    (after-row-items .row-items .ensures) _ _ (after-mark2 .mark2 .ensures) _ _ (c .enum-told2 .given .1))
+    (second-bad text names l (rowItemsWords text names l) (allRows (length text)) 10 (omega arith) (ready after-past)
+    (after-or-level .or-level .ensures) _ _ (after-mark .mark .ensures) (after-first .first .given .1)
+    (after-row-items .row-items .ensures) _ _ (after-mark2 .mark2 .ensures) (c .enum-told2 .given .1))
 
 row-items-requires-2 : tie.Need-row-items-requires-2
 row-items-requires-2 c κs =
@@ -118,15 +114,13 @@ row-items-requires-2 c κs =
     let after-mark : tie.After-mark = search in
     let after-or-level : tie.After-or-level = search in
     let after-past : tie.After-past = search in
-    let else1 : tie.Else1 = search in
     let start : tie.Start = search in
     let names = start .args .names .now in
     let text = start .args .text .now in
     let l = start .args .l in
-    no-ready text names l (rowItemsWords text names l) (allRows (length text)) 10 (omega arith) _
-    (for-ready text names l _ (start .pre .0) (start .pre .1) (else1 .if1 .left) _ (is-past (after-past .past .ensures))) _ _ _ _
-    (after-or-level .or-level .ensures) _ _ (after-mark .mark .ensures) _ (after-first .first .given .1) _ _
-    (after-row-items .row-items .ensures) _ _ (after-mark2 .mark2 .ensures) _ (after-second .second .given .1)
+    no-ready text names l (rowItemsWords text names l) (allRows (length text)) 10 (omega arith) (ready after-past)
+    (after-or-level .or-level .ensures) _ _ (after-mark .mark .ensures) (after-first .first .given .1)
+    (after-row-items .row-items .ensures) _ _ (after-mark2 .mark2 .ensures) (after-second .second .given .1)
 
 mark-requires-3 : tie.Need-mark-requires-3
 mark-requires-3 c κs =
@@ -137,15 +131,13 @@ mark-requires-3 c κs =
     let after-mark : tie.After-mark = search in
     let after-or-level : tie.After-or-level = search in
     let after-past : tie.After-past = search in
-    let else1 : tie.Else1 = search in
     let start : tie.Start = search in
     let names = start .args .names .now in
     let text = start .args .text .now in
     let l = start .args .l in
-    rest-roomed text names l (rowItemsWords text names l) (allRows (length text)) 10 (omega arith) _
-    (for-ready text names l _ (start .pre .0) (start .pre .1) (else1 .if1 .left) _ (is-past (after-past .past .ensures))) _ _ _ _
-    (after-or-level .or-level .ensures) _ _ (after-mark .mark .ensures) _ (after-first .first .given .1) _ _
-    (after-row-items .row-items .ensures) _ _ (after-mark2 .mark2 .ensures) _ (after-second .second .given .1) _ _
+    rest-roomed text names l (rowItemsWords text names l) (allRows (length text)) 10 (omega arith) (ready after-past)
+    (after-or-level .or-level .ensures) _ _ (after-mark .mark .ensures) (after-first .first .given .1)
+    (after-row-items .row-items .ensures) _ _ (after-mark2 .mark2 .ensures) (after-second .second .given .1)
     (c .before .row-items2 .ensures)
 
 returns-4 : tie.Need-returns-4
@@ -164,11 +156,10 @@ returns-4 c =
     let text = start .args .text .now in
     let l = start .args .l in
     for-says _ _ _ _ (start .pre .0) (start .pre .1) (else1 .if1 .left) _ (is-past (after-past .past .ensures)) _ _ _
-    (tested-says text names l (rowItemsWords text names l) (allRows (length text)) 10 (omega arith) _
-    (for-ready text names l _ (start .pre .0) (start .pre .1) (else1 .if1 .left) _ (is-past (after-past .past .ensures))) _ _ _ _
-    (after-or-level .or-level .ensures) _ _ (after-mark .mark .ensures) _ (after-first .first .given .1) _ _
-    (after-row-items .row-items .ensures) _ _ (after-mark2 .mark2 .ensures) _ (after-second .second .given .1) _ _
-    (after-row-items2 .row-items2 .ensures) _ _ (c .mark3 .ensures))
+    (tested-says text names l (rowItemsWords text names l) (allRows (length text)) 10 (omega arith) (ready after-past)
+    (after-or-level .or-level .ensures) _ _ (after-mark .mark .ensures) (after-first .first .given .1)
+    (after-row-items .row-items .ensures) _ _ (after-mark2 .mark2 .ensures) (after-second .second .given .1)
+    (after-row-items2 .row-items2 .ensures) (c .mark3 .ensures))
 
 pub for-item-spec : {M : Type 1} → statement M
 for-item-spec =
