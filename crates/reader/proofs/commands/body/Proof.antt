@@ -39,11 +39,7 @@ ready c =
 or-level-requires : tie.Need-or-level-requires
 or-level-requires c κs =
     let after-sign : tie.After-sign = search in
-    let start : tie.Start = search in
-    let names = start .args .names .now in (
-      omega arith,
-      ready-less (ready after-sign) (omega arith),
-    )
+    (omega arith, ready-less (ready after-sign) (omega arith))
 
 mark-requires : tie.Need-mark-requires
 mark-requires c κs =

@@ -30,11 +30,7 @@ ready c =
 
 or-level-requires : tie.Need-or-level-requires
 or-level-requires c κs =
-    let start : tie.Start = search in
-    let names = start .args .names .now in (
-      omega arith,
-      ready-less (ready (c .before)) (omega arith),
-    )
+    (omega arith, ready-less (ready (c .before)) (omega arith))
 
 mark-requires : tie.Need-mark-requires
 mark-requires c κs =

@@ -1,11 +1,15 @@
 -- `model` meets its contract: declarations, clauses and commands in order, and the end of the text after them.
 -- Assumes nothing.
-use Rattle.reader.specs.working.Commands.{arrays}
+use Rattle.reader.specs.working.Commands.{Arrays, arrays}
 use Rattle.reader.proofs.WholeTexts.{head-refused, head-ready, both-refused, first-missing, both-naming}
 use Rattle.reader.proofs.WholeTexts.{all-refused, more-follows, model-says}
 use borrow.Author.Needs.{needs}
 use Rattle.reader.proofs.model.model.Statement.{statement}
 use Rattle.reader.proofs.model.model.Tie as tie
+
+-- The arrays as they were lent.
+abbrev lent : tie.Start → Arrays
+lent start = arrays (start .args .names .now) (start .args .ops .now) (start .args .ends .now) (start .args .stars .now)
 
 declarations-requires : tie.Need-declarations-requires
 declarations-requires c κs =
@@ -16,18 +20,14 @@ returns : tie.Need-returns
 returns c =
     let after-declarations : tie.After-declarations = search in
     let start : tie.Start = search in
-    head-refused (start .args .text .now)
-    (arrays (start .args .names .now) (start .args .ops .now) (start .args .ends .now) (start .args .stars .now)) _ _
-    (after-declarations .declarations .ensures) _ _ (c .enum-told .given .1)
+    head-refused (start .args .text .now) (lent start) _ _ (after-declarations .declarations .ensures) _ _ (c .enum-told .given .1)
 
 clauses-requires : tie.Need-clauses-requires
 clauses-requires c κs =
     let after-head : tie.After-head = search in
     let after-declarations : tie.After-declarations = search in
     let start : tie.Start = search in
-    head-ready (start .args .text .now)
-    (arrays (start .args .names .now) (start .args .ops .now) (start .args .ends .now) (start .args .stars .now)) _ _
-    (after-declarations .declarations .ensures) _ _ (after-head .head .given .1)
+    head-ready (start .args .text .now) (lent start) _ _ (after-declarations .declarations .ensures) _ _ (after-head .head .given .1)
 
 returns-2 : tie.Need-returns-2
 returns-2 c =
@@ -36,9 +36,7 @@ returns-2 c =
     let after-head : tie.After-head = search in
     let after-declarations : tie.After-declarations = search in
     let start : tie.Start = search in
-    first-missing (start .args .text .now)
-    (arrays (start .args .names .now) (start .args .ops .now) (start .args .ends .now) (start .args .stars .now)) _ _
-    (after-declarations .declarations .ensures) _ _ (after-head .head .given .1) _ _ _ (after-clauses .clauses .ensures)
+    first-missing (start .args .text .now) (lent start) _ _ (after-declarations .declarations .ensures) _ _ (after-head .head .given .1) _ _ _ (after-clauses .clauses .ensures)
     _ (after-both .both .given .1) (c .if1 .taken)
 
 commands-requires : tie.Need-commands-requires
@@ -49,9 +47,7 @@ commands-requires c κs =
     let after-head : tie.After-head = search in
     let after-declarations : tie.After-declarations = search in
     let start : tie.Start = search in (
-      both-naming (start .args .text .now)
-          (arrays (start .args .names .now) (start .args .ops .now) (start .args .ends .now) (start .args .stars .now)) _ _
-          (after-declarations .declarations .ensures) _ _ (after-head .head .given .1) _ _ _
+      both-naming (start .args .text .now) (lent start) _ _ (after-declarations .declarations .ensures) _ _ (after-head .head .given .1) _ _ _
           (after-clauses .clauses .ensures) _ (after-both .both .given .1),
       else1 .if1 .left,
     )
@@ -65,9 +61,7 @@ returns-3 c =
     let after-head : tie.After-head = search in
     let after-declarations : tie.After-declarations = search in
     let start : tie.Start = search in
-    all-refused (start .args .text .now)
-    (arrays (start .args .names .now) (start .args .ops .now) (start .args .ends .now) (start .args .stars .now)) _ _
-    (after-declarations .declarations .ensures) _ _ (after-head .head .given .1) _ _ _ (after-clauses .clauses .ensures)
+    all-refused (start .args .text .now) (lent start) _ _ (after-declarations .declarations .ensures) _ _ (after-head .head .given .1) _ _ _ (after-clauses .clauses .ensures)
     _ (after-both .both .given .1) (else1 .if1 .left) _ _ (after-commands .commands .ensures) _ _
     (c .enum-told2 .given .1)
 
@@ -81,9 +75,7 @@ returns-4 c =
     let after-head : tie.After-head = search in
     let after-declarations : tie.After-declarations = search in
     let start : tie.Start = search in
-    more-follows (start .args .text .now)
-    (arrays (start .args .names .now) (start .args .ops .now) (start .args .ends .now) (start .args .stars .now)) _ _
-    (after-declarations .declarations .ensures) _ _ (after-head .head .given .1) _ _ _ (after-clauses .clauses .ensures)
+    more-follows (start .args .text .now) (lent start) _ _ (after-declarations .declarations .ensures) _ _ (after-head .head .given .1) _ _ _ (after-clauses .clauses .ensures)
     _ (after-both .both .given .1) (else1 .if1 .left) _ _ (after-commands .commands .ensures) _ _
     (after-all .all .given .1) (c .if2 .taken)
 
@@ -97,9 +89,7 @@ returns-5 c =
     let after-head : tie.After-head = search in
     let after-declarations : tie.After-declarations = search in
     let start : tie.Start = search in
-    model-says (start .args .text .now)
-    (arrays (start .args .names .now) (start .args .ops .now) (start .args .ends .now) (start .args .stars .now)) _ _
-    (after-declarations .declarations .ensures) _ _ (after-head .head .given .1) _ _ _ (after-clauses .clauses .ensures)
+    model-says (start .args .text .now) (lent start) _ _ (after-declarations .declarations .ensures) _ _ (after-head .head .given .1) _ _ _ (after-clauses .clauses .ensures)
     _ (after-both .both .given .1) (else1 .if1 .left) _ _ (after-commands .commands .ensures) _ _
     (after-all .all .given .1) (c .if2 .left)
 
@@ -109,9 +99,7 @@ returns-6 c =
     let after-head : tie.After-head = search in
     let after-declarations : tie.After-declarations = search in
     let start : tie.Start = search in
-    both-refused (start .args .text .now)
-    (arrays (start .args .names .now) (start .args .ops .now) (start .args .ends .now) (start .args .stars .now)) _ _
-    (after-declarations .declarations .ensures) _ _ (after-head .head .given .1) _ _ _ (after-clauses .clauses .ensures)
+    both-refused (start .args .text .now) (lent start) _ _ (after-declarations .declarations .ensures) _ _ (after-head .head .given .1) _ _ _ (after-clauses .clauses .ensures)
     _ _ (c .before .both2 .given .1)
 
 pub model-spec : {M : Type 1} → statement M
