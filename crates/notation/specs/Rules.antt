@@ -55,6 +55,10 @@ STARS = 6
 abbrev pub limits : List ℕ
 limits = 8 ∷ 10 ∷ 12 ∷ 16 ∷ 256 ∷ 1024 ∷ 8 ∷ []
 
+-- The limit on what is counted at place k.
+abbrev pub limitOf : ℕ → ℕ
+limitOf k = getD limits k 0
+
 -- How deep parentheses and `not` may nest.
 abbrev pub depthLimit : ℕ
 depthLimit = 16
@@ -132,7 +136,7 @@ total k ps = count k (cond (eqb k STARS) (thisCommand [] ps) ps)
 -- One of the counts ks is over its limit.
 unfoldable pub over : List ℕ → List Part → Bool
 over [] ps = false
-over (k ∷ ks) ps = ltb (getD limits k 0) (total k ps) || over ks ps
+over (k ∷ ks) ps = ltb (limitOf k) (total k ps) || over ks ps
 
 -- A name to be declared is declared already.
 abbrev pub again : List Part → Option Kind → Word → Bool

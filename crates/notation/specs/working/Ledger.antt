@@ -9,7 +9,7 @@ use lib.Dec.{ltb}
 use lib.ListN.{set, getD}
 use Rattle.notation.specs.Tokens.{Word}
 use Rattle.notation.specs.Notation.{Kind, Part, part}
-use Rattle.notation.specs.Rules.{View, view, wordOf, has, elem, limits, depthLimit, STARS}
+use Rattle.notation.specs.Rules.{View, view, wordOf, has, elem, limitOf, depthLimit, STARS}
 
 pub record Book : Type 0 where
   pub names : List (Word × Kind)
@@ -41,7 +41,7 @@ notes b (p ∷ ps) = notes (note b p) ps
 -- One of the counts ks is over its limit.
 unfoldable pub exceeds : List ℕ → List ℕ → Bool
 exceeds [] cs = false
-exceeds (k ∷ ks) cs = ltb (getD limits k 0) (getD cs k 0) || exceeds ks cs
+exceeds (k ∷ ks) cs = ltb (limitOf k) (getD cs k 0) || exceeds ks cs
 
 abbrev pub again : Book → Option Kind → Word → Bool
 again b none w = false

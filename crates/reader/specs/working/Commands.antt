@@ -9,6 +9,7 @@ use lib.ListN.{length}
 use lib.Seq.{sets}
 use Rattle.notation.specs.Tokens.{sign, COMMAND, IF, DOT, Word, Name, Lexeme}
 use Rattle.notation.specs.Notation.{part, beginsCommand, freeShared, Item, Command, command′}
+use Rattle.notation.specs.Rules.{COMMANDS, limitOf}
 use Rattle.notation.specs.Texts.{exprOf, itemsOf, commandOf, titleOf}
 use Rattle.notation.specs.Layout.{commandCode, endsFrom, joined}
 use Rattle.notation.specs.working.Lexing.{tokensFrom}
@@ -51,7 +52,7 @@ pub record Titled (text names : List ℕ) (l : Ledger) (c : Cursor) (names′ : 
   pub ledger : l′ ≡ withCommands 1 l
   pub same : d ≡ record { next = d .next; emitted = c .emitted; items = c .items; nodes = c .nodes; stars = 0 }
   pub fresh : Fresh text (d .next)
-  pub few : l .commands < 16
+  pub few : l .commands < limitOf COMMANDS
 
 unfoldable pub TitleSays : List ℕ → List ℕ → Ledger → Cursor → List ℕ → Declared → Type 0
 TitleSays text names l c names′ (D.Ok d l′) = Titled text names l c names′ d l′

@@ -6,7 +6,7 @@ use Prim.Native.Nat.{ℕ, _+_, _-_, _≤_, _<_}
 use lib.ListN.{length, set}
 use Rattle.notation.specs.Tokens.{CLOSE}
 use Rattle.notation.specs.Notation.{Expr}
-use Rattle.notation.specs.Rules.{depthLimit}
+use Rattle.notation.specs.Rules.{NODES, limitOf, depthLimit}
 use Rattle.notation.specs.Texts.{Numbered, numbered, exprOf}
 use Rattle.notation.specs.Layout.{exprCode}
 use Rattle.notation.specs.working.Table.{factor}
@@ -41,8 +41,8 @@ orAt text names sc l depth c = orReader (length text) (modeOf sc) (depthLimit - 
 -- The answer of a node that is one token: refused if there are too many, else its code word is stored and the cursor is past it.
 unfoldable pub Leaf : List ℕ → Cursor → ℕ → ℕ → List ℕ → List ℕ → Parsed → Type 0
 Leaf text c code stars before after (Ok d) =
-    (c .nodes < 1024) × ((d ≡ emitted (moved (pieceAt text (c .next .end)) c (c .items) (c .nodes + 1) stars)) × (after ≡ set before (c .emitted) code))
-Leaf text c code stars before after (Refused n i) = (1024 ≤ c .nodes) × ((n ≡ 7) × ((i ≡ c .next .start) × (after ≡ before)))
+    (c .nodes < limitOf NODES) × ((d ≡ emitted (moved (pieceAt text (c .next .end)) c (c .items) (c .nodes + 1) stars)) × (after ≡ set before (c .emitted) code))
+Leaf text c code stars before after (Refused n i) = (limitOf NODES ≤ c .nodes) × ((n ≡ 7) × ((i ≡ c .next .start) × (after ≡ before)))
 
 -- An operand is refused before anything is stored.
 unfoldable pub Kept : List ℕ → List ℕ → Parsed → Type 0

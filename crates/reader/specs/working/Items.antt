@@ -7,6 +7,7 @@ use Prim.Native.Nat.{ℕ, _+_, _≤_, _<_}
 use lib.ListN.{length, set}
 use Rattle.notation.specs.Tokens.{name, ASSIGN}
 use Rattle.notation.specs.Notation.{Kind, sharedName, rowName, Mode, freeShared, freeRow, part, target, Expr, RowItem, Item}
+use Rattle.notation.specs.Rules.{ITEMS, limitOf}
 use Rattle.notation.specs.Texts.{Numbered, numbered, placeOf, rowItemOf, rowItemsOf, itemOf, itemsOf}
 use Rattle.notation.specs.Layout.{STORE, PASS, rowItemCode, rowItemsCode, itemCode, itemsCode}
 use Rattle.notation.specs.working.Lexing.{tokensFrom}
@@ -49,8 +50,8 @@ Marked text kind word (Refused n i) before after r = (r ≡ Refused n i) × (aft
 -- The answer of `skip`.
 unfoldable pub Skipped : List ℕ → Cursor → List ℕ → List ℕ → Parsed → Type 0
 Skipped text c before after (Ok d) =
-    (c .items < 256) × ((d ≡ emitted (moved (pieceAt text (c .next .end)) c (c .items + 1) (c .nodes) (c .stars))) × (after ≡ set before (c .emitted) PASS))
-Skipped text c before after (Refused n i) = (256 ≤ c .items) × ((n ≡ 7) × ((i ≡ c .next .start) × (after ≡ before)))
+    (c .items < limitOf ITEMS) × ((d ≡ emitted (moved (pieceAt text (c .next .end)) c (c .items + 1) (c .nodes) (c .stars))) × (after ≡ set before (c .emitted) PASS))
+Skipped text c before after (Refused n i) = (limitOf ITEMS ≤ c .items) × ((n ≡ 7) × ((i ≡ c .next .start) × (after ≡ before)))
 
 -- An assignment after its name is seen: the kind of the name, and where its expression stands.
 abbrev pub kindOf : Bool → Kind
