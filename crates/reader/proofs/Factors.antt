@@ -23,11 +23,11 @@ use Rattle.reader.specs.declared.cursor.Parsed.{Parsed}
 use Rattle.reader.specs.declared.cursor.Parsed.the-variants.{Ok, Refused}
 use Rattle.reader.specs.working.Pieces.{listed, pieceAt}
 use Rattle.reader.specs.working.Cursors.{modeOf, bookOf, moved, emitted, Ready, wasRead, wasRefused}
-use Rattle.reader.specs.working.Expressions.{exprWords, SaysExpr, SaysOperand, factorAt, orAt, Leaf, Kept, AfterNode, AfterClose, roomed}
+use Rattle.reader.specs.working.Expressions.{exprWords, SaysExpr, SaysOperand, factorAt, orAt, Leaf, Kept, AfterNode, AfterClose}
 use Rattle.reader.proofs.Books.{opens-deep, opens-fits, negates-deep, negates-full, negates-fits, note-opens, note-negates}
 use Rattle.reader.proofs.Symbols.{open-is, not-is}
 use Rattle.reader.proofs.Lexing.{tokened}
-use Rattle.reader.proofs.Moves.{Past, past-ready}
+use Rattle.reader.proofs.Moves.{Past}
 use Rattle.reader.proofs.StoredCode.{wrote-none, wrote-same, said-as, says-of}
 use Rattle.reader.specs.working.Sequences.{signedBy}
 use Rattle.reader.proofs.Sequences.{says-map, says-from, says-close, says-node}
@@ -106,9 +106,6 @@ module _ (text names : List ℕ) (sc : Scope) (l : Ledger) (depth : ℕ) (c : Cu
           ∙ ap (λ (ts : List Lexeme). signedBy len 22 (orReader len m (suc (16 - depth)) ts (bookOf text names l d))) (q .next .tokens)
           ∙ ap (λ (n : ℕ). signedBy len 22 (orReader len m n (listed text (d .next)) (bookOf text names l d))) x
 
-      pub open-ready : Ready text l 0 d
-      open-ready = past-ready r q (r .items) (r .nodes) (r .stars) (r .room)
-
       pub open-closes : {p a : List ℕ} {inner y : Parsed} → SaysExpr text names l d p (orAt text names sc l (depth - 1) d) a inner → AfterClose text inner y → SaysExpr text names l c p G a y
       open-closes s e = says-of open-goes (says-from q (says-close s e) (omega arith) (omega arith) (omega arith))
 
@@ -134,13 +131,6 @@ module _ (text names : List ℕ) (sc : Scope) (l : Ledger) (depth : ℕ) (c : Cu
             (note-negates text names l c (d .next) (suc (16 - depth)) (sign 14) ∙ ap (bookOf text names l) (sym (q .is)))
             ∙ ap (λ (ts : List Lexeme). thenReads (reader len (factor m (suc (16 - depth))) ts (bookOf text names l d)) (λ e ts b. got (not′ e) ts b)) (q .next .tokens)
             ∙ ap (λ (n : ℕ). thenReads (reader len (factor m n) (listed text (d .next)) (bookOf text names l d)) (λ e ts b. got (not′ e) ts b)) y
-
-        pub not-ready : Ready text l 0 d
-        not-ready = past-ready r q (r .items) (omega arith) (r .stars) (omega (arith, r .room))
-
-        pub not-room : {p a : List ℕ} {o : Got Expr} {inner : Parsed} → SaysExpr text names l d p o a inner → roomed inner
-        not-room (wasRead s) = omega (arith, s .level, s .nodes, s .items, not-ready .room, r .commands)
-        not-room (wasRefused s w) = tt
 
         pub not-closes : {p a b : List ℕ} {inner y : Parsed} → SaysExpr text names l d p (factorAt text names sc l (depth - 1) d) a inner → AfterNode 96 inner a b y → SaysExpr text names l c p G b y
         unfolding exprWords exprOf exprCode

@@ -19,7 +19,7 @@ use Rattle.reader.specs.declared.cursor.Parsed.{Parsed}
 use Rattle.reader.specs.declared.cursor.Parsed.the-variants.{Refused}
 use Rattle.reader.specs.working.Pieces.{listed}
 use Rattle.reader.specs.working.Cursors.{bookOf, Ready, Done, Says}
-use Rattle.reader.proofs.Moves.{Past, past-ready}
+use Rattle.reader.proofs.Moves.{Past, past-same}
 use Rattle.reader.proofs.Books.{quiet-fits, note-quiet}
 use Rattle.reader.proofs.Symbols.{listed-sign}
 use Rattle.reader.proofs.StoredCode.{wrote-from, said-bad, says-same, says-alike, done-map, done-then, done-ready}
@@ -143,7 +143,7 @@ module _ {A : Type 0} {text names : List ℕ} {l : Ledger} {K : Series A text na
 
   module _ {b₀ : List ℕ} {c₀ : Cursor} {b : List ℕ} {c d : Cursor} (i : Turn K b₀ c₀ b c) (q : Past text c (c .items) (c .nodes) (c .stars) d) where
     pub turn-ready : Ready text l 0 d
-    turn-ready = past-ready (i .ready) q (i .ready .items) (i .ready .nodes) (i .ready .stars) (i .ready .room)
+    turn-ready = past-same (i .ready) q
 
     -- Nodes and items have grown, and stay within their limits.
     pub turn-less : {g : Got A} {m : List ℕ} {v : Cursor} → ReadOne K d b g m v → (c .nodes + 3 * c .items < v .nodes + 3 * v .items) × (v .nodes ≤ 1024) × (v .items ≤ 256)

@@ -78,6 +78,13 @@ past-ready r q i n s h = record {
   room = omega arith;
 }
 
+-- Past a piece that is not counted; and past a node, which pays for one code word.
+pub past-same : {text : List ℕ} {l : Ledger} {spare : ℕ} {c d : Cursor} → Ready text l spare c → Past text c (c .items) (c .nodes) (c .stars) d → Ready text l spare d
+past-same r q = past-ready r q (r .items) (r .nodes) (r .stars) (r .room)
+
+pub past-node : {text : List ℕ} {l : Ledger} {c d : Cursor} → Ready text l 0 c → c .nodes < 1024 → Past text c (c .items) (c .nodes + 1) (c .stars) d → Ready text l 1 d
+past-node r x q = past-ready r q (r .items) (omega arith) (r .stars) (omega (arith, r .room))
+
 module _ (text : List ℕ) (c : Cursor) (b : List ℕ) where
   pub leaf-full : (code stars : ℕ) → 1024 ≤ c .nodes → Leaf text c code stars b b (Refused 7 (c .next .start))
   unfolding Leaf

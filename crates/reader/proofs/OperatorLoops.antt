@@ -23,7 +23,7 @@ use Rattle.reader.specs.declared.cursor.Parsed.the-variants.{Refused}
 use Rattle.reader.specs.working.Pieces.{listed}
 use Rattle.reader.specs.working.Cursors.{bookOf, emitted, Ready, Done, wasRefused}
 use Rattle.reader.specs.working.Expressions.{exprWords, SaysExpr}
-use Rattle.reader.proofs.Moves.{Past, past-ready}
+use Rattle.reader.proofs.Moves.{Past, past-node}
 use Rattle.reader.proofs.Books.{joins-full, joins-fits, note-joins}
 use Rattle.reader.proofs.Symbols.{listed-sign, and-stops, or-stops}
 use Rattle.reader.specs.working.Items.{withWord}
@@ -146,8 +146,8 @@ module _ {text names : List ℕ} {l : Ledger} {K : Chain text names l} where
   -- ---- the turns of the loop
 
   module _ {b₀ : List ℕ} {c₀ : Cursor} {b : List ℕ} {c d : Cursor} (i : Turn K b₀ c₀ b c) (x : c .nodes < 1024) (q : Past text c (c .items) (c .nodes + 1) (c .stars) d) where
-    pub turn-ready : Ready text l 0 d
-    turn-ready = past-ready (i .ready) q (i .ready .items) (omega arith) (i .ready .stars) (omega (arith, i .ready .room))
+    pub turn-ready : Ready text l 1 d
+    turn-ready = past-node (i .ready) x q
 
     -- There is room for the operator's code word, and the nodes have grown.
     pub turn-room : {o : Got Expr} {m : List ℕ} {v : Cursor} → Read K d b o m v → (v .emitted < 2048) × (c .nodes < v .nodes) × (v .nodes ≤ 1024)

@@ -26,7 +26,7 @@ use Rattle.reader.specs.working.Sequences.{pairOf, paired, pairing, sign
 use Rattle.reader.proofs.StoredCode.{stores, wrote-same, wrote-from, is-refused, said-as, done-wrote, done-map, done-then}
 use Rattle.reader.proofs.Books.{quiet-fits, note-quiet}
 use Rattle.reader.proofs.Symbols.{lit-is, lit-missing}
-use Rattle.reader.proofs.Moves.{Past, expected-said, is-past, past-ready}
+use Rattle.reader.proofs.Moves.{Past, expected-said, is-past, past-same}
 
 -- ---- a sign that has to stand
 
@@ -190,4 +190,4 @@ module _ {text names : List ℕ} {l : Ledger} where
 -- A reader may be called past a sign.
 pub sign-ready : {text : List ℕ} {l : Ledger} {spare : ℕ} (k : ℕ) {c d : Cursor} {sign : Parsed} → Ready text l spare c → Expected text c k sign → sign ≡ Ok d → Ready text l spare d
 unfolding Expected
-sign-ready {text = text} k {c} {d} {sign} r h f = past-ready r (is-past (expected-said text c k sign (Ok d) h f .1)) (r .items) (r .nodes) (r .stars) (r .room)
+sign-ready {text = text} k {c} {d} {sign} r h f = past-same r (is-past (expected-said text c k sign (Ok d) h f .1))

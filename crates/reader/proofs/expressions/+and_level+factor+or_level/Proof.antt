@@ -3,7 +3,7 @@
 use Prim.Native.Nat.{ℕ, _<_, _+_, _-_, _*_}
 use mathlib.Core.Path.{_≡_, ap}
 use native.Mathlib.Omega.{arith}
-use Rattle.reader.proofs.Moves.{is-past}
+use Rattle.reader.proofs.Moves.{is-past, ready-less, past-same, past-node}
 use borrow.Author.Needs.{needs}
 use borrow.Fn.Kinds.{In, Out}
 use borrow.Fn.PlainCycle.{Measures, is, falls, and}
@@ -13,8 +13,8 @@ use Rattle.reader.specs.working.Cursors.{modeOf, wasRead, wasRefused}
 use Rattle.reader.proofs.StoredCode.{wrote-none, said-ok, says-alike, then-bad}
 use Rattle.reader.proofs.OperatorLoops.{andChain, orChain, Turn, rest-first, rest-stop, rest-full, rest-bad, turn-none}
 use Rattle.reader.proofs.OperatorLoops.{turn-ready, turn-room, turn-more}
-use Rattle.reader.proofs.Factors.{open-deep, open-ready, open-closes, not-deep, not-full, not-ready, not-room}
-use Rattle.reader.proofs.Factors.{not-closes}
+use Rattle.reader.proofs.Factors.{open-deep, open-closes, not-deep, not-full, not-closes}
+use Rattle.reader.proofs.Sequences.{says-roomed}
 use Rattle.reader.proofs.expressions.and_level.Reads as and-level
 use Rattle.reader.proofs.expressions.and_level.Kinds as and-level-kinds
 use Rattle.reader.proofs.expressions.+and_level+factor+or_level.Lts-and_level as and-lts
@@ -160,8 +160,7 @@ module _ (t : ℕ) where
         omega (arith, start .pre .0),
         (
           start .pre .1 .0,
-          turn-ready (at-ands .ands .inv) (else2 .if2 .left)
-              (is-past (c .before .past .ensures)),
+          ready-less (turn-ready (at-ands .ands .inv) (else2 .if2 .left) (is-past (c .before .past .ensures))) (omega arith),
         ),
       )
 
@@ -223,14 +222,11 @@ module _ (t : ℕ) where
   factor-or-level-requires : In-factor factor-lts.Need-or-level-requires
   factor-or-level-requires c κs =
       let else2 : In-factor factor-lts.Else2 = search in
-      let then1 : In-factor factor-lts.Then1 = search in
       let start : In-factor factor-lts.Start = search in (
         omega arith,
         (
           omega (arith, start .pre .1 .0),
-          open-ready (start .args .text .now) (start .args .names .now) (start .args .sc) _
-              (start .args .depth) _ (start .pre .1 .1) (then1 .if1 .taken) (start .pre .1 .0) (else2 .if2 .left) _
-              (is-past (c .before .past .ensures)),
+          past-same (start .pre .1 .1) (is-past (c .before .past .ensures)),
         ),
       )
 
@@ -264,14 +260,11 @@ module _ (t : ℕ) where
   factor-factor-requires c κs =
       let else5 : In-factor factor-lts.Else5 = search in
       let else4 : In-factor factor-lts.Else4 = search in
-      let then3 : In-factor factor-lts.Then3 = search in
       let start : In-factor factor-lts.Start = search in (
         omega arith,
         (
           omega (arith, start .pre .1 .0),
-          not-ready (start .args .text .now) (start .args .names .now) (start .args .sc) _
-              (start .args .depth) _ (start .pre .1 .1) (then3 .if3 .taken) (start .pre .1 .0) (else4 .if4 .left)
-              (else5 .if5 .left) _ (is-past (c .before .past2 .ensures)),
+          ready-less (past-node (start .pre .1 .1) (else5 .if5 .left) (is-past (c .before .past2 .ensures))) (omega arith),
         ),
       )
 
@@ -279,12 +272,8 @@ module _ (t : ℕ) where
   factor-close-node-requires c κs =
       let after-past2 : In-factor factor-lts.After-past2 = search in
       let else5 : In-factor factor-lts.Else5 = search in
-      let else4 : In-factor factor-lts.Else4 = search in
-      let then3 : In-factor factor-lts.Then3 = search in
       let start : In-factor factor-lts.Start = search in
-      not-room (start .args .text .now) (start .args .names .now) (start .args .sc) _ (start .args .depth) _
-      (start .pre .1 .1) (then3 .if3 .taken) (start .pre .1 .0) (else4 .if4 .left) (else5 .if5 .left) _
-      (is-past (after-past2 .past2 .ensures)) (c .before .factor .ensures)
+      says-roomed 0 (past-node (start .pre .1 .1) (else5 .if5 .left) (is-past (after-past2 .past2 .ensures))) (c .before .factor .ensures)
 
   factor-returns-5 : In-factor factor-lts.Need-returns-5
   factor-returns-5 c =
@@ -359,8 +348,7 @@ module _ (t : ℕ) where
         omega (arith, start .pre .0),
         (
           start .pre .1 .0,
-          turn-ready (at-ors .ors .inv) (else2 .if2 .left)
-              (is-past (c .before .past .ensures)),
+          ready-less (turn-ready (at-ors .ors .inv) (else2 .if2 .left) (is-past (c .before .past .ensures))) (omega arith),
         ),
       )
 
