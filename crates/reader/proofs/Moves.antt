@@ -1,4 +1,4 @@
--- The answers of the small functions that follow a reader or store one code word.
+-- How the cursor moves: the answers of the small functions that pass a piece or store one code word, and that a reader may be called after them.
 -- Assumes nothing.
 use mathlib.Core.Path.{_≡_, refl, sym, ap, _∙_, subst}
 use mathlib.Core.List.{List}

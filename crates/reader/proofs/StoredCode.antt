@@ -47,6 +47,7 @@ wrote-behind p b m e c vs h k w = record { words = vs ++ w .words; is = stores p
 -- ---- answers
 
 module _ {A : Type 0} {text names : List ℕ} {l : Ledger} {code : ℕ → A → Numbered (List ℕ)} {extra : ℕ} {s : Cursor} {p : List ℕ} {g : Got A} {b : List ℕ} where
+  -- An answer taken apart, and seen as another one.
   pub is-read : {c : Cursor} → Says text names l code extra s p g b (Ok c) → Done text names l code extra s p g b c
   is-read (wasRead d) = d
 

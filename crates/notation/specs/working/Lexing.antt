@@ -31,6 +31,7 @@ pub record Front : Type 0 where
 abbrev pub oneByte : Option Token → Front
 oneByte t = record { token = t; more = 0 }
 
+-- The token of a sign, if there is one.
 abbrev pub signOf : Option ℕ → Option Token
 signOf none = none
 signOf (some k) = some (sign k)

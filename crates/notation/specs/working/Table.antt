@@ -197,7 +197,7 @@ unfoldable pub ends : List Sym → Bool
 ends [] = true
 ends (n ∷ σ) = optional n && ends σ
 
--- Lists of kinds: no kind of the first is in the second; each is.
+-- Of two lists of kinds: no kind of the first is in the second, and every one is.
 abbrev pub apart : List ℕ → List ℕ → Bool
 apart [] js = true
 apart (k ∷ ks) js = not (elem k js) && apart ks js

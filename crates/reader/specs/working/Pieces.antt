@@ -80,11 +80,12 @@ numberedPiece k b s e = cond (ltb longestWord (e - s)) (pieceOf BAD s e 2) (cond
 unfoldable pub wordPiece : List ℕ → ℕ → ℕ → Piece
 wordPiece text s e = numberedPiece (numberOr (wordIn (slice s e text) reserved 0)) (getD text s 0) s e
 
--- The piece that the mark b is at s, with the byte after it, or 0.
+-- The piece of one byte at s that a sign is, or what is no token.
 abbrev pub signPiece : ℕ → Option ℕ → Piece
 signPiece s none = pieceOf BAD s (s + 1) 2
 signPiece s (some k) = pieceOf k s (s + 1) 3
 
+-- The piece that the mark b is at s, with the byte after it, or 0.
 unfoldable pub markPiece : ℕ → ℕ → ℕ → Piece
 markPiece b next s = cond (eqb b 58) (cond (eqb next 61) (pieceOf ASSIGN s (s + 2) 3) (pieceOf OTHER s (s + 1) 3)) (signPiece s (markOf b))
 
