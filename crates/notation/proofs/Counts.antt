@@ -1,13 +1,13 @@
 -- What the parts of a text count: no more than the limits where they break no rule, and enough to pay for the code words and the stars of what they say.
 -- Assumes nothing.
 use mathlib.Core.Path.{_≡_, refl, sym, _∙_, ap, subst}
-use mathlib.Core.Bool.{Bool, true, false, cond, false≢true}
+use mathlib.Core.Bool.{Bool, true, false, cond, false≢true, _||_}
 use mathlib.Core.List.{List, [], _∷_, _++_, map, append-assoc, append-nil}
 use mathlib.Core.Option.{Option, none, some}
 use Prim.Native.Nat.{ℕ, suc, _+_, _*_, _≤_}
 use native.Mathlib.Omega.{arith}
 use lib.Dec.{eqb}
-use lib.ListN.{getD, length, length-append}
+use lib.ListN.{length, length-append}
 use borrow.Author.Tests.{ltb-false, eqb-true}
 use Rattle.notation.specs.Tokens.{Token, Word, Name, sign, name, EACH, COMMAND, IF, DO, ELSE, FOR, END, SKIP, AND, OR, NOT, ZERO, ONE, STAR, DOT, SEMI, ASSIGN, OPEN, CLOSE}
 use Rattle.notation.specs.Texts.{exprOf, nameOf, placeOf, among, rowItemOf, rowItemsOf, itemOf, itemsOf, commandOf, clauseOf}
@@ -16,7 +16,7 @@ use Rattle.notation.specs.Layout.{joined, exprCode, rowItemCode, rowItem
 use Rattle.notation.specs.Model as M
 use Rattle.notation.specs.Model.{Place, starsExpr, starsRow, starsItems, stars}
 use Rattle.notation.specs.Notation.{Role, quiet, declares, uses, constant, chance, joins, negates, opens, target, beginsItem, beginsCommand, Part, part, plain, Mode, Kind, sharedName, rowName, commandName, Expr, RowItem, Item, Clause, Command, Level, ExpressionIs, isZero, isOne, isStar, isName, isNot, isParens, isFactor, isAnd, isTerm, isOr, Joined, last, RowItemIs, ItemIs, isSkip, isSet, isFor, CommandIs, isCommand, ClauseIs, isClause, Several, final, andThen, followed}
-use Rattle.notation.specs.Rules.{view, limits, depthLimit, elem, count, thisCommand, total, over, again, unknown, wordOf, breach, Kept, COMMANDS, STARS, nameCounts, NODES, ITEMS}
+use Rattle.notation.specs.Rules.{view, limitOf, depthLimit, elem, count, thisCommand, total, over, again, unknown, wordOf, breach, Kept, COMMANDS, STARS, nameCounts, NODES, ITEMS}
 
 -- ---- what is counted
 
@@ -37,7 +37,7 @@ passed : (x : Bool) (n : ℕ) (o : Option ℕ) → cond x (some n) o ≡ none �
 passed true n o e = ((cc), (cc))
 passed false n o e = (refl, e)
 
-neither : (x y : Bool) → cond x true y ≡ false → (x ≡ false) × (y ≡ false)
+neither : (x y : Bool) → x || y ≡ false → (x ≡ false) × (y ≡ false)
 neither true y e = ((cc), (cc))
 neither false y e = (refl, e)
 
@@ -51,13 +51,13 @@ within us r t e =
     let m = neither _ _ (passed _ 7 none (s .1) .0) in
     (ltb-false _ _ (m .0), m .1)
 
-over-at : (k : ℕ) (ks : List ℕ) (ps : List Part) → elem k ks ≡ true → over ks ps ≡ false → total k ps ≤ getD limits k 0
+over-at : (k : ℕ) (ks : List ℕ) (ps : List Part) → elem k ks ≡ true → over ks ps ≡ false → total k ps ≤ limitOf k
 unfolding elem over
 over-at k [] ps i e = absurd (false≢true i)
 over-at k (j ∷ js) ps i e = let h = neither _ _ e in go (eqb j k) refl i (ltb-false _ _ (h .0)) (λ i. over-at k js ps i (h .1))
   where
-    go : (x : Bool) → eqb j k ≡ x → cond x true (elem k js) ≡ true → total j ps ≤ getD limits j 0 → (elem k js ≡ true → total k ps ≤ getD limits k 0) → total k ps ≤ getD limits k 0
-    go true a i h rec = subst (λ (n : ℕ). total n ps ≤ getD limits n 0) (eqb-true j k a) h
+    go : (x : Bool) → eqb j k ≡ x → x || elem k js ≡ true → total j ps ≤ limitOf j → (elem k js ≡ true → total k ps ≤ limitOf k) → total k ps ≤ limitOf k
+    go true a i h rec = subst (λ (n : ℕ). total n ps ≤ limitOf n) (eqb-true j k a) h
     go false a i h rec = rec i
 
 -- A count to which a part does not add does not grow by it.
@@ -91,18 +91,18 @@ kept-all Q more q {ps} h = go [] ps h q
         (more us r t (rw append-nil at (h [] (part r t) ps refl)) q))
 
 -- Each count is within its limit.
-pub total-few : (k : ℕ) {ps : List Part} → Kept ps → total k ps ≤ getD limits k 0
+pub total-few : (k : ℕ) {ps : List Part} → Kept ps → total k ps ≤ limitOf k
 unfolding total count thisCommand
-total-few k h = kept-all (λ us. total k us ≤ getD limits k 0) more (none-yet (eqb k STARS)) h
+total-few k h = kept-all (λ us. total k us ≤ limitOf k) more (none-yet (eqb k STARS)) h
   where
-    none-yet : (x : Bool) → count k (cond x (thisCommand [] []) []) ≤ getD limits k 0
+    none-yet : (x : Bool) → count k (cond x (thisCommand [] []) []) ≤ limitOf k
     none-yet true = omega arith
     none-yet false = omega arith
 
-    more : (us : List Part) (r : Role) (t : Token) → breach us (part r t) ≡ none → total k us ≤ getD limits k 0 → total k (us ++ part r t ∷ []) ≤ getD limits k 0
+    more : (us : List Part) (r : Role) (t : Token) → breach us (part r t) ≡ none → total k us ≤ limitOf k → total k (us ++ part r t ∷ []) ≤ limitOf k
     more us r t e q = go (elem k (view r .adds)) refl
       where
-        go : (x : Bool) → elem k (view r .adds) ≡ x → total k (us ++ part r t ∷ []) ≤ getD limits k 0
+        go : (x : Bool) → elem k (view r .adds) ≡ x → total k (us ++ part r t ∷ []) ≤ limitOf k
         go true a = over-at k (view r .adds) (us ++ part r t ∷ []) a (within us r t e .1)
         go false a = omega (arith, stays k us r t a)
 

@@ -1,7 +1,7 @@
 -- A text has the tokens that it is cut into, and no others.
 -- Assumes nothing.
 use mathlib.Core.Path.{_≡_, refl, sym, _∙_, ap, subst}
-use mathlib.Core.Bool.{Bool, true, false, cond}
+use mathlib.Core.Bool.{Bool, true, false, cond, not, _&&_, _||_}
 use mathlib.Core.List.{List, [], _∷_, _++_}
 use mathlib.Core.Option.{Option, none, some}
 use mathlib.Core.Logic.{_↔_}
@@ -17,11 +17,11 @@ use Rattle.notation.specs.Tokens.{Token, sign, DOT, SEMI, OPEN, CLOSE, S
 use Rattle.notation.specs.working.Lexing.{span, mark, front, Front, oneByte, lexemes, tokensFrom, tokens}
 use Rattle.notation.specs.Tokens as T
 
--- A wordOf's byte is no blank.
+-- A byte of a word is no blank.
 word-no-blank : (b : ℕ) → wordByte b ≡ true → blankByte b ≡ false
 word-no-blank b h = go (eqb b 32) refl (eqb b 10) refl
   where
-    go : (x : Bool) → eqb b 32 ≡ x → (y : Bool) → eqb b 10 ≡ y → cond x true y ≡ false
+    go : (x : Bool) → eqb b 32 ≡ x → (y : Bool) → eqb b 10 ≡ y → x || y ≡ false
     go true e y f = let g = eqb-true b 32 e in let k : wordByte 32 ≡ true = subst (λ (n : ℕ). wordByte n ≡ true) g h in cc
     go false e true f = let g = eqb-true b 10 f in let k : wordByte 10 ≡ true = subst (λ (n : ℕ). wordByte n ≡ true) g h in cc
     go false e false f = refl
@@ -33,14 +33,14 @@ span-run [] [] h j = refl
 span-run [] (b ∷ bs) h j = rw j
 span-run (c ∷ w) bs h j = go (wordByte c) h (λ k. span-run w bs k j)
   where
-    go : (x : Bool) → cond x (all wordByte w) false ≡ true → (all wordByte w ≡ true → span (w ++ bs) ≡ length w) → cond x (suc (span (w ++ bs))) 0 ≡ suc (length w)
+    go : (x : Bool) → x && all wordByte w ≡ true → (all wordByte w ≡ true → span (w ++ bs) ≡ length w) → cond x (suc (span (w ++ bs))) 0 ≡ suc (length w)
     go true k r = ap suc (r k)
     go false k r = cc
 
 all-head : (b : ℕ) (w : List ℕ) → all wordByte (b ∷ w) ≡ true → (wordByte b ≡ true) × (all wordByte w ≡ true)
 all-head b w h = go (wordByte b) refl h
   where
-    go : (x : Bool) → wordByte b ≡ x → cond x (all wordByte w) false ≡ true → (x ≡ true) × (all wordByte w ≡ true)
+    go : (x : Bool) → wordByte b ≡ x → x && all wordByte w ≡ true → (x ≡ true) × (all wordByte w ≡ true)
     go true e k = (refl, k)
     go false e k = (cc, cc)
 
@@ -69,24 +69,15 @@ front-mark i b k bs h = go (eqb b 46) (eqb b 59) (eqb b 40) (eqb b 41) (eqb b 42
 -- A byte that is not allowed.
 front-bad : (i : ℕ) (b : ℕ) (bs : List ℕ) → barredByte b ≡ true → (blankByte b ≡ false) × (front i b bs ≡ oneByte none)
 unfolding front mark
-front-bad i b bs h = go (wordByte b) (blankByte b) (eqb b 58) (eqb b 46) (eqb b 59) (eqb b 40) (eqb b 41) (eqb b 42) (eqb b 61) refl refl refl refl refl refl refl refl refl h
+front-bad i b bs h = go (wordByte b) (blankByte b) (eqb b 58) (markOf b) refl refl refl refl h
   where
-    go : (w n c x1 x2 x3 x4 x5 x6 : Bool) → wordByte b ≡ w → blankByte b ≡ n → eqb b 58 ≡ c →
-        eqb b 46 ≡ x1 → eqb b 59 ≡ x2 → eqb b 40 ≡ x3 → eqb b 41 ≡ x4 → eqb b 42 ≡ x5 → eqb b 61 ≡ x6 →
-        cond w false (cond n false (cond c false
-        (isNone (cond x1 (some DOT) (cond x2 (some SEMI)
-        (cond x3 (some OPEN) (cond x4 (some CLOSE) (cond x5 (some STAR) (cond x6 (some OTHER) none))))))))) ≡ true →
+    go : (w n c : Bool) (o : Option ℕ) → wordByte b ≡ w → blankByte b ≡ n → eqb b 58 ≡ c → markOf b ≡ o → not (w || (n || c)) && isNone o ≡ true →
         (blankByte b ≡ false) × (front i b bs ≡ oneByte none)
-    go true n c x1 x2 x3 x4 x5 x6 ew en ec e1 e2 e3 e4 e5 e6 h = (cc, cc)
-    go false true c x1 x2 x3 x4 x5 x6 ew en ec e1 e2 e3 e4 e5 e6 h = (cc, cc)
-    go false false true x1 x2 x3 x4 x5 x6 ew en ec e1 e2 e3 e4 e5 e6 h = (cc, cc)
-    go false false false true x2 x3 x4 x5 x6 ew en ec e1 e2 e3 e4 e5 e6 h = (cc, cc)
-    go false false false false true x3 x4 x5 x6 ew en ec e1 e2 e3 e4 e5 e6 h = (cc, cc)
-    go false false false false false true x4 x5 x6 ew en ec e1 e2 e3 e4 e5 e6 h = (cc, cc)
-    go false false false false false false true x5 x6 ew en ec e1 e2 e3 e4 e5 e6 h = (cc, cc)
-    go false false false false false false false true x6 ew en ec e1 e2 e3 e4 e5 e6 h = (cc, cc)
-    go false false false false false false false false true ew en ec e1 e2 e3 e4 e5 e6 h = (cc, cc)
-    go false false false false false false false false false ew en ec e1 e2 e3 e4 e5 e6 h = (en, rw (ew, e1, e2, e3, e4, e5, e6, ec))
+    go true n c o ew en ec eo h = (cc, cc)
+    go false true c o ew en ec eo h = (cc, cc)
+    go false false true o ew en ec eo h = (cc, cc)
+    go false false false (some k) ew en ec eo h = (cc, cc)
+    go false false false none ew en ec eo h = (en, rw (ew, ec, eo))
 
 -- The first token.
 lexed : (l i b : ℕ) (bs : List ℕ) (f : Front) → blankByte b ≡ false → front i b bs ≡ f → lexemes (suc l) (b ∷ bs) i ≡ at i (f .token) ∷ lexemes l (drop (f .more) bs) (suc (i + f .more))

@@ -1,7 +1,7 @@
 -- The rules against the parts before a token are the rules against the book kept of them.
 -- Assumes nothing.
 use mathlib.Core.Path.{_≡_, refl, sym, _∙_, ap, subst}
-use mathlib.Core.Bool.{Bool, true, false, cond}
+use mathlib.Core.Bool.{Bool, true, false, cond, _||_}
 use mathlib.Core.List.{List, [], _∷_, _++_, append-assoc, append-nil}
 use mathlib.Core.Option.{Option, none, some}
 use Prim.Native.Nat.{ℕ, suc, _+_}
@@ -117,10 +117,10 @@ unfolding fault breach
 breach-is us (part r t) =
     ap (λ (b : Book). fault b (part r t)) (book-is us)
     ∙ ap (λ (x : Bool). judged x (L.unknown (record { names = names us; counts = tallied us }) (view r .kinds) (wordOf t)) (view r .barred)
-    (cond (ltb depthLimit (view r .depth)) true (exceeds (view r .adds) (countedOn (view r) (tallied us))))) (again-is us (view r .declared) (wordOf t))
+    (ltb depthLimit (view r .depth) || exceeds (view r .adds) (countedOn (view r) (tallied us)))) (again-is us (view r .declared) (wordOf t))
     ∙ ap (λ (x : Bool). judged (again us (view r .declared) (wordOf t)) x (view r .barred)
-    (cond (ltb depthLimit (view r .depth)) true (exceeds (view r .adds) (countedOn (view r) (tallied us))))) (unknown-is us (view r .kinds) (wordOf t))
-    ∙ ap (λ (x : Bool). judged (again us (view r .declared) (wordOf t)) (unknown us (view r .kinds) (wordOf t)) (view r .barred) (cond (ltb depthLimit (view r .depth)) true x)) (over-is us r t)
+    (ltb depthLimit (view r .depth) || exceeds (view r .adds) (countedOn (view r) (tallied us)))) (unknown-is us (view r .kinds) (wordOf t))
+    ∙ ap (λ (x : Bool). judged (again us (view r .declared) (wordOf t)) (unknown us (view r .kinds) (wordOf t)) (view r .barred) (ltb depthLimit (view r .depth) || x)) (over-is us r t)
 
 pub notes-one : (b : Book) (us : List Part) (p : Part) → notes b (us ++ p ∷ []) ≡ note (notes b us) p
 notes-one b [] p = refl

@@ -1,27 +1,27 @@
 -- The reading and the definitions agree: on which tokens say which tree, and on the first refusal.
 -- Assumes nothing.
 use mathlib.Core.Path.{_≡_, refl, sym, _∙_, ap, ap₂, subst}
-use mathlib.Core.Bool.{false, false≢true}
+use mathlib.Core.Bool.{false≢true}
 use mathlib.Core.List.{List, [], _∷_, _++_, append-assoc, append-nil}
 use mathlib.Core.Option.{Option, none, some, Option·none-ne-some, Option·some-injective}
 use Prim.Native.Nat.{ℕ}
 use mathlib.Core.Logic.{_↔_}
 use Rattle.notation.specs.Tokens.{Token, Lexeme, at}
 use Rattle.notation.specs.Notation.{Role, Part, part, Tree, TextIs}
-use Rattle.notation.specs.Rules.{Kept}
+use Rattle.notation.specs.Rules.{elem, Kept}
 use Rattle.notation.specs.Texts.{Spells, spellsNone, spells, Says, Begins, Refused, atByte, atToken, atEnd, atRule, Faultless}
 use Rattle.notation.specs.working.Ledger.{Book, blankBook, note, notes, fault, Clean}
 use Rattle.notation.specs.working.Table.{whole, Reads, State, step, ending, firsts}
 use Rattle.notation.specs.working.Machine.{Outcome, read, refused, atLast, ruled, stepped, reads, start, reading}
-use Rattle.notation.proofs.Complete.{complete}
-use Rattle.notation.proofs.Check.{ll1-table}
-use Rattle.notation.proofs.Machine.{Good, step-reads, ending-reads, reads-ending, reads-step}
-use Rattle.notation.proofs.Spelt.{text-is}
-use Rattle.notation.proofs.Trees.{tree-of}
+use Rattle.notation.proofs.Completion.{complete}
+use Rattle.notation.proofs.TableLL1.{ll1-table}
+use Rattle.notation.proofs.TableRuns.{Good, step-reads, ending-reads, reads-ending, reads-step}
+use Rattle.notation.proofs.NotationToTable.{text-is}
+use Rattle.notation.proofs.TableToNotation.{tree-of}
 use Rattle.notation.proofs.Ledger.{breach-is, notes-one, clean-kept}
 
 start-good : Good (whole ∷ [])
-unfolding firsts
+unfolding firsts elem
 start-good = (λ k e. absurd (false≢true e), tt)
 
 abbrev Stands : State → List Part → Tree → Type 0

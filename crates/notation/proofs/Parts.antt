@@ -1,7 +1,7 @@
 -- What each part of a text that keeps the rules obeys.
 -- Assumes nothing.
 use mathlib.Core.Path.{_≡_, refl, ap}
-use mathlib.Core.Bool.{Bool, true, false, cond}
+use mathlib.Core.Bool.{Bool, true, false, cond, _||_}
 use mathlib.Core.List.{List, [], _∷_, _++_}
 use mathlib.Core.Option.{Option, none, some}
 use Prim.Native.Nat.{ℕ}
@@ -16,7 +16,7 @@ pub record Obeys (us : List Part) (r : Role) (t : Token) : Type 0 where
   pub fresh : again us (view r .declared) (wordOf t) ≡ false
   pub known : unknown us (view r .kinds) (wordOf t) ≡ false
   pub unbarred : view r .barred ≡ false
-  pub within : cond (ltb depthLimit (view r .depth)) true (over (view r .adds) (us ++ part r t ∷ [])) ≡ false
+  pub within : ltb depthLimit (view r .depth) || over (view r .adds) (us ++ part r t ∷ []) ≡ false
 
 pub obeys : (us : List Part) (r : Role) (t : Token) → breach us (part r t) ≡ none → Obeys us r t
 unfolding breach

@@ -1,7 +1,7 @@
 -- Where the first refusal of a text stands, and which numbers it can have.
 -- Assumes nothing.
 use mathlib.Core.Path.{_≡_}
-use mathlib.Core.Bool.{Bool, true, false, cond}
+use mathlib.Core.Bool.{Bool, true, false, cond, _||_}
 use mathlib.Core.List.{List, [], _∷_, _++_}
 use mathlib.Core.Option.{Option, none, some}
 use Prim.Native.Nat.{ℕ, _+_, _≤_, _<_}
@@ -37,7 +37,7 @@ rule-number : (us : List Part) (p : Part) (n : ℕ) → breach us p ≡ some n �
 unfolding breach
 rule-number us (part r t) n h =
     go (again us (view r .declared) (wordOf t)) (unknown us (view r .kinds) (wordOf t)) (view r .barred)
-    (cond (ltb depthLimit (view r .depth)) true (over (view r .adds) (us ++ part r t ∷ []))) h
+    (ltb depthLimit (view r .depth) || over (view r .adds) (us ++ part r t ∷ [])) h
   where
     go : (a b c d : Bool) → cond a (some 4) (cond b (some 5) (cond c (some 6) (cond d (some 7) none))) ≡ some n → (4 ≤ n) × (n ≤ 7)
     go true b c d e = let q : 4 ≡ n = cc in (omega arith, omega arith)

@@ -75,7 +75,7 @@ pub then-ruling : {A B : Type 0} (i : ℕ) (o : Option ℕ) (g : Got A) (k : A �
 then-ruling i none g k = refl
 then-ruling i (some n) g k = refl
 
--- The andReader is a factor and thenReads the loop; the orReader an andReader and thenReads the loop.
+-- A term is a factor and then the loop over `and`; an expression is a term and then the loop over `or`.
 pub and-level-is : (len : ℕ) (m : Mode) (d : ℕ) (ts : List Lexeme) (b : Book) → andReader len m d ts b ≡ thenReads (reader len (factor m d) ts b) (λ f ts b. andLoop len m d f ts b)
 unfolding sequence
 and-level-is len m d ts b = refl
@@ -84,7 +84,7 @@ pub or-level-is : (len : ℕ) (m : Mode) (d : ℕ) (ts : List Lexeme) (b : Book)
 unfolding sequence
 or-level-is len m d ts b = simp then-then
 
--- A turn of the andLoop.
+-- A turn of the loop over `and`.
 pub and-loop-turn : (len : ℕ) (m : Mode) (d : ℕ) (e : Expr) (i : ℕ) (ts : List Lexeme) (b : Book) →
     andLoop len m d e (at i (some (sign AND)) ∷ ts) b
     ≡ ruling i (fault b (part joins (sign AND)))
@@ -92,7 +92,7 @@ pub and-loop-turn : (len : ℕ) (m : Mode) (d : ℕ) (e : Expr) (i : ℕ) (ts : 
 unfolding sequence find lines skips
 and-loop-turn len m d e i ts b = rw (reader-token len (ands m d)) (simp (then-ruling, then-then))
 
--- A turn of the orLoop.
+-- A turn of the loop over `or`.
 pub or-loop-turn : (len : ℕ) (m : Mode) (d : ℕ) (e : Expr) (i : ℕ) (ts : List Lexeme) (b : Book) →
     orLoop len m d e (at i (some (sign OR)) ∷ ts) b
     ≡ ruling i (fault b (part joins (sign OR))) (thenReads (andReader len m d ts (note b (part joins (sign OR)))) (λ f ts b. orLoop len m d (or′ e f) ts b))

@@ -1,7 +1,7 @@
 -- The names that a text uses are among those that it declares, so those of its model are in range.
 -- Assumes nothing.
 use mathlib.Core.Path.{_≡_, refl, sym, _∙_}
-use mathlib.Core.Bool.{Bool, true, false, cond, false≢true}
+use mathlib.Core.Bool.{Bool, true, false, cond, false≢true, _&&_, _||_, or-false}
 use mathlib.Core.List.{List, [], _∷_, _++_, map}
 use mathlib.Core.Option.{Option, none, some}
 use Prim.Native.Nat.{ℕ, suc, _<_}
@@ -21,10 +21,6 @@ use Rattle.notation.proofs.Parts.{obeys, from-splits, parted, text-part
 
 -- ---- the names that parts declare
 
-pub or-false : (x : Bool) → cond x true false ≡ x
-or-false true = refl
-or-false false = refl
-
 names-both : (ps qs : List Part) → names (ps ++ qs) ≡ names ps ++ names qs
 unfolding names
 names-both [] qs = refl
@@ -34,28 +30,28 @@ names-both (part r t ∷ ps) qs = rw (names-both ps qs) (go (view r .declared))
     go none = refl
     go (some s) = refl
 
-has-both : (f : Kind → Bool) (w : Word) (ns ms : List (Word × Kind)) → has (ns ++ ms) f w ≡ cond (has ns f w) true (has ms f w)
+has-both : (f : Kind → Bool) (w : Word) (ns ms : List (Word × Kind)) → has (ns ++ ms) f w ≡ has ns f w || has ms f w
 unfolding has
 has-both f w [] ms = refl
-has-both f w (n ∷ ns) ms = go (cond (f (n .1)) (sameWord w (n .0)) false) (has-both f w ns ms)
+has-both f w (n ∷ ns) ms = go (f (n .1) && sameWord w (n .0)) (has-both f w ns ms)
   where
-    go : (x : Bool) → has (ns ++ ms) f w ≡ cond (has ns f w) true (has ms f w) → cond x true (has (ns ++ ms) f w) ≡ cond (cond x true (has ns f w)) true (has ms f w)
+    go : (x : Bool) → has (ns ++ ms) f w ≡ has ns f w || has ms f w → x || has (ns ++ ms) f w ≡ (x || has ns f w) || has ms f w
     go true e = refl
     go false e = e
 
-parts-have : (f : Kind → Bool) (w : Word) (ps qs : List Part) → has (names (ps ++ qs)) f w ≡ cond (has (names ps) f w) true (has (names qs) f w)
+parts-have : (f : Kind → Bool) (w : Word) (ps qs : List Part) → has (names (ps ++ qs)) f w ≡ has (names ps) f w || has (names qs) f w
 parts-have f w ps qs = rw (names-both ps qs) (has-both f w (names ps) (names qs))
 
-declared-have : (f : Kind → Bool) (w : Word) (s : Kind) (ns : List Name) → has (names (declared s ns)) f w ≡ cond (f s) (among w (wordsOf ns)) false
+declared-have : (f : Kind → Bool) (w : Word) (s : Kind) (ns : List Name) → has (names (declared s ns)) f w ≡ f s && among w (wordsOf ns)
 unfolding names has view among
 declared-have f w s [] = go (f s)
   where
-    go : (x : Bool) → false ≡ cond x false false
+    go : (x : Bool) → false ≡ x && false
     go true = refl
     go false = refl
 declared-have f w s (n ∷ ns) = rw (declared-have f w s ns) (go (f s))
   where
-    go : (x : Bool) → cond (cond x (sameWord w (n .word)) false) true (cond x (among w (wordsOf ns)) false) ≡ cond x (cond (sameWord w (n .word)) true (among w (wordsOf ns))) false
+    go : (x : Bool) → (x && sameWord w (n .word)) || (x && among w (wordsOf ns)) ≡ x && (sameWord w (n .word) || among w (wordsOf ns))
     go true = refl
     go false = refl
 
@@ -113,7 +109,7 @@ several-silent (andThen {ps = ps} x y) = silent-both ps _ (command-silent x) (se
 
 -- The word is among the shared names ws, if f holds of those, or among the row names vs, if f holds of those.
 abbrev found : List Name → List Name → (Kind → Bool) → Word → Bool
-found ws vs f w = cond (cond (f sharedName) (among w (wordsOf ws)) false) true (cond (f rowName) (among w (wordsOf vs)) false)
+found ws vs f w = (f sharedName && among w (wordsOf ws)) || (f rowName && among w (wordsOf vs))
 
 -- The parts declare the shared names ws and the row names vs.
 abbrev Declares : List Name → List Name → List Part → Type 0
@@ -151,18 +147,18 @@ unfolding among placeOf
 place-lt w [] h = absurd (false≢true h)
 place-lt w (n ∷ ns) h = go (sameWord w (n .word)) h (place-lt w ns)
   where
-    go : (x : Bool) → cond x true (among w (wordsOf ns)) ≡ true → (among w (wordsOf ns) ≡ true → placeOf w (wordsOf ns) < length ns) → cond x 0 (suc (placeOf w (wordsOf ns))) < suc (length ns)
+    go : (x : Bool) → x || among w (wordsOf ns) ≡ true → (among w (wordsOf ns) ≡ true → placeOf w (wordsOf ns) < length ns) → cond x 0 (suc (placeOf w (wordsOf ns))) < suc (length ns)
     go true h rec = omega arith
     go false h rec = let e = rec h in omega arith
 
 -- ---- what is said is in range
 
 module _ (ws vs : List Name) where
-  name-scoped : (b : Bool) (w : Word) → cond (among w (wordsOf ws)) true (cond b (among w (wordsOf vs)) false) ≡ true → Scoped (length ws) (cond b (length vs) 0) (nameOf (wordsOf ws) (wordsOf vs) w)
+  name-scoped : (b : Bool) (w : Word) → among w (wordsOf ws) || (b && among w (wordsOf vs)) ≡ true → Scoped (length ws) (cond b (length vs) 0) (nameOf (wordsOf ws) (wordsOf vs) w)
   unfolding nameOf
   name-scoped b w h = go (among w (wordsOf ws)) refl b h
     where
-      go : (x : Bool) → among w (wordsOf ws) ≡ x → (b : Bool) → cond x true (cond b (among w (wordsOf vs)) false) ≡ true →
+      go : (x : Bool) → among w (wordsOf ws) ≡ x → (b : Bool) → x || (b && among w (wordsOf vs)) ≡ true →
           Scoped (length ws) (cond b (length vs) 0) (cond x (M.shared (placeOf w (wordsOf ws))) (M.row (placeOf w (wordsOf vs))))
       go true e b h = place-lt w ws e
       go false e true h = place-lt w vs h

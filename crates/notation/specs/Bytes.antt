@@ -1,6 +1,6 @@
 -- Bytes: a written text as its bytes, and the bytes that a text may have.
 -- Assumes nothing.
-use mathlib.Core.Bool.{Bool, true, false, cond}
+use mathlib.Core.Bool.{Bool, true, false, _&&_, _||_}
 use mathlib.Core.List as L
 use mathlib.Core.List.{List}
 use Prim.Native.Nat.{ℕ}
@@ -15,24 +15,24 @@ bytes (c ∷ s) = L._∷_ (code c) (bytes s)
 
 -- From a to b, both included.
 abbrev pub between : ℕ → ℕ → ℕ → Bool
-between a b x = cond (leb a x) (leb x b) false
+between a b x = leb a x && leb x b
 
 -- `a` to `z` and `A` to `Z`.
 abbrev pub letter : ℕ → Bool
-letter b = cond (between 97 122 b) true (between 65 90 b)
+letter b = between 97 122 b || between 65 90 b
 
 -- A letter, a digit or an underscore.
 abbrev pub wordByte : ℕ → Bool
-wordByte b = cond (letter b) true (cond (between 48 57 b) true (eqb b 95))
+wordByte b = letter b || (between 48 57 b || eqb b 95)
 
 -- A space or a newline.
 abbrev pub blankByte : ℕ → Bool
-blankByte b = cond (eqb b 32) true (eqb b 10)
+blankByte b = eqb b 32 || eqb b 10
 
 -- The test holds of every byte.
 abbrev pub all : (ℕ → Bool) → List ℕ → Bool
 all f L.[] = true
-all f (L._∷_ b bs) = cond (f b) (all f bs) false
+all f (L._∷_ b bs) = f b && all f bs
 
 -- There is a first byte, and the test holds of it.
 abbrev pub begins : (ℕ → Bool) → List ℕ → Bool
@@ -44,4 +44,4 @@ unfoldable pub sameWord : List ℕ → List ℕ → Bool
 sameWord L.[] L.[] = true
 sameWord L.[] (L._∷_ b v) = false
 sameWord (L._∷_ a w) L.[] = false
-sameWord (L._∷_ a w) (L._∷_ b v) = cond (eqb a b) (sameWord w v) false
+sameWord (L._∷_ a w) (L._∷_ b v) = eqb a b && sameWord w v

@@ -5,6 +5,7 @@ use mathlib.Core.Path.{_≡_}
 use mathlib.Core.List.{List, [], _∷_}
 use Prim.Native.Nat.{ℕ, suc, _+_, _≤_, _<_, max}
 use lib.ListN.{length}
+use Rattle.notation.specs.Rules.{SHARED-NAMES, ROW-NAMES, NAMES, COMMANDS, STARS, limitOf}
 use Rattle.notation.specs.Model.{Expr, lit, star, shared, row, neg, conj, disj, RowItem, skipRow, putRow, Item, skip, put, for, Command, Clause, Model, Star, outside, starsExpr, stars}
 use Rattle.notation.specs.Layout.{layoutOf, longestCode}
 
@@ -94,12 +95,12 @@ pub record Regular (m : Model) : Type 0 where
   pub keepEach : Starless (m .keep .each)
   pub numbered : Every (λ k. NumberedFrom 0 (stars k)) (m .commands)
   -- it has no more names, commands and stars than the limits allow
-  pub fewShared : m .sharedNames ≤ 8
-  pub fewRow : m .rowNames ≤ 10
-  pub fewNames : m .sharedNames + m .rowNames ≤ 12
+  pub fewShared : m .sharedNames ≤ limitOf SHARED-NAMES
+  pub fewRow : m .rowNames ≤ limitOf ROW-NAMES
+  pub fewNames : m .sharedNames + m .rowNames ≤ limitOf NAMES
   pub someCommand : 1 ≤ length (m .commands)
-  pub fewCommands : length (m .commands) ≤ 16
-  pub fewStars : Every (λ k. length (stars k) ≤ 8) (m .commands)
+  pub fewCommands : length (m .commands) ≤ limitOf COMMANDS
+  pub fewStars : Every (λ k. length (stars k) ≤ limitOf STARS) (m .commands)
   -- its expressions are not deep
   pub lowStart : Low (m .start .whole) × Low (m .start .each)
   pub lowKeep : Low (m .keep .whole) × Low (m .keep .each)

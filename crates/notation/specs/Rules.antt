@@ -1,7 +1,7 @@
 -- The rules on names, stars and limits: each is a test of one token, in its role, against the parts that stand before it.
 -- Assumes nothing.
 use mathlib.Core.Path.{_≡_}
-use mathlib.Core.Bool.{Bool, true, false, cond, not}
+use mathlib.Core.Bool.{Bool, true, false, cond, not, _&&_, _||_}
 use mathlib.Core.List.{List, [], _∷_, _++_}
 use mathlib.Core.Option.{Option, none, some}
 use Prim.Native.Nat.{ℕ, _+_}
@@ -11,6 +11,7 @@ use Rattle.notation.specs.Bytes.{sameWord}
 use Rattle.notation.specs.Tokens.{Token, sign, name, Word}
 use Rattle.notation.specs.Notation.{Kind, sharedName, rowName, commandName, Mode, Role, quiet, declares, uses, constant, chance, joins, negates, opens, target, beginsItem, beginsCommand, Part, part}
 
+-- The two kinds are one.
 unfoldable pub sameKind : Kind → Kind → Bool
 sameKind sharedName sharedName = true
 sameKind sharedName rowName = false
@@ -53,6 +54,10 @@ STARS = 6
 -- The limits: shared names, row names, both together, commands, items, expression nodes, and stars in a command.
 abbrev pub limits : List ℕ
 limits = 8 ∷ 10 ∷ 12 ∷ 16 ∷ 256 ∷ 1024 ∷ 8 ∷ []
+
+-- The limit on what is counted at place k.
+abbrev pub limitOf : ℕ → ℕ
+limitOf k = getD limits k 0
 
 -- How deep parentheses and `not` may nest.
 abbrev pub depthLimit : ℕ
@@ -107,11 +112,12 @@ names (part r t ∷ ps) = named (view r .declared) (wordOf t) (names ps)
 -- Whether the word is among the names, with a kind for which the test holds.
 unfoldable pub has : List (Word × Kind) → (Kind → Bool) → Word → Bool
 has [] f w = false
-has (n ∷ ns) f w = cond (cond (f (n .1)) (sameWord w (n .0)) false) true (has ns f w)
+has (n ∷ ns) f w = (f (n .1) && sameWord w (n .0)) || has ns f w
 
+-- The number is in the list.
 unfoldable pub elem : ℕ → List ℕ → Bool
 elem k [] = false
-elem k (j ∷ js) = cond (eqb j k) true (elem k js)
+elem k (j ∷ js) = eqb j k || elem k js
 
 -- How many of the parts count as k.
 unfoldable pub count : ℕ → List Part → ℕ
@@ -130,7 +136,7 @@ total k ps = count k (cond (eqb k STARS) (thisCommand [] ps) ps)
 -- One of the counts ks is over its limit.
 unfoldable pub over : List ℕ → List Part → Bool
 over [] ps = false
-over (k ∷ ks) ps = cond (ltb (getD limits k 0) (total k ps)) true (over ks ps)
+over (k ∷ ks) ps = ltb (limitOf k) (total k ps) || over ks ps
 
 -- A name to be declared is declared already.
 abbrev pub again : List Part → Option Kind → Word → Bool
@@ -149,7 +155,7 @@ breach us (part r t) =
     cond (again us (view r .declared) (wordOf t)) (some 4)
     (cond (unknown us (view r .kinds) (wordOf t)) (some 5)
     (cond (view r .barred) (some 6)
-    (cond (cond (ltb depthLimit (view r .depth)) true (over (view r .adds) (us ++ part r t ∷ []))) (some 7)
+    (cond (ltb depthLimit (view r .depth) || over (view r .adds) (us ++ part r t ∷ [])) (some 7)
     none)))
 
 -- No token breaks a rule.

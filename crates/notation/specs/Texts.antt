@@ -1,7 +1,7 @@
 -- Texts: which texts say which model, and the first refusal of a text that says none.
 -- Assumes nothing.
 use mathlib.Core.Path.{_≡_}
-use mathlib.Core.Bool.{Bool, true, false, cond}
+use mathlib.Core.Bool.{Bool, true, false, cond, _||_}
 use mathlib.Core.List.{List, [], _∷_, _++_, map}
 use mathlib.Core.Option.{none, some}
 use Prim.Native.Nat.{ℕ, suc, _≤_, _<_}
@@ -21,7 +21,7 @@ placeOf w (v ∷ vs) = cond (sameWord w v) 0 (suc (placeOf w vs))
 
 unfoldable pub among : Word → List Word → Bool
 among w [] = false
-among w (v ∷ vs) = cond (sameWord w v) true (among w vs)
+among w (v ∷ vs) = sameWord w v || among w vs
 
 -- A part of a model, its stars numbered from some number on in text order, and the next number.
 pub record Numbered (A : Type 0) : Type 0 where

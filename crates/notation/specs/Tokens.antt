@@ -1,7 +1,7 @@
 -- Tokens: what the words and marks of a text are, and which tokens its bytes are cut into.
 -- Assumes nothing.
 use mathlib.Core.Path.{_≡_}
-use mathlib.Core.Bool.{Bool, true, false, cond}
+use mathlib.Core.Bool.{Bool, true, false, cond, not, _&&_, _||_}
 use mathlib.Core.List.{List, [], _∷_, _++_}
 use mathlib.Core.Option.{Option, none, some}
 use Prim.Native.Nat.{ℕ, suc, _+_}
@@ -141,9 +141,9 @@ abbrev pub isNone : {A : Type 0} → Option A → Bool
 isNone none = true
 isNone (some k) = false
 
--- A byte that is not allowed: no letter, digit, underscore, blank or mark.
+-- A byte that is not allowed: no letter, digit, underscore, blank, colon or other mark.
 abbrev pub barredByte : ℕ → Bool
-barredByte b = cond (wordByte b) false (cond (blankByte b) false (cond (eqb b 58) false (isNone (markOf b))))
+barredByte b = not (wordByte b || (blankByte b || eqb b 58)) && isNone (markOf b)
 
 -- What stands at a place: a token, or none for a byte that is not allowed and for a word that is too long.
 pub data Lexeme : Type 0 where

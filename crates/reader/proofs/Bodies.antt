@@ -1,6 +1,6 @@
 -- A command's body: `if`, and then a test with its two branches.
 -- Assumes nothing.
-use mathlib.Core.Path.{_≡_, refl, sym, ap, subst}
+use mathlib.Core.Path.{_≡_, refl, ap}
 use mathlib.Core.Bool.{true, false}
 use mathlib.Core.List.{List}
 use Prim.Native.Nat.{ℕ}
@@ -19,9 +19,9 @@ use Rattle.reader.specs.working.Expressions.{orAt}
 use Rattle.reader.specs.working.Items.{itemsWords}
 use Rattle.reader.specs.working.Sequences.{Tested, tested, testedWords, allItems}
 use Rattle.reader.specs.working.Commands.{bodyReader, BodySays}
-use Rattle.reader.proofs.Answers.{is-past}
-use Rattle.reader.proofs.Factors.{expected-ok, expected-bad}
-use Rattle.reader.proofs.Sequences.{says-from, sign-ready}
+use Rattle.reader.proofs.Moves.{is-past}
+use Rattle.reader.proofs.StoredCode.{says-of}
+use Rattle.reader.proofs.Sequences.{expected-ok, expected-bad, says-from, sign-ready}
 
 -- Where a command's test stands.
 abbrev pub inTable : Scope
@@ -39,12 +39,11 @@ module _ (text names : List ℕ) (l : Ledger) (c : Cursor) (r : Ready text l 3 c
 
   module _ (d : Cursor) (e : Expected text c 6 (Ok d)) where
     pub body-ready : Ready text l 3 d
-    body-ready = sign-ready text names l 3 6 c d (Ok d) r e refl
+    body-ready = sign-ready 6 r e refl
 
     pub body-says : (p a : List ℕ) (y : Parsed)
         → Says text names l (testedWords text names l (itemsWords text names l)) 3 d p
         (tested (length text) (allItems (length text)) 18 (orAt text names inTable l 16 d)) a y → BodySays text names l c p a y
     unfolding Expected
     body-says p a y h =
-        says-from text names l (testedWords text names l (itemsWords text names l)) 3 3 c d (c .items) (c .nodes) p G a y (is-past (e .1)) (omega arith) (omega arith) (omega arith)
-        (subst (λ (o : Got (Tested Item)). Says text names l (testedWords text names l (itemsWords text names l)) 3 d p o a y) (sym (ap rest (expected-ok text names l c 6 d (omega arith) e))) h)
+        says-from (is-past (e .1)) (says-of (ap rest (expected-ok text names l c 6 d (omega arith) e)) h) (omega arith) (omega arith) (omega arith)

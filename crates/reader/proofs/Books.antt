@@ -1,7 +1,7 @@
 -- What the rules say of a token by the cursor's counts, and the book after the token.
 -- Assumes nothing.
 use mathlib.Core.Path.{_≡_, refl}
-use mathlib.Core.Bool.{Bool, true, false, cond}
+use mathlib.Core.Bool.{Bool, true, false, cond, _||_}
 use mathlib.Core.List.{List, [], _∷_, _++_}
 use mathlib.Core.Option.{Option, none, some}
 use Prim.Native.Nat.{ℕ, suc, _+_, _≤_, _<_}
@@ -75,7 +75,7 @@ module _ (text names : List ℕ) (l : Ledger) (c : Cursor) where
   unfolding fault view tally elem exceeds
   chance-many t m h s = rw (h, lt-ltb 8 (suc (c .stars)) (omega arith)) (go (ltb 1024 (suc (c .nodes))))
     where
-      go : (x : Bool) → cond {A = Option ℕ} (cond x true true) (some 7) none ≡ some 7
+      go : (x : Bool) → cond {A = Option ℕ} (x || true) (some 7) none ≡ some 7
       go true = refl
       go false = refl
 
@@ -129,7 +129,7 @@ module _ (text names : List ℕ) (l : Ledger) (c : Cursor) where
     unfolding fault view tally elem exceeds nameCounts
     declares-many h k = go rows
       where
-        either : (x : Bool) → cond {A = Option ℕ} (cond x true true) (some 7) none ≡ some 7
+        either : (x : Bool) → cond {A = Option ℕ} (x || true) (some 7) none ≡ some 7
         either true = refl
         either false = refl
 

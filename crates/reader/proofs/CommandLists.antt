@@ -26,10 +26,10 @@ use Rattle.reader.specs.working.Names.{sharedWords, rowWords}
 use Rattle.reader.specs.working.Cursors.{bookOf}
 use Rattle.reader.specs.Read.{placed}
 use Rattle.reader.specs.working.Commands.{withCommands, Naming, titleAt, commandWords, starsIn, commandsAt, oneAt, Arrays, WroteArrays, WroteCommands, storedIn, Commanded, CommandsSay}
-use Rattle.reader.proofs.Done.{sets-append, wrote-none, wrote-behind}
+use Rattle.reader.proofs.StoredCode.{sets-append, wrote-none, wrote-behind}
 use Rattle.reader.proofs.Symbols.{listed-sign, passed}
 use Rattle.reader.proofs.NameLists.{placed-append, named-same, named-behind}
-use Rattle.reader.proofs.Commanding.{kept-shared, kept-row}
+use Rattle.reader.proofs.OneCommand.{kept-shared, kept-row}
 
 -- ---- what is stored of two lists
 

@@ -3,7 +3,7 @@
 use mathlib.Core.Path.{_≡_, refl, sym, ap, _∙_, subst}
 use mathlib.Core.Bool.{Bool, true, false, cond}
 use mathlib.Core.List.{List, [], _∷_}
-use mathlib.Core.Option.{none, some}
+use mathlib.Core.Option.{Option, none, some, Option·none-ne-some, Option·some-injective}
 use Prim.Native.Nat.{ℕ, zero, suc, _+_, _-_, _≤_, _<_}
 use native.Mathlib.Numerals.{add-one}
 use native.Mathlib.Omega.{arith}
@@ -12,11 +12,11 @@ use lib.ListN.{length, getD, drop, take, length-drop}
 use lib.Seq.{slice, slice-cons, slice-empty, drop-cons, length-slice, take-add, drop-at, length-take-le}
 use borrow.Author.Tests.{eq-eqb, ne-eqb, eqb-true, eqb-false, ltb-true, ltb-false, leb-true, leb-false, le-leb, lt-leb}
 use Rattle.notation.specs.Bytes.{letter, wordByte, begins}
-use Rattle.notation.specs.Tokens.{sign, name, Word, reserved, wordIn, plainWord, wordToken}
-use Rattle.notation.specs.working.Lexing.{span, beginsWith, Front, oneByte, mark, front, tokensFrom}
+use Rattle.notation.specs.Tokens.{sign, name, Word, reserved, wordIn, plainWord, wordToken, markOf, DOT, SEMI, OPEN, CLOSE, STAR, OTHER}
+use Rattle.notation.specs.working.Lexing.{span, beginsWith, Front, oneByte, signOf, mark, front, tokensFrom}
 use Rattle.notation.proofs.Lexes.{from-end, from-token}
 use Rattle.reader.specs.declared.pieces.Piece.{Piece}
-use Rattle.reader.specs.working.Pieces.{numberOr, pieceOf, tokenOf, listed, Fresh, blanks, plainPiece, numberedPiece, wordPiece, markPiece, pieceFrom, pieceAt}
+use Rattle.reader.specs.working.Pieces.{numberOr, pieceOf, tokenOf, listed, Fresh, blanks, plainPiece, numberedPiece, wordPiece, signPiece, markPiece, pieceFrom, pieceAt}
 use Rattle.reader.proofs.Runs.{word-run, run-step, run-within, Behind, behind-blanks}
 use Rattle.reader.proofs.Spelling.{token-long, token-reserved, token-plain, plain-other, plain-digit}
 
@@ -164,6 +164,16 @@ either-fronts : {text : List ℕ} {s : ℕ} {f g : Front} {t u : Piece} (x : Boo
 either-fronts true a b = a
 either-fronts false a b = b
 
+sign-of : (x : Bool) (n k : ℕ) (o : Option ℕ) → n < 24 → (o ≡ some k → k < 24) → cond x (some n) o ≡ some k → k < 24
+sign-of true n k o h g e = subst (λ (i : ℕ). i < 24) (Option·some-injective _ _ e) h
+sign-of false n k o h g e = g e
+
+-- The marks of one byte are signs.
+mark-sign : (b k : ℕ) → markOf b ≡ some k → k < 24
+mark-sign b k =
+    sign-of (eqb b 46) DOT k _ (omega arith) (sign-of (eqb b 59) SEMI k _ (omega arith) (sign-of (eqb b 40) OPEN k _ (omega arith) (sign-of (eqb b 41) CLOSE k _ (omega arith)
+    (sign-of (eqb b 42) STAR k _ (omega arith) (sign-of (eqb b 61) OTHER k none (omega arith) (λ e. absurd (Option·none-ne-some _ e)))))))
+
 module _ {text : List ℕ} {s : ℕ} (h : s < length text) where
   one-fronts : (k : ℕ) → k < 24 → Fronts text s (oneByte (some (sign k))) (pieceOf k s (s + 1) 3)
   one-fronts k i = sign-fronts k 0 (s + 1) i (omega arith) (omega arith)
@@ -186,14 +196,11 @@ module _ {text : List ℕ} {s : ℕ} (h : s < length text) where
 
   mark-fronts : (b next : ℕ) (bs : List ℕ) → beginsWith 61 bs ≡ eqb next 61 → s + 1 + length bs ≡ length text → Fronts text s (mark b bs) (markPiece b next s)
   unfolding mark markPiece
-  mark-fronts b next bs e l =
-      either-fronts (eqb b 46) (one-fronts 18 (omega arith))
-      (either-fronts (eqb b 59) (one-fronts 19 (omega arith))
-      (either-fronts (eqb b 40) (one-fronts 21 (omega arith))
-      (either-fronts (eqb b 41) (one-fronts 22 (omega arith))
-      (either-fronts (eqb b 42) (one-fronts 17 (omega arith))
-      (either-fronts (eqb b 61) (one-fronts 23 (omega arith))
-      (either-fronts (eqb b 58) (colon-fronts next bs e l) barred-fronts))))))
+  mark-fronts b next bs e l = either-fronts (eqb b 58) (colon-fronts next bs e l) (go (markOf b) (mark-sign b))
+    where
+      go : (o : Option ℕ) → ((k : ℕ) → o ≡ some k → k < 24) → Fronts text s (oneByte (signOf o)) (signPiece s o)
+      go none h = barred-fronts
+      go (some k) h = one-fronts k (h k refl)
 
 -- The next piece.
 

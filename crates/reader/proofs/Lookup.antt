@@ -1,7 +1,7 @@
 -- Looking a word up among the declared names, byte by byte or eight bytes at a time, finds its place among their words, which says whether it is a name and of which kind.
 -- Assumes nothing.
 use mathlib.Core.Path.{_≡_, refl, sym, ap, _∙_}
-use mathlib.Core.Bool.{Bool, true, false, cond}
+use mathlib.Core.Bool.{Bool, true, false, cond, _&&_, _||_, or-false, and-true}
 use mathlib.Core.List.{List, [], _∷_, _++_}
 use Prim.Native.Nat.{ℕ, zero, suc, _+_, _*_, _-_, _≤_, _<_}
 use native.Mathlib.Nat.{add-zero, zero-add, suc-add, sub-zero}
@@ -16,10 +16,9 @@ use Rattle.notation.specs.Tokens.{Word}
 use Rattle.notation.specs.Notation.{Kind, sharedName, rowName, commandName}
 use Rattle.notation.specs.Rules.{has}
 use Rattle.notation.specs.Texts.{among, placeOf}
-use Rattle.notation.proofs.Scopes.{or-false}
 use Rattle.reader.specs.declared.cursor.Ledger.{Ledger}
 use Rattle.reader.specs.working.Names.{Packed, window, wordAt, wordsIn, sharedWords, rowWords, commandWords, kinded, namesKept}
-use Rattle.reader.proofs.Spelling.{itself, lengths-differ}
+use Rattle.reader.proofs.Spelling.{lengths-differ}
 
 -- ---- windows of the text
 
@@ -56,7 +55,7 @@ module _ (text : List ℕ) (a b n : ℕ) where
   same-start = simp (add-zero, sub-zero)
 
   module _ (j : ℕ) (h : j < n) where
-    same-turn : sameFrom j ≡ cond (eqb (getD text (b + j) 0) (getD text (a + j) 0)) (sameFrom (j + 1)) false
+    same-turn : sameFrom j ≡ eqb (getD text (b + j) 0) (getD text (a + j) 0) && sameFrom (j + 1)
     unfolding sameWord window
     same-turn =
         let e : n - j ≡ suc (n - (j + 1)) = omega arith in
@@ -77,15 +76,15 @@ module _ (text : List ℕ) (a b n : ℕ) where
 -- ---- eight bytes at once
 
 -- The lowest digits of two numbers, and what is above them.
-peel : (x y p q : ℕ) → x < 256 → y < 256 → eqb (x + 256 * p) (y + 256 * q) ≡ cond (eqb x y) (eqb p q) false
+peel : (x y p q : ℕ) → x < 256 → y < 256 → eqb (x + 256 * p) (y + 256 * q) ≡ eqb x y && eqb p q
 peel x y p q h k = go (eqb x y) refl (eqb p q) refl
   where
-    go : (s : Bool) → eqb x y ≡ s → (t : Bool) → eqb p q ≡ t → eqb (x + 256 * p) (y + 256 * q) ≡ cond s t false
+    go : (s : Bool) → eqb x y ≡ s → (t : Bool) → eqb p q ≡ t → eqb (x + 256 * p) (y + 256 * q) ≡ s && t
     go true e true f = eq-eqb (x + 256 * p) (y + 256 * q) (omega (arith, eqb-true x y e, eqb-true p q f))
     go true e false f = ne-eqb (x + 256 * p) (y + 256 * q) (λ z. eqb-false p q f (omega (arith, eqb-true x y e, z)))
     go false e t f = ne-eqb (x + 256 * p) (y + 256 * q) (λ z. eqb-false x y e (omega (arith, z)))
 
-and-and : (x y z : Bool) → cond x (cond y z false) false ≡ cond (cond x y false) z false
+and-and : (x y z : Bool) → x && (y && z) ≡ (x && y) && z
 and-and true y z = refl
 and-and false y z = refl
 
@@ -106,12 +105,12 @@ packs-same text a b x y p q =
       peel _ _ _ _ (p .d4) (q .d4),
       peel _ _ _ _ (p .d5) (q .d5),
       peel _ _ _ _ (p .d6) (q .d6),
-      sym (itself (eqb (getD text (b + 7) 0) (getD text (a + 7) 0))),
+      and-true (eqb (getD text (b + 7) 0) (getD text (a + 7) 0)),
     ))
 
 module _ (text : List ℕ) (a b n : ℕ) where
   same-run : (m j : ℕ) → j + m ≤ n →
-      sameFrom text a b n j ≡ cond (sameWord (window text (b + j) m) (window text (a + j) m)) (sameFrom text a b n (j + m)) false
+      sameFrom text a b n j ≡ sameWord (window text (b + j) m) (window text (a + j) m) && sameFrom text a b n (j + m)
   unfolding sameWord window
   same-run zero j h = rw (add-zero j)
   same-run (suc m) j h =
@@ -124,7 +123,7 @@ module _ (text : List ℕ) (a b n : ℕ) where
       rw (f, g))
 
   module _ (j x y : ℕ) (h : j + 8 ≤ n) (p : Packed text (b + j) x) (q : Packed text (a + j) y) where
-    same-eight : sameFrom text a b n j ≡ cond (eqb x y) (sameFrom text a b n (j + 8)) false
+    same-eight : sameFrom text a b n j ≡ eqb x y && sameFrom text a b n (j + 8)
     same-eight = same-run 8 j h ∙ rw (packs-same text (a + j) (b + j) x y p q)
 
     pub eight-no : (x ≡ y → ⊥) → false ≡ sameFrom text a b n j
@@ -135,7 +134,7 @@ module _ (text : List ℕ) (a b n : ℕ) where
 
 -- ---- the place of a word among words
 
-or-or : (x y z : Bool) → cond x true (cond y true z) ≡ cond (cond x true y) true z
+or-or : (x y z : Bool) → x || (y || z) ≡ (x || y) || z
 or-or true y z = refl
 or-or false y z = refl
 
@@ -154,11 +153,11 @@ module _ (w : Word) where
   place-among [] = refl
   place-among (v ∷ ws) = go (sameWord w v) (place-among ws)
     where
-      go : (x : Bool) → among w ws ≡ ltb (placeOf w ws) (length ws) → cond x true (among w ws) ≡ ltb (cond x 0 (suc (placeOf w ws))) (suc (length ws))
+      go : (x : Bool) → among w ws ≡ ltb (placeOf w ws) (length ws) → x || among w ws ≡ ltb (cond x 0 (suc (placeOf w ws))) (suc (length ws))
       go true e = sym (lt-ltb 0 (suc (length ws)) (omega arith))
       go false e = e ∙ sym (leb·suc-suc (suc (placeOf w ws)) (length ws))
 
-  pub among-append : (ws vs : List Word) → among w (ws ++ vs) ≡ cond (among w ws) true (among w vs)
+  pub among-append : (ws vs : List Word) → among w (ws ++ vs) ≡ among w ws || among w vs
   unfolding among
   among-append [] vs = refl
   among-append (v ∷ ws) vs = rw (among-append ws vs) (or-or (sameWord w v) (among w ws) (among w vs))
@@ -168,7 +167,7 @@ module _ (w : Word) where
   place-front [] vs h = cc
   place-front (v ∷ ws) vs h = go (sameWord w v) h (place-front ws vs)
     where
-      go : (x : Bool) → cond x true (among w ws) ≡ true → (among w ws ≡ true → placeOf w (ws ++ vs) ≡ placeOf w ws) → cond x 0 (suc (placeOf w (ws ++ vs))) ≡ cond x 0 (suc (placeOf w ws))
+      go : (x : Bool) → x || among w ws ≡ true → (among w ws ≡ true → placeOf w (ws ++ vs) ≡ placeOf w ws) → cond x 0 (suc (placeOf w (ws ++ vs))) ≡ cond x 0 (suc (placeOf w ws))
       go true h f = refl
       go false h f = ap suc (f h)
 
@@ -177,7 +176,7 @@ module _ (w : Word) where
   place-append [] vs h = sym (zero-add (placeOf w vs))
   place-append (v ∷ ws) vs h = go (sameWord w v) h (place-append ws vs)
     where
-      go : (x : Bool) → cond x true (among w ws) ≡ false → (among w ws ≡ false → placeOf w (ws ++ vs) ≡ length ws + placeOf w vs)
+      go : (x : Bool) → x || among w ws ≡ false → (among w ws ≡ false → placeOf w (ws ++ vs) ≡ length ws + placeOf w vs)
           → cond x 0 (suc (placeOf w (ws ++ vs))) ≡ suc (length ws) + placeOf w vs
       go true h f = cc
       go false h f = omega (arith, f h)
@@ -234,28 +233,27 @@ module _ (text names : List ℕ) (w : Word) (to : ℕ) where
 -- ---- the names with their kinds
 
 module _ (f : Kind → Bool) (w : Word) where
-  pub has-append : (xs ys : List (Word × Kind)) → has (xs ++ ys) f w ≡ cond (has xs f w) true (has ys f w)
+  pub has-append : (xs ys : List (Word × Kind)) → has (xs ++ ys) f w ≡ has xs f w || has ys f w
   unfolding has
   has-append [] ys = refl
-  has-append (x ∷ xs) ys = rw (has-append xs ys) (or-or (cond (f (x .1)) (sameWord w (x .0)) false) (has xs f w) (has ys f w))
+  has-append (x ∷ xs) ys = rw (has-append xs ys) (or-or (f (x .1) && sameWord w (x .0)) (has xs f w) (has ys f w))
 
-  pub has-kinded : (k : Kind) (ws : List Word) → has (kinded k ws) f w ≡ cond (f k) (among w ws) false
+  pub has-kinded : (k : Kind) (ws : List Word) → has (kinded k ws) f w ≡ f k && among w ws
   unfolding has among
   has-kinded k [] = go (f k)
     where
-      go : (x : Bool) → false ≡ cond x false false
+      go : (x : Bool) → false ≡ x && false
       go true = refl
       go false = refl
   has-kinded k (v ∷ ws) = rw (has-kinded k ws) (go (f k))
     where
-      go : (x : Bool) → cond (cond x (sameWord w v) false) true (cond x (among w ws) false) ≡ cond x (cond (sameWord w v) true (among w ws)) false
+      go : (x : Bool) → (x && sameWord w v) || (x && among w ws) ≡ x && (sameWord w v || among w ws)
       go true = refl
       go false = refl
 
 module _ (text names : List ℕ) (l : Ledger) (f : Kind → Bool) (w : Word) where
   has-kept : (x y z : Bool) → f sharedName ≡ x → f rowName ≡ y → f commandName ≡ z → has (namesKept text names l) f w ≡
-      cond (cond x (among w (sharedWords text names l)) false) true
-      (cond (cond y (among w (rowWords text names l)) false) true (cond z (among w (commandWords text names l)) false))
+      (x && among w (sharedWords text names l)) || ((y && among w (rowWords text names l)) || (z && among w (commandWords text names l)))
   unfolding namesKept
   has-kept x y z p q r = simp (has-append, has-kinded, p, q, r)
 

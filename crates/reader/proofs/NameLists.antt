@@ -24,8 +24,8 @@ use Rattle.reader.specs.working.Items.{kindOf}
 use Rattle.reader.specs.Read.{placed}
 use Rattle.reader.specs.working.Clauses.{grown, Listing, nameAt, listAt, Noted, WroteNames, NameSays, NamesSay}
 use Rattle.reader.proofs.Symbols.{listed-name, passed-by}
-use Rattle.reader.proofs.Answers.{Past, is-past}
-use Rattle.reader.proofs.Declaring.{shared-more, row-more}
+use Rattle.reader.proofs.Moves.{Past, is-past}
+use Rattle.reader.proofs.DeclaredNames.{shared-more, row-more}
 
 -- ---- one name behind others: the array, the ledger and the words
 

@@ -1,7 +1,7 @@
 -- A factor that is one token: a constant, a star or a name.
 -- Assumes nothing.
 use mathlib.Core.Path.{_≡_, refl, sym, ap, _∙_, subst}
-use mathlib.Core.Bool.{Bool, true, false, cond}
+use mathlib.Core.Bool.{Bool, true, false, cond, _||_}
 use mathlib.Core.List.{List, [], _∷_, _++_}
 use mathlib.Core.Option.{Option}
 use Prim.Native.Nat.{ℕ, _+_, _-_, _≤_, _<_}
@@ -27,12 +27,12 @@ use Rattle.reader.specs.declared.cursor.Parsed.{Parsed}
 use Rattle.reader.specs.declared.cursor.Parsed.the-variants.{Refused}
 use Rattle.reader.specs.working.Pieces.{nameIn}
 use Rattle.reader.specs.working.Names.{wordsIn, sharedWords, rowWords, namesKept}
-use Rattle.reader.specs.working.Cursors.{modeOf, bookOf, Ready}
+use Rattle.reader.specs.working.Cursors.{modeOf, bookOf, Ready, wasRefused}
 use Rattle.reader.specs.working.Expressions.{exprWords, SaysOperand, factorAt, Leaf, Kept}
 use Rattle.reader.proofs.Books.{constant-full, constant-fits, chance-barred, chance-many, chance-full, chance-fits, uses-unknown, uses-full, uses-fits, note-constant, note-chance, note-uses}
 use Rattle.reader.proofs.Symbols.{zero-is, one-is, star-is, name-is}
 use Rattle.reader.proofs.Lookup.{words-length, words-append, place-among, place-le, place-front, place-append, among-append, shared-name, table-name}
-use Rattle.reader.proofs.Done.{wrote-none, says-bad}
+use Rattle.reader.proofs.StoredCode.{wrote-none}
 use Rattle.reader.proofs.Factors.{leaf-says}
 
 -- ---- the name that a look-up finds
@@ -92,7 +92,7 @@ module _ (text names : List ℕ) (l : Ledger) (w : Word) where
       go (among w ws) refl (sym (among-append w ws vs) ∙ ap (among w) (sym both-words) ∙ subst (λ (k : ℕ). among w (wordsIn text names 0 k) ≡ true) e a)
       (h ∙ ap (λ (k : ℕ). placeOf w (wordsIn text names 0 k)) e ∙ ap (placeOf w) both-words)
     where
-      go : (x : Bool) → among w ws ≡ x → cond x true (among w vs) ≡ true → i ≡ placeOf w (ws ++ vs) → exprCode (l .shared) (cond x (M.shared (placeOf w ws)) (M.row (placeOf w vs))) ≡ (32 + i) ∷ []
+      go : (x : Bool) → among w ws ≡ x → x || among w vs ≡ true → i ≡ placeOf w (ws ++ vs) → exprCode (l .shared) (cond x (M.shared (placeOf w ws)) (M.row (placeOf w vs))) ≡ (32 + i) ∷ []
       go true q t p = ap (λ (k : ℕ). (32 + k) ∷ []) (sym (p ∙ place-front w ws vs q))
       go false q t p = ap (λ (k : ℕ). (32 + k) ∷ []) (sym (p ∙ place-append w ws vs q ∙ ap (λ (k : ℕ). k + placeOf w vs) (words-length text names 0 (l .shared))))
 
@@ -139,7 +139,7 @@ module _ (text names : List ℕ) (sc : Scope) (l : Ledger) (depth : ℕ) (c : Cu
   -- Refused, with nothing stored.
   pub operand-bad : (p : List ℕ) (n i : ℕ) → G ≡ stop n i → SaysOperand text names l c p G p (Refused n i)
   unfolding Kept
-  operand-bad p n i e = (says-bad text names l (exprWords text names l) 0 c p G p n i e wrote-none, refl)
+  operand-bad p n i e = (wasRefused e wrote-none, refl)
 
   pub star-barred : t .kind ≡ 17 → sc .stars ≡ false → G ≡ stop 6 (t .start)
   star-barred u s = star-is text t (length text) m (16 - depth) (bookOf text names l c) u

@@ -15,7 +15,7 @@ use Rattle.notation.proofs.Texts.{says-answer, refused-answer, says-iff-answer,
 use Rattle.reader.specs.declared.Answer.the-variants.{Read, Refused}
 use Rattle.reader.specs.declared.Reading.{Reading}
 use Rattle.reader.specs.Read.{codeOf, emptyCode, readingIn, readingOf}
-use Rattle.reader.specs.Answers.{Wording, model, returned, wordingIn, wordingOf}
+use Rattle.reader.specs.Answers.{model, returned, wordingIn, wordingOf}
 use Rattle.reader.specs.Promises.{Counted, Answers, ReadAnswers}
 
 -- The reading of a text that says a tree, and of one that is refused.

@@ -28,21 +28,10 @@ use Rattle.reader.specs.working.Cursors.{modeOf, bookOf, Expected, Ready
 use Rattle.reader.specs.working.Expressions.{exprWords, SaysExpr, orAt}
 use Rattle.reader.specs.working.Clauses.{fixedIn, segmentAt, SegmentSays, clauseWords, clauseEnds, clauseAt, ClauseSays}
 use Rattle.reader.proofs.Symbols.{listed-sign, missing, lit-missing}
-use Rattle.reader.proofs.Done.{wrote-none, wrote-same, said-ok, said-bad, done-wrote, done-then, done-ready, then-bad}
-use Rattle.reader.proofs.Answers.{expected-said, is-past}
-use Rattle.reader.proofs.Factors.{expected-ok, expected-bad}
+use Rattle.reader.proofs.StoredCode.{wrote-none, wrote-same, is-read, is-refused, said-ok, said-bad, says-of, done-then, done-ready, then-bad}
+use Rattle.reader.proofs.Moves.{expected-said, is-past}
 use Rattle.reader.specs.working.Sequences.{Pair, pairOf, paired, pairing, signedBy}
-use Rattle.reader.proofs.Sequences.{says-pair, pair-bad, says-map, sign-done, sign-stops, says-from}
-
--- ---- signs before and after what is read
-
-module _ (text names : List ℕ) (l : Ledger) where
-  -- A sign after what was read.
-  says-sign : {A : Type 0} (code : ℕ → A → Numbered (List ℕ)) (x : ℕ) (s : Cursor) (p : List ℕ) (g : Got A) (a : List ℕ) (c : Cursor) (k : ℕ) (y : Parsed) → k < 24 →
-      Done text names l code x s p g a c → Expected text c k y → Says text names l code x s p (signedBy (length text) k g) a y
-  unfolding Says
-  says-sign code x s p g a c k (Refused n i) h d e = (sign-stops text names l code x s p g a k c n i d e, done-wrote text names l code x s p g a c d)
-  says-sign code x s p g a c k (Ok v) h d e = sign-done text names l code x s p g a k h c v d e
+use Rattle.reader.proofs.Sequences.{expected-ok, expected-bad, pair-done, pair-bad, says-map, says-sign, says-from}
 
 -- ---- a segment
 
@@ -70,7 +59,7 @@ module _ (text names : List ℕ) (l : Ledger) (rows : Bool) (kind i : ℕ) (c : 
     pub sign-bad : (n j : ℕ) → sign ≡ Refused n j → SaysAt p e sign
     sign-bad n j f =
         segment-stops p sign n j f
-        (then-bad (λ u ts b. orReader (length text) (fixedIn rows) 0 ts b) _ At n j refl (expected-bad text names l c kind n j (r .fresh) (expected-said text c kind sign (Refused n j) h f)))
+        (then-bad (λ u ts b. orReader (length text) (fixedIn rows) 0 ts b) refl (expected-bad text names l c kind n j (r .fresh) (expected-said text c kind sign (Refused n j) h f)))
         wrote-none
 
     module _ (v : Cursor) (f : sign ≡ Ok v) where
@@ -97,17 +86,16 @@ module _ (text names : List ℕ) (l : Ledger) (rows : Bool) (kind i : ℕ) (c : 
         signed-says : SaysExpr text names l c p At a read
         unfolding Expected
         signed-says =
-            subst (λ (o : Got Expr). SaysExpr text names l c p o a read) (sym goes)
-            (says-from text names l (exprWords text names l) 0 0 c v (c .items) (c .nodes) p (orAt text names sc l 16 v) a read (is-past (there .1)) (omega arith) (omega arith) (omega arith) q)
+            says-of goes (says-from (is-past (there .1)) q (omega arith) (omega arith) (omega arith))
 
         pub read-bad : (n j : ℕ) → read ≡ Refused n j → SaysAt a e read
         read-bad n j g =
-            let k = said-bad text names l (exprWords text names l) 0 c p At a read n j signed-says g in
+            let k = said-bad signed-says g in
             segment-stops a read n j g (k .0) (k .1)
 
         module _ (d : Cursor) (g : read ≡ Ok d) where
           done : Done text names l (exprWords text names l) 0 c p At a d
-          done = said-ok text names l (exprWords text names l) 0 c p At a read d signed-says g
+          done = said-ok signed-says g
 
           pub read-small : d .emitted < 65536
           read-small = omega (arith, r .room, r .commands, done .level, done .nodes, done .items)
@@ -167,7 +155,7 @@ module _ (text names : List ℕ) (l : Ledger) (kind i : ℕ) (c : Cursor) (r : R
     pub whole-bad : (n j : ℕ) → whole ≡ Refused n j → ClauseSays text names l kind i c p e a₁ e₁ whole
     whole-bad n j f =
         let k = segment-bad text names l false kind i c p e a₁ e₁ whole n j s₁ f in
-        clause-stops p e a₁ e₁ whole n j f (pair-bad text names l (segmentAt text names l false kind c) each n j (k .0)) (k .1 .0) (wrote-same (k .1 .1) wrote-none)
+        clause-stops p e a₁ e₁ whole n j f (pair-bad each (k .0)) (k .1 .0) (wrote-same (k .1 .1) wrote-none)
 
     module _ (m : Cursor) (f₁ : whole ≡ Ok m) where
       -- What the first segment gave; the second follows below.
@@ -175,7 +163,7 @@ module _ (text names : List ℕ) (l : Ledger) (kind i : ℕ) (c : Cursor) (r : R
       first = segment-ok text names l false kind i c p e a₁ e₁ whole m s₁ f₁
 
       pub middle-ready : Ready text l 0 m
-      middle-ready = done-ready text names l words 0 c p (segmentAt text names l false kind c) a₁ 0 m r (first .0)
+      middle-ready = done-ready (first .0) 0 r
 
       module _ (a₂ e₂ : List ℕ) (last : Parsed) (s₂ : SegmentSays text names l true 4 (i + 1) m a₁ e₁ a₂ e₂ last) where
         pub each-bad : (n j : ℕ) → last ≡ Refused n j → ClauseSays text names l kind i c p e a₂ e₂ last
@@ -183,7 +171,7 @@ module _ (text names : List ℕ) (l : Ledger) (kind i : ℕ) (c : Cursor) (r : R
             let k = segment-bad text names l true 4 (i + 1) m a₁ e₁ a₂ e₂ last n j s₂ f in
             clause-stops p e a₂ e₂ last n j f
             (ap (λ (o : Got Expr). pairing o each) (first .0 .says) ∙ ap (λ (o : Got Expr). thenReads o (λ v ts b. got (pairOf (first .0 .tree) v) ts b)) (k .0))
-            (done-then text names l words 0 c p (segmentAt text names l false kind c) a₁ m a₂ (first .0) (k .1 .0))
+            (done-then (first .0) (k .1 .0))
             (record { words = m .emitted ∷ []; is = k .1 .1 ∙ first .1 })
 
         module _ (d : Cursor) (f₂ : last ≡ Ok d) where
@@ -191,13 +179,11 @@ module _ (text names : List ℕ) (l : Ledger) (kind i : ℕ) (c : Cursor) (r : R
           second = segment-ok text names l true 4 (i + 1) m a₁ e₁ a₂ e₂ last d s₂ f₂
 
           done-both : Done text names l (paired words words) 0 c p both a₂ d
-          unfolding Says
-          done-both = says-pair text names l words words 0 0 c m p a₁ (segmentAt text names l false kind c) each (first .0) a₂ (Ok d) (second .0)
+          done-both = pair-done each (first .0) (second .0)
 
           says-all : (y : Parsed) → Expected text d 18 y → Says text names l (clauseWords text names l) 0 c p (clauseAt text names l kind c) a₂ y
           says-all y h =
-              says-map text names l (paired words words) (clauseWords text names l) 0 c p (signedBy (length text) 18 both) (clauseAt text names l kind c) made a₂ y clause-is (λ v. refl)
-              (says-sign text names l (paired words words) 0 c p both a₂ d 18 y (omega arith) done-both h)
+              says-map made clause-is (says-sign done-both 18 (omega arith) h) (λ v. refl)
 
           abbrev tree : Clause
           tree = clause′ (first .0 .tree) (second .0 .tree)
@@ -216,11 +202,11 @@ module _ (text names : List ℕ) (l : Ledger) (kind i : ℕ) (c : Cursor) (r : R
               ∙ ap (λ (k : ℕ). c .emitted + length (words (c .stars) (first .0 .tree) .is) + length (words k (second .0 .tree) .is)) (first .0 .numbered))
 
           pub clause-says : (y : Parsed) → Expected text d 18 y → ClauseSays text names l kind i c p e a₂ e₂ y
-          unfolding Says ClauseSays
+          unfolding ClauseSays
           clause-says (Refused n j) h =
-              let k : Says text names l (clauseWords text names l) 0 c p (clauseAt text names l kind c) a₂ (Refused n j) = says-all (Refused n j) h in
+              let k = is-refused (says-all (Refused n j) h) in
               (k .0, (k .1, record { words = clauseEnds text names l (c .stars) (c .emitted) tree; is = ends-are }))
           clause-says (Ok v) h =
-              let q : Done text names l (clauseWords text names l) 0 c p (clauseAt text names l kind c) a₂ v = says-all (Ok v) h in
+              let q = is-read (says-all (Ok v) h) in
               let same : q .tree ≡ tree = cc (q .says, tree-is v h) in
               record { done = q; ends = ends-are ∙ ap (λ (x : Clause). sets e i (clauseEnds text names l (c .stars) (c .emitted) x)) (sym same) }

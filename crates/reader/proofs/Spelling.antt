@@ -1,7 +1,7 @@
 -- Bytes are tested and words compared as the notation does it, and the tables of the reserved words give the number by which a word is a token.
 -- Assumes nothing.
 use mathlib.Core.Path.{_≡_, refl, sym, ap, _∙_, subst}
-use mathlib.Core.Bool.{Bool, true, false, cond}
+use mathlib.Core.Bool.{Bool, true, false, cond, _&&_, or-false, and-true}
 use mathlib.Core.List.{List, [], _∷_, map}
 use mathlib.Core.Option.{Option, none, some}
 use Prim.Native.Nat.{ℕ, zero, suc, _+_, _*_, _≤_, _<_, max}
@@ -18,10 +18,6 @@ use Rattle.reader.specs.working.Pieces.{numberOr, Tabled}
 
 -- Bytes.
 
-pub itself : (x : Bool) → x ≡ cond x true false
-itself true = refl
-itself false = refl
-
 pub letter-low : (b : ℕ) → b < 65 → false ≡ letter b
 letter-low b h = rw (lt-leb 97 b (omega arith), lt-leb 65 b (omega arith))
 
@@ -32,19 +28,15 @@ pub letter-between : (b : ℕ) → 90 < b → b < 97 → false ≡ letter b
 letter-between b h k = rw (lt-leb 97 b k, le-leb 65 b (omega arith), lt-leb b 90 h)
 
 pub letter-lower : (b : ℕ) → 97 ≤ b → leb b 122 ≡ letter b
-letter-lower b h = rw (le-leb 97 b h, le-leb 65 b (omega arith), lt-leb b 90 (omega arith)) (itself (leb b 122))
+letter-lower b h = rw (le-leb 97 b h, le-leb 65 b (omega arith), lt-leb b 90 (omega arith)) (sym (or-false (leb b 122)))
 
 pub word-underscore : (b : ℕ) → b ≡ 95 → true ≡ wordByte b
 word-underscore b e = subst (λ (x : ℕ). true ≡ wordByte x) (sym e) refl
 
-twice : (x : Bool) → x ≡ cond (cond x true false) true false
-twice true = refl
-twice false = refl
-
 pub word-small : (b : ℕ) → 97 ≤ b → leb b 122 ≡ wordByte b
 word-small b h =
     let n : b ≡ 95 → ⊥ = λ z. omega arith in
-    rw (le-leb 97 b h, le-leb 65 b (omega arith), lt-leb b 90 (omega arith), le-leb 48 b (omega arith), lt-leb b 57 (omega arith), ne-eqb b 95 n) (twice (leb b 122))
+    rw (le-leb 97 b h, le-leb 65 b (omega arith), lt-leb b 90 (omega arith), le-leb 48 b (omega arith), lt-leb b 57 (omega arith), ne-eqb b 95 n) (sym (or-false _ ∙ or-false (leb b 122)))
 
 pub word-low : (b : ℕ) → (b ≡ 95 → ⊥) → b < 48 → false ≡ wordByte b
 word-low b n h = rw (lt-leb 97 b (omega arith), lt-leb 65 b (omega arith), lt-leb 48 b h, ne-eqb b 95 n)
@@ -56,7 +48,7 @@ pub word-gap : (b : ℕ) → (b ≡ 95 → ⊥) → 57 < b → b < 65 → false 
 word-gap b n h k = rw (lt-leb 97 b (omega arith), lt-leb 65 b k, le-leb 48 b (omega arith), lt-leb b 57 h, ne-eqb b 95 n)
 
 pub word-large : (b : ℕ) → (b ≡ 95 → ⊥) → 65 ≤ b → b < 97 → leb b 90 ≡ wordByte b
-word-large b n h k = rw (lt-leb 97 b k, le-leb 65 b h, le-leb 48 b (omega arith), lt-leb b 57 (omega arith), ne-eqb b 95 n) (itself (leb b 90))
+word-large b n h k = rw (lt-leb 97 b k, le-leb 65 b h, le-leb 48 b (omega arith), lt-leb b 57 (omega arith), ne-eqb b 95 n) (sym (or-false (leb b 90)))
 
 -- The tables of letters and lengths.
 
@@ -120,7 +112,7 @@ lengths-differ [] (b ∷ w) h = refl
 lengths-differ (a ∷ v) [] h = refl
 lengths-differ (a ∷ v) (b ∷ w) h = go (eqb a b) (lengths-differ v w (λ e. h (omega arith)))
   where
-    go : (x : Bool) → false ≡ sameWord v w → false ≡ cond x (sameWord v w) false
+    go : (x : Bool) → false ≡ sameWord v w → false ≡ x && sameWord v w
     go true e = e
     go false e = refl
 
@@ -135,7 +127,7 @@ pub record Same (v w : Word) (n j : ℕ) : Type 0 where
   pub rest : sameWord (drop j v) (drop j w) ≡ sameWord v w
 
 module _ {v w : Word} {n j : ℕ} (c : Same v w n j) where
-  turn : j < n → sameWord v w ≡ cond (eqb (getD v j 0) (getD w j 0)) (sameWord (drop (suc j) v) (drop (suc j) w)) false
+  turn : j < n → sameWord v w ≡ eqb (getD v j 0) (getD w j 0) && sameWord (drop (suc j) v) (drop (suc j) w)
   unfolding sameWord
   turn h =
       let l : j < length v = omega arith in
@@ -231,7 +223,7 @@ plain-other i w h n = rw (h, sym (lengths-differ w (48 ∷ []) n), sym (lengths-
 
 same-one : (a b : ℕ) → sameWord (a ∷ []) (b ∷ []) ≡ eqb a b
 unfolding sameWord
-same-one a b = sym (itself (eqb a b))
+same-one a b = and-true (eqb a b)
 
 pub plain-digit : (i b : ℕ) → letter b ≡ false → plainWord i (b ∷ []) ≡ cond (eqb b 48) (sign 15) (cond (eqb b 49) (sign 16) (sign 23))
 plain-digit i b h = rw (h, same-one b 48, same-one b 49)

@@ -28,7 +28,7 @@ use Rattle.reader.specs.working.Names.{window, wordsIn, sharedWords, row
 use Rattle.reader.specs.working.Cursors.{bookOf}
 use Rattle.reader.specs.Read.{placed}
 use Rattle.reader.specs.working.Commands.{withCommands, titleAt, TitleSays}
-use Rattle.reader.proofs.Answers.{Past}
+use Rattle.reader.proofs.Moves.{Past}
 use Rattle.reader.proofs.Symbols.{listed-name, missing}
 use Rattle.reader.proofs.Lookup.{window-slice, window-length, any-name, found-among, withName, words-kept, words-declared}
 
@@ -161,8 +161,8 @@ module _ (text names : List ℕ) (l : Ledger) (c : Cursor) where
           book =
               let a : namesKept text names l ++ (N .word, commandName) ∷ [] ≡ namesKept text names′ (withCommands 1 l) =
               sym (names-more text names (d .next) (q .next .fresh) long l n e (omega arith)) ∙ ap (λ (z : List ℕ). namesKept text z (withCommands 1 l)) (sym s) in
-              let items : v .items ≡ c .items = ap (λ (z : Cursor). z .items) (p .is) ∙ ap (λ (z : Cursor). z .items) (q .is) in
-              let nodes : v .nodes ≡ c .nodes = ap (λ (z : Cursor). z .nodes) (p .is) ∙ ap (λ (z : Cursor). z .nodes) (q .is) in
-              let stars : v .stars ≡ 0 = ap (λ (z : Cursor). z .stars) (p .is) ∙ ap (λ (z : Cursor). z .stars) (q .is) in
+              let items : v .items ≡ c .items = p .itemsAre ∙ q .itemsAre in
+              let nodes : v .nodes ≡ c .nodes = p .nodesAre ∙ q .nodesAre in
+              let stars : v .stars ≡ 0 = p .starsAre ∙ q .starsAre in
               ap (λ (z : List (Word × Kind)). record { names = z; counts = begun .counts }) a
               ∙ rw (items, nodes, stars) refl

@@ -1,6 +1,7 @@
 // Declarations, and the clauses `start` and `keep`.
 ghost use mathlib.Core.Path.{_≡_};
 ghost use Prim.Native.Nat.{_+_, _<_};
+ghost use Rattle.reader.specs.working.Pieces.{NAME};
 ghost use Rattle.reader.specs.working.Cursors.{Ready};
 ghost use Rattle.reader.specs.working.Clauses.{Listing, NameSays, NamesSay, listAt, SegmentSays, ClauseSays};
 use crate::cursor::Cursor;
@@ -9,6 +10,7 @@ use crate::cursor::Parsed;
 use crate::cursor::Scope;
 use crate::cursor::expect;
 use crate::cursor::past;
+use crate::expressions::MAX_DEPTH;
 use crate::expressions::or_level;
 use crate::names::declare;
 use crate::names::find_name;
@@ -36,7 +38,7 @@ pub fn declare_name(
     l: Ledger,
     rows: bool,
 ) -> Declared
-    requires { ⌜ Listing (now text) (now names) l rows c × (c .next .kind ≡ 24) ⌝ }
+    requires { ⌜ Listing (now text) (now names) l rows c × (c .next .kind ≡ NAME) ⌝ }
     ensures { λ r. ⌜ NameSays (now (text .entry)) (now (names .entry)) l rows c (now (names .exit)) r ⌝ }
 {
     let t = c.next;
@@ -113,7 +115,7 @@ pub fn segment(
     kind: u8,
     i: usize,
 ) -> Parsed
-    requires { ⌜ Ready (now text) l 0 c × ((kind < 24) × (i < 20)) ⌝ }
+    requires { ⌜ Ready (now text) l 0 c × ((kind < NAME) × (i < 20)) ⌝ }
     ensures { λ r. ⌜ SegmentSays (now (text .entry)) (now (names .entry)) l rows kind i c (now (ops .entry)) (now (ends .entry)) (now (ops .exit)) (now (ends .exit)) r ⌝ }
 {
     let sign = expect(text, c, kind);
@@ -124,7 +126,7 @@ pub fn segment(
         rows: rows,
         stars: false,
     };
-    let read = or_level(text, names, ops, 16, inside, sc, l);
+    let read = or_level(text, names, ops, MAX_DEPTH, inside, sc, l);
     let Parsed::Ok(after) = read else {
         return read;
     };
@@ -143,7 +145,7 @@ pub fn clause(
     kind: u8,
     i: usize,
 ) -> Parsed
-    requires { ⌜ Ready (now text) l 0 c × ((kind < 24) × (i < 19)) ⌝ }
+    requires { ⌜ Ready (now text) l 0 c × ((kind < NAME) × (i < 19)) ⌝ }
     ensures { λ r. ⌜ ClauseSays (now (text .entry)) (now (names .entry)) l kind i c (now (ops .entry)) (now (ends .entry)) (now (ops .exit)) (now (ends .exit)) r ⌝ }
 {
     let whole = segment(text, names, ops, ends, c, l, false, kind, i);

@@ -1,8 +1,9 @@
 // Commands.
 ghost use mathlib.Core.Path.{_≡_};
 ghost use Prim.Native.Nat.{_<_};
+ghost use Rattle.notation.specs.Tokens.{COMMAND};
 ghost use Rattle.reader.specs.working.Cursors.{Ready};
-ghost use Rattle.reader.specs.working.Commands.{Naming, TitleSays, BodySays, CommandsSay, arrays, oneAt, commandsAt};
+ghost use Rattle.reader.specs.working.Commands.{Naming, TitleSays, BodySays, CommandsSay, atEntry, atExit, oneAt, commandsAt};
 use crate::clauses::Declared;
 use crate::cursor::Cursor;
 use crate::cursor::Ledger;
@@ -10,6 +11,7 @@ use crate::cursor::Parsed;
 use crate::cursor::Scope;
 use crate::cursor::expect;
 use crate::cursor::past;
+use crate::expressions::MAX_DEPTH;
 use crate::expressions::or_level;
 use crate::items::DONE;
 use crate::items::OTHERWISE;
@@ -29,7 +31,7 @@ const MAX_COMMANDS: usize = 16;
 
 // `command` and its name.
 pub fn title(text: &[u8], names: &mut [u16; 56], c: Cursor, l: Ledger) -> Declared
-    requires { ⌜ Naming (now text) (now names) l c × (c .next .kind ≡ 5) ⌝ }
+    requires { ⌜ Naming (now text) (now names) l c × (c .next .kind ≡ COMMAND) ⌝ }
     ensures { λ r. ⌜ TitleSays (now (text .entry)) (now (names .entry)) l c (now (names .exit)) r ⌝ }
 {
     let t = c.next;
@@ -74,7 +76,7 @@ pub fn body(text: &[u8], names: &[u16; 56], ops: &mut [u16; 2048], c: Cursor, l:
         rows: false,
         stars: true,
     };
-    let test = or_level(text, names, ops, 16, inside, sc, l);
+    let test = or_level(text, names, ops, MAX_DEPTH, inside, sc, l);
     let first = mark(text, ops, test, DO, WHEN);
     let Parsed::Ok(yes) = first else {
         return first;
@@ -98,8 +100,8 @@ pub fn command(
     c: Cursor,
     l: Ledger,
 ) -> Declared
-    requires { ⌜ Naming (now text) (now names) l c × (c .next .kind ≡ 5) ⌝ }
-    ensures { λ r. ⌜ CommandsSay (now (text .entry)) l c (arrays (now (names .entry)) (now (ops .entry)) (now (ends .entry)) (now (stars .entry))) (oneAt (now (text .entry)) (now (names .entry)) l c) (arrays (now (names .exit)) (now (ops .exit)) (now (ends .exit)) (now (stars .exit))) r ⌝ }
+    requires { ⌜ Naming (now text) (now names) l c × (c .next .kind ≡ COMMAND) ⌝ }
+    ensures { λ r. ⌜ CommandsSay (now (text .entry)) l c (atEntry names ops ends stars) (oneAt (now (text .entry)) (now (names .entry)) l c) (atExit names ops ends stars) r ⌝ }
 {
     let k = l.commands;
     let titled = title(text, names, c, l);
@@ -127,8 +129,8 @@ pub fn commands(
     c: Cursor,
     l: Ledger,
 ) -> Declared
-    requires { ⌜ Naming (now text) (now names) l c × (c .next .kind ≡ 5) ⌝ }
-    ensures { λ r. ⌜ CommandsSay (now (text .entry)) l c (arrays (now (names .entry)) (now (ops .entry)) (now (ends .entry)) (now (stars .entry))) (commandsAt (now (text .entry)) (now (names .entry)) l c) (arrays (now (names .exit)) (now (ops .exit)) (now (ends .exit)) (now (stars .exit))) r ⌝ }
+    requires { ⌜ Naming (now text) (now names) l c × (c .next .kind ≡ COMMAND) ⌝ }
+    ensures { λ r. ⌜ CommandsSay (now (text .entry)) l c (atEntry names ops ends stars) (commandsAt (now (text .entry)) (now (names .entry)) l c) (atExit names ops ends stars) r ⌝ }
 {
     let mut cur = c;
     let mut led = l;

@@ -1,6 +1,8 @@
 // Expressions: the readers of its three levels, which call each other. Parentheses and `not` call back with what is left of the depth.
 ghost use mathlib.Core.Path.{_≡_};
 ghost use Prim.Native.Nat.{_≤_, _<_};
+ghost use Rattle.notation.specs.Tokens.{NOT, OPEN};
+ghost use Rattle.notation.specs.Rules.{depthLimit};
 ghost use Rattle.reader.specs.working.Cursors.{Ready};
 ghost use Rattle.reader.specs.working.Expressions.{SaysExpr, SaysOperand, factorAt, andAt, orAt, Leaf, AfterNode, AfterClose, roomed};
 use crate::cursor::Cursor;
@@ -21,6 +23,8 @@ use crate::pieces::OPEN;
 use crate::pieces::OR;
 use crate::pieces::STAR;
 use crate::pieces::ZERO;
+
+pub const MAX_DEPTH: usize = 16;
 
 const MAX_NODES: usize = 1024;
 
@@ -63,7 +67,7 @@ pub fn operand(
     sc: Scope,
     l: Ledger,
 ) -> Parsed
-    requires { ⌜ Ready (now text) l 0 c × ((c .next .kind ≡ 14 → ⊥) × (c .next .kind ≡ 21 → ⊥)) ⌝ }
+    requires { ⌜ Ready (now text) l 0 c × ((c .next .kind ≡ NOT → ⊥) × (c .next .kind ≡ OPEN → ⊥)) ⌝ }
     ensures { λ r. ⌜ SaysOperand (now (text .entry)) (now (names .entry)) l c (now (ops .entry)) (factorAt (now (text .entry)) (now (names .entry)) sc l depth c) (now (ops .exit)) r ⌝ }
 {
     let t = c.next;
@@ -126,7 +130,7 @@ pub fn factor(
     sc: Scope,
     l: Ledger,
 ) -> Parsed
-    requires { ⌜ (depth ≤ 16) × Ready (now text) l 0 c ⌝ }
+    requires { ⌜ (depth ≤ depthLimit) × Ready (now text) l 0 c ⌝ }
     ensures { λ r. ⌜ SaysExpr (now (text .entry)) (now (names .entry)) l c (now (ops .entry)) (factorAt (now (text .entry)) (now (names .entry)) sc l depth c) (now (ops .exit)) r ⌝ }
 {
     let t = c.next;
@@ -164,7 +168,7 @@ pub fn and_level(
     sc: Scope,
     l: Ledger,
 ) -> Parsed
-    requires { ⌜ (depth ≤ 16) × Ready (now text) l 0 c ⌝ }
+    requires { ⌜ (depth ≤ depthLimit) × Ready (now text) l 0 c ⌝ }
     ensures { λ r. ⌜ SaysExpr (now (text .entry)) (now (names .entry)) l c (now (ops .entry)) (andAt (now (text .entry)) (now (names .entry)) sc l depth c) (now (ops .exit)) r ⌝ }
 {
     let first = factor(text, names, ops, depth, c, sc, l);
@@ -200,7 +204,7 @@ pub fn or_level(
     sc: Scope,
     l: Ledger,
 ) -> Parsed
-    requires { ⌜ (depth ≤ 16) × Ready (now text) l 0 c ⌝ }
+    requires { ⌜ (depth ≤ depthLimit) × Ready (now text) l 0 c ⌝ }
     ensures { λ r. ⌜ SaysExpr (now (text .entry)) (now (names .entry)) l c (now (ops .entry)) (orAt (now (text .entry)) (now (names .entry)) sc l depth c) (now (ops .exit)) r ⌝ }
 {
     let first = and_level(text, names, ops, depth, c, sc, l);

@@ -2,6 +2,8 @@
 ghost use mathlib.Core.Path.{_≡_};
 ghost use Prim.Native.Nat.{_<_};
 ghost use mathlib.Core.Bool.{true, false};
+ghost use Rattle.notation.specs.Tokens.{FOR};
+ghost use Rattle.reader.specs.working.Pieces.{NAME};
 ghost use Rattle.reader.specs.working.Cursors.{Ready};
 ghost use Rattle.reader.specs.working.Expressions.{roomed};
 ghost use Rattle.reader.specs.working.Items.{Skipped, Marked, SaysAssign, SaysRowItem, rowItemAt, SaysRowItems, rowItemsAt, SaysItem, itemAt, SaysItems, itemsAt};
@@ -12,6 +14,7 @@ use crate::cursor::Scope;
 use crate::cursor::emit;
 use crate::cursor::expect;
 use crate::cursor::past;
+use crate::expressions::MAX_DEPTH;
 use crate::expressions::close_node;
 use crate::expressions::or_level;
 use crate::names::find_name;
@@ -77,7 +80,7 @@ pub fn assignment(
     l: Ledger,
     rows: bool,
 ) -> Parsed
-    requires { ⌜ Ready (now text) l 0 c × (c .next .kind ≡ 24) ⌝ }
+    requires { ⌜ Ready (now text) l 0 c × (c .next .kind ≡ NAME) ⌝ }
     ensures { λ r. ⌜ SaysAssign (now (text .entry)) (now (names .entry)) l rows c (now (ops .entry)) (now (ops .exit)) r ⌝ }
 {
     let t = c.next;
@@ -100,7 +103,7 @@ pub fn assignment(
         rows: rows,
         stars: true,
     };
-    let read = or_level(text, names, ops, 16, value, sc, l);
+    let read = or_level(text, names, ops, MAX_DEPTH, value, sc, l);
     close_node(ops, read, STORE + i as u16)
 }
 
@@ -164,7 +167,7 @@ pub fn for_item(
     c: Cursor,
     l: Ledger,
 ) -> Parsed
-    requires { ⌜ Ready (now text) l 0 c × (c .next .kind ≡ 9) ⌝ }
+    requires { ⌜ Ready (now text) l 0 c × (c .next .kind ≡ FOR) ⌝ }
     ensures { λ r. ⌜ SaysItem (now (text .entry)) (now (names .entry)) l c (now (ops .entry)) (itemAt (now (text .entry)) (now (names .entry)) l c) (now (ops .exit)) r ⌝ }
 {
     let t = c.next;
@@ -177,7 +180,7 @@ pub fn for_item(
         rows: true,
         stars: true,
     };
-    let test = or_level(text, names, ops, 16, inside, sc, l);
+    let test = or_level(text, names, ops, MAX_DEPTH, inside, sc, l);
     let first = mark(text, ops, test, DO, WHEN);
     let Parsed::Ok(yes) = first else {
         return first;

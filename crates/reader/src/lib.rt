@@ -12,7 +12,7 @@ mod words;
 
 ghost use mathlib.Core.Path.{_≡_};
 ghost use Rattle.reader.specs.Read.{emptyCode, readingOf};
-ghost use Rattle.reader.specs.working.Commands.{arrays};
+ghost use Rattle.reader.specs.working.Commands.{arrays, atExit};
 ghost use Rattle.reader.specs.working.Whole.{zeros, refusedWith, readingWith};
 use clauses::Declared;
 use model::model as whole;
@@ -85,7 +85,7 @@ pub fn read_into(
     stars: &mut [u16; 16],
 ) -> Summary
     requires { ⌜ arrays (now names) (now ops) (now ends) (now stars) ≡ zeros ⌝ }
-    ensures { λ r. ⌜ readingWith r (arrays (now (names .exit)) (now (ops .exit)) (now (ends .exit)) (now (stars .exit))) ≡ readingOf (now (text .entry)) ⌝ }
+    ensures { λ r. ⌜ readingWith r (atExit names ops ends stars) ≡ readingOf (now (text .entry)) ⌝ }
 {
     if MAX_TEXT < text.len() {
         return refusal(1, MAX_TEXT);

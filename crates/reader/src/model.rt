@@ -4,9 +4,10 @@ ghost use mathlib.Core.Bool.{true, false};
 ghost use Prim.Native.Nat.{_<_, _≤_};
 ghost use lib.ListN.{length};
 ghost use Rattle.notation.specs.Texts.{longestText};
+ghost use Rattle.reader.specs.working.Pieces.{NAME};
 ghost use Rattle.reader.specs.working.Cursors.{Ready};
 ghost use Rattle.reader.specs.working.Clauses.{Listing, NamesSay};
-ghost use Rattle.reader.specs.working.Commands.{arrays};
+ghost use Rattle.reader.specs.working.Commands.{atEntry, atExit};
 ghost use Rattle.reader.specs.working.Whole.{headAt, HeadsSay, ClausesSay, ModelSays};
 use crate::clauses::Declared;
 use crate::clauses::clause;
@@ -34,7 +35,7 @@ pub fn declaration(
     rows: bool,
     kind: u8,
 ) -> Declared
-    requires { ⌜ Listing (now text) (now names) l rows c × (kind < 24) ⌝ }
+    requires { ⌜ Listing (now text) (now names) l rows c × (kind < NAME) ⌝ }
     ensures { λ r. ⌜ NamesSay (now (text .entry)) (now (names .entry)) l rows c (headAt (now (text .entry)) (now (names .entry)) l rows kind c) (now (names .exit)) r ⌝ }
 {
     let sign = expect(text, c, kind);
@@ -107,7 +108,7 @@ pub fn model(
     stars: &mut [u16; 16],
 ) -> Declared
     requires { ⌜ (length (now text) ≤ longestText) × (length (now names) ≡ 56) ⌝ }
-    ensures { λ r. ⌜ ModelSays (now (text .entry)) (arrays (now (names .entry)) (now (ops .entry)) (now (ends .entry)) (now (stars .entry))) (arrays (now (names .exit)) (now (ops .exit)) (now (ends .exit)) (now (stars .exit))) r ⌝ }
+    ensures { λ r. ⌜ ModelSays (now (text .entry)) (atEntry names ops ends stars) (atExit names ops ends stars) r ⌝ }
 {
     let head = declarations(text, names);
     let Declared::Ok(c, l) = head else {

@@ -51,7 +51,7 @@ descend len (suc l) n (at i (some t) ∷ ts) b = taken (descend len l) i (find (
 unfoldable pub reader : ℕ → Reader
 reader len n ts b = descend len (suc (length ts)) n ts b
 
--- The orReader and the andReader of a reader: an expression, and the factors joined by `and`.
+-- Two levels of an expression: terms joined by `or`, and the factors of one term, joined by `and`.
 abbrev pub orReader : ℕ → Mode → ℕ → List Lexeme → Book → Got Expr
 orReader len m d ts b = sequence (reader len) (factor m d ∷ ands m d ∷ ors m d ∷ []) (λ f a o. o (a f)) ts b
 

@@ -1,7 +1,7 @@
 -- The ledger that a reading keeps of the parts before a token: the names declared, and the counts.
 -- Assumes nothing.
 use mathlib.Core.Path.{_≡_}
-use mathlib.Core.Bool.{Bool, true, false, cond, not}
+use mathlib.Core.Bool.{Bool, true, false, cond, not, _||_}
 use mathlib.Core.List.{List, [], _∷_, _++_}
 use mathlib.Core.Option.{Option, none, some}
 use Prim.Native.Nat.{ℕ, suc}
@@ -9,7 +9,7 @@ use lib.Dec.{ltb}
 use lib.ListN.{set, getD}
 use Rattle.notation.specs.Tokens.{Word}
 use Rattle.notation.specs.Notation.{Kind, Part, part}
-use Rattle.notation.specs.Rules.{View, view, wordOf, has, elem, limits, depthLimit, STARS}
+use Rattle.notation.specs.Rules.{View, view, wordOf, has, elem, limitOf, depthLimit, STARS}
 
 pub record Book : Type 0 where
   pub names : List (Word × Kind)
@@ -41,7 +41,7 @@ notes b (p ∷ ps) = notes (note b p) ps
 -- One of the counts ks is over its limit.
 unfoldable pub exceeds : List ℕ → List ℕ → Bool
 exceeds [] cs = false
-exceeds (k ∷ ks) cs = cond (ltb (getD limits k 0) (getD cs k 0)) true (exceeds ks cs)
+exceeds (k ∷ ks) cs = ltb (limitOf k) (getD cs k 0) || exceeds ks cs
 
 abbrev pub again : Book → Option Kind → Word → Bool
 again b none w = false
@@ -52,7 +52,7 @@ unknown b none w = false
 unknown b (some f) w = not (has (b .names) f w)
 
 abbrev pub tooMuch : Book → View → Bool
-tooMuch b v = cond (ltb depthLimit (v .depth)) true (exceeds (v .adds) (countedOn v (b .counts)))
+tooMuch b v = ltb depthLimit (v .depth) || exceeds (v .adds) (countedOn v (b .counts))
 
 -- The lowest number of a rule that the part breaks, by the book.
 unfoldable pub fault : Book → Part → Option ℕ

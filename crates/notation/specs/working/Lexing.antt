@@ -7,7 +7,7 @@ use Prim.Native.Nat.{ℕ, zero, suc, _+_}
 use lib.Dec.{eqb}
 use lib.ListN.{length, take, drop}
 use Rattle.notation.specs.Bytes.{wordByte, blankByte}
-use Rattle.notation.specs.Tokens.{Token, sign, wordToken, STAR, DOT, SEMI, ASSIGN, OPEN, CLOSE, OTHER, Lexeme, at}
+use Rattle.notation.specs.Tokens.{Token, sign, wordToken, markOf, ASSIGN, OTHER, Lexeme, at}
 
 -- A choice that computes only the side it takes.
 abbrev pub choose : {A : Type 0} → Bool → (Unit {0} → A) → (Unit {0} → A) → A
@@ -31,16 +31,16 @@ pub record Front : Type 0 where
 abbrev pub oneByte : Option Token → Front
 oneByte t = record { token = t; more = 0 }
 
+-- The token of a sign, if there is one.
+abbrev pub signOf : Option ℕ → Option Token
+signOf none = none
+signOf (some k) = some (sign k)
+
+-- A mark b, with the bytes bs behind it, or a byte that is not allowed.
 unfoldable pub mark : ℕ → List ℕ → Front
 mark b bs =
-    cond (eqb b 46) (oneByte (some (sign DOT)))
-    (cond (eqb b 59) (oneByte (some (sign SEMI)))
-    (cond (eqb b 40) (oneByte (some (sign OPEN)))
-    (cond (eqb b 41) (oneByte (some (sign CLOSE)))
-    (cond (eqb b 42) (oneByte (some (sign STAR)))
-    (cond (eqb b 61) (oneByte (some (sign OTHER)))
-    (cond (eqb b 58) (cond (beginsWith 61 bs) (record { token = some (sign ASSIGN); more = 1 }) (oneByte (some (sign OTHER))))
-    (oneByte none)))))))
+    cond (eqb b 58) (cond (beginsWith 61 bs) (record { token = some (sign ASSIGN); more = 1 }) (oneByte (some (sign OTHER))))
+    (oneByte (signOf (markOf b)))
 
 -- At place i, with the first byte b and the bytes bs after it.
 unfoldable pub front : ℕ → ℕ → List ℕ → Front

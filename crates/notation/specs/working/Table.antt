@@ -1,4 +1,4 @@
--- The grammar as a table: what a symbol may begin with, what followedBy has to follow, and the tree that comes of it.
+-- The grammar as a table: what a symbol may begin with, what then has to follow, and the tree that comes of it.
 -- It is the executable form of `Notation`, and what a reader may lean on; nothing here has to be believed.
 -- Assumes nothing.
 use mathlib.Core.Path.{_≡_}
@@ -9,6 +9,7 @@ use Prim.Native.Nat.{ℕ, suc}
 use lib.Dec.{eqb}
 use Rattle.notation.specs.Tokens.{Token, sign, name, Name, SHARED, ROW, START, KEEP, EACH, COMMAND, IF, DO, ELSE, FOR, END, SKIP, AND, OR, NOT, ZERO, ONE, STAR, DOT, SEMI, ASSIGN, OPEN, CLOSE}
 use Rattle.notation.specs.Notation.{Kind, sharedName, rowName, commandName, Mode, fixedShared, fixedRow, freeShared, freeRow, Role, quiet, declares, uses, constant, chance, joins, negates, opens, target, beginsItem, beginsCommand, Part, part, Expr, false′, true′, star′, name′, not′, and′, or′, RowItem, Item, for′, Clause, clause′, Command, command′, Tree, tree′}
+use Rattle.notation.specs.Rules.{elem}
 
 -- What may be wanted next: the table's symbols.
 pub data Sym : Type 0 where
@@ -161,7 +162,7 @@ pub data Reads : (σ : List Sym) → Cont σ Tree → List Part → Tree → Typ
   takes : {n : Sym} {σ : List Sym} {k : Val n → Cont σ Tree} {ps : List Part} {x : Tree} {t : Token} (f : Found n) → find (lines n) t ≡ some f →
       Reads (f .next ++ σ) (feed (Val n) σ (f .next) (f .act) k) ps x → Reads (n ∷ σ) k (part (f .role) t ∷ ps) x
 
--- What is wanted next, and what followedBy comes of it.
+-- What is wanted next, and what then comes of it.
 pub record State : Type 0 where
   pub want : List Sym
   pub cont : Cont want Tree
@@ -196,11 +197,7 @@ unfoldable pub ends : List Sym → Bool
 ends [] = true
 ends (n ∷ σ) = optional n && ends σ
 
--- Lists of kinds.
-abbrev pub elem : ℕ → List ℕ → Bool
-elem k [] = false
-elem k (j ∷ js) = eqb j k || elem k js
-
+-- Of two lists of kinds: no kind of the first is in the second, and every one is.
 abbrev pub apart : List ℕ → List ℕ → Bool
 apart [] js = true
 apart (k ∷ ks) js = not (elem k js) && apart ks js

@@ -8,16 +8,10 @@ use borrow.Author.Needs.{needs}
 use Rattle.reader.proofs.read.Statement.{statement}
 use Rattle.reader.proofs.read.Tie as tie
 
-empty-requires : tie.Need-empty-requires
-empty-requires c κs = search needs
-
 read-into-requires : tie.Need-read-into-requires
 read-into-requires c κs =
     let after-empty : tie.After-empty = search in
     ap (λ (z : Code). arrays (replicate 56 0) (z .ops) (replicate 20 0) (replicate 16 0)) (after-empty .empty .ensures)
 
-returns : tie.Need-returns
-returns c = search needs
-
 pub read-spec : {M : Type 1} → statement M
-read-spec = tie.close (tie.spec empty-requires read-into-requires returns)
+read-spec = tie.close (tie.spec (λ c κs. search needs) read-into-requires (λ c. search needs))

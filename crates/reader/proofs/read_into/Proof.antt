@@ -3,14 +3,11 @@
 use mathlib.Core.Path.{ap}
 use lib.ListN.{length}
 use native.Mathlib.Omega.{arith}
-use Rattle.reader.specs.working.Commands.{Arrays, arrays}
-use Rattle.reader.proofs.Answering.{too-long, is-read, is-refused}
+use Rattle.reader.specs.working.Commands.{Arrays}
+use Rattle.reader.proofs.TextAnswers.{too-long, is-read, is-refused}
 use borrow.Author.Needs.{needs}
 use Rattle.reader.proofs.read_into.Statement.{statement}
 use Rattle.reader.proofs.read_into.Tie as tie
-
-refusal-requires : tie.Need-refusal-requires
-refusal-requires c κs = search needs
 
 returns : tie.Need-returns
 returns c =
@@ -21,15 +18,6 @@ model-requires : tie.Need-model-requires
 model-requires c κs =
     let start : tie.Start = search in
     (omega arith, ap (λ (s : Arrays). length (s .names)) (start .pre))
-
-enum-known-said : tie.Need-enum-known-said
-enum-known-said c = search needs
-
-enum-known-said-2 : tie.Need-enum-known-said-2
-enum-known-said-2 c = search needs
-
-refusal-requires-2 : tie.Need-refusal-requires-2
-refusal-requires-2 c κs = search needs
 
 returns-2 : tie.Need-returns-2
 returns-2 c =
@@ -51,11 +39,11 @@ pub read-into-spec : {M : Type 1} → statement M
 read-into-spec =
     tie.close
     (tie.spec
-    refusal-requires
+    (λ c κs. search needs)
     returns
     model-requires
-    enum-known-said
-    enum-known-said-2
-    refusal-requires-2
+    (λ c. search needs)
+    (λ c. search needs)
+    (λ c κs. search needs)
     returns-2
     returns-3)

@@ -8,6 +8,7 @@ use lib.ListN.{length, set}
 use lib.Seq.{sets}
 use Rattle.notation.specs.Tokens.{name, Name}
 use Rattle.notation.specs.Notation.{Mode, fixedShared, fixedRow, part, declares, Expr, Clause, clause′}
+use Rattle.notation.specs.Rules.{SHARED-NAMES, ROW-NAMES, NAMES, limitOf}
 use Rattle.notation.specs.Texts.{Numbered, numbered, wordsOf, longestText}
 use Rattle.notation.specs.working.Lexing.{tokensFrom}
 use Rattle.notation.specs.working.Ledger.{note, fault}
@@ -37,9 +38,9 @@ pub record Listing (text names : List ℕ) (l : Ledger) (rows : Bool) (c : Curso
   pub fits : length text ≤ longestText
   pub fresh : Fresh text (c .next)
   pub long : length names ≡ 56
-  pub shared : l .shared ≤ 8
-  pub row : l .row ≤ 10
-  pub few : l .shared + l .row ≤ 12
+  pub shared : l .shared ≤ limitOf SHARED-NAMES
+  pub row : l .row ≤ limitOf ROW-NAMES
+  pub few : l .shared + l .row ≤ limitOf NAMES
   pub commands : l .commands ≡ 0
   pub order : rows ≡ false → l .row ≡ 0
 

@@ -3,10 +3,13 @@
 use mathlib.Core.Path.{_≡_}
 use mathlib.Core.List.{List, [], _∷_, map}
 use Prim.Native.Nat.{ℕ, _+_, _≤_, _<_}
+use denote.Ref.{RefT}
+use denote.Triple.Both.{Both}
 use lib.ListN.{length}
 use lib.Seq.{sets}
-use Rattle.notation.specs.Tokens.{sign, Word, Name, Lexeme}
+use Rattle.notation.specs.Tokens.{sign, COMMAND, IF, DOT, Word, Name, Lexeme}
 use Rattle.notation.specs.Notation.{part, beginsCommand, freeShared, Item, Command, command′}
+use Rattle.notation.specs.Rules.{COMMANDS, limitOf}
 use Rattle.notation.specs.Texts.{exprOf, itemsOf, commandOf, titleOf}
 use Rattle.notation.specs.Layout.{commandCode, endsFrom, joined}
 use Rattle.notation.specs.working.Lexing.{tokensFrom}
@@ -38,8 +41,8 @@ pub record Naming (text names : List ℕ) (l : Ledger) (c : Cursor) : Type 0 whe
 -- The descent's answer at `command` and its name.
 unfoldable pub titleAt : List ℕ → List ℕ → Ledger → Cursor → Got Name
 titleAt text names l c =
-    ruling (c .next .start) (fault (bookOf text names l c) (part beginsCommand (sign 5)))
-    (reader (length text) T.title (tokensFrom text (c .next .end)) (note (bookOf text names l c) (part beginsCommand (sign 5))))
+    ruling (c .next .start) (fault (bookOf text names l c) (part beginsCommand (sign COMMAND)))
+    (reader (length text) T.title (tokensFrom text (c .next .end)) (note (bookOf text names l c) (part beginsCommand (sign COMMAND))))
 
 -- `command` and a name were read, and the name is stored.
 pub record Titled (text names : List ℕ) (l : Ledger) (c : Cursor) (names′ : List ℕ) (d : Cursor) (l′ : Ledger) : Type 0 where
@@ -49,7 +52,7 @@ pub record Titled (text names : List ℕ) (l : Ledger) (c : Cursor) (names′ : 
   pub ledger : l′ ≡ withCommands 1 l
   pub same : d ≡ record { next = d .next; emitted = c .emitted; items = c .items; nodes = c .nodes; stars = 0 }
   pub fresh : Fresh text (d .next)
-  pub few : l .commands < 16
+  pub few : l .commands < limitOf COMMANDS
 
 unfoldable pub TitleSays : List ℕ → List ℕ → Ledger → Cursor → List ℕ → Declared → Type 0
 TitleSays text names l c names′ (D.Ok d l′) = Titled text names l c names′ d l′
@@ -57,7 +60,7 @@ TitleSays text names l c names′ (D.Refused n i) = (titleAt text names l c ≡ 
 
 -- `if`, the test, and the two branches.
 abbrev pub bodyReader : ℕ → List Lexeme → Book → Got (Tested Item)
-bodyReader len ts b = thenReads (reader len (T.lit 6) ts b) (λ u ts b. tested len (allItems len) 18 (orReader len freeShared 0 ts b))
+bodyReader len ts b = thenReads (reader len (T.lit IF) ts b) (λ u ts b. tested len (allItems len) DOT (orReader len freeShared 0 ts b))
 
 abbrev pub BodySays : List ℕ → List ℕ → Ledger → Cursor → List ℕ → List ℕ → Parsed → Type 0
 BodySays text names l c before after r =
@@ -87,6 +90,16 @@ pub record Arrays : Type 0 where
 
 abbrev pub arrays : List ℕ → List ℕ → List ℕ → List ℕ → Arrays
 arrays n o e s = record { names = n; ops = o; ends = e; stars = s }
+
+-- An array that is lent to a function, as its contract names it; and four of them, as they are lent and as they come back.
+abbrev pub Lent : Type 0
+Lent = Both (RefT (List ℕ)) (RefT (List ℕ))
+
+abbrev pub atEntry : Lent → Lent → Lent → Lent → Arrays
+atEntry n o e s = arrays (n .entry .now) (o .entry .now) (e .entry .now) (s .entry .now)
+
+abbrev pub atExit : Lent → Lent → Lent → Lent → Arrays
+atExit n o e s = arrays (n .exit .now) (o .exit .now) (e .exit .now) (s .exit .now)
 
 -- What a refusal leaves of them: each was written only from a place of its own on.
 pub record WroteArrays (n i e k : ℕ) (s s′ : Arrays) : Type 0 where

@@ -6,6 +6,7 @@ use Prim.Native.Nat.{ℕ, _+_, _*_, _≤_}
 use lib.ListN.{length}
 use lib.Seq.{sets}
 use Rattle.notation.specs.Notation.{Mode}
+use Rattle.notation.specs.Rules.{NAMES, COMMANDS, ITEMS, NODES, STARS, limitOf}
 use Rattle.notation.specs.Texts.{Numbered, longestText}
 use Rattle.notation.specs.working.Ledger.{Book}
 use Rattle.notation.specs.working.Descent.{Got, got, stop}
@@ -43,11 +44,11 @@ Expected text c k (Refused n i) = (c .next .kind ≡ k → ⊥) × ((n ≡ c .ne
 pub record Ready (text : List ℕ) (l : Ledger) (spare : ℕ) (c : Cursor) : Type 0 where
   pub fits : length text ≤ longestText
   pub fresh : Fresh text (c .next)
-  pub names : l .shared + l .row ≤ 12
-  pub commands : l .commands ≤ 16
-  pub items : c .items ≤ 256
-  pub nodes : c .nodes ≤ 1024
-  pub stars : c .stars ≤ 8
+  pub names : l .shared + l .row ≤ limitOf NAMES
+  pub commands : l .commands ≤ limitOf COMMANDS
+  pub items : c .items ≤ limitOf ITEMS
+  pub nodes : c .nodes ≤ limitOf NODES
+  pub stars : c .stars ≤ limitOf STARS
   pub room : c .emitted + spare ≤ c .nodes + 3 * c .items + 3 * l .commands
 
 -- Something was read from the cursor c₀ on, and its code is stored. `code k a` is the code of a, with its stars numbered from k on, and the next number.
@@ -61,9 +62,9 @@ pub record Done {A : Type 0} (text names : List ℕ) (l : Ledger) (code : ℕ �
   pub level : c .emitted + (c₀ .nodes + 3 * c₀ .items) ≤ c₀ .emitted + (c .nodes + 3 * c .items) + extra
   pub moreNodes : c₀ .nodes ≤ c .nodes
   pub moreItems : c₀ .items ≤ c .items
-  pub nodes : c .nodes ≤ 1024
-  pub items : c .items ≤ 256
-  pub stars : c .stars ≤ 8
+  pub nodes : c .nodes ≤ limitOf NODES
+  pub items : c .items ≤ limitOf ITEMS
+  pub stars : c .stars ≤ limitOf STARS
   pub fresh : Fresh text (c .next)
 
 -- What a refusal leaves of an array: only from place i on was anything written, what stood below is unchanged.
@@ -72,6 +73,6 @@ pub record Wrote (i : ℕ) (before after : List ℕ) : Type 0 where
   pub is : after ≡ sets before i words
 
 -- The answer is what the descent answers, g. What was stored before the reader began stands after a refusal too.
-unfoldable pub Says : {A : Type 0} → List ℕ → List ℕ → Ledger → (ℕ → A → Numbered (List ℕ)) → ℕ → Cursor → List ℕ → Got A → List ℕ → Parsed → Type 0
-Says text names l code extra c₀ before g after (Ok c) = Done text names l code extra c₀ before g after c
-Says text names l code extra c₀ before g after (Refused n i) = (g ≡ stop n i) × Wrote (c₀ .emitted) before after
+pub data Says {A : Type 0} (text names : List ℕ) (l : Ledger) (code : ℕ → A → Numbered (List ℕ)) (extra : ℕ) (c₀ : Cursor) (before : List ℕ) (g : Got A) (after : List ℕ) : Parsed → Type 0 where
+  wasRead : {c : Cursor} → Done text names l code extra c₀ before g after c → Says text names l code extra c₀ before g after (Ok c)
+  wasRefused : {n i : ℕ} → g ≡ stop n i → Wrote (c₀ .emitted) before after → Says text names l code extra c₀ before g after (Refused n i)

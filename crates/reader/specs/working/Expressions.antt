@@ -4,7 +4,9 @@ use mathlib.Core.Path.{_≡_}
 use mathlib.Core.List.{List}
 use Prim.Native.Nat.{ℕ, _+_, _-_, _≤_, _<_}
 use lib.ListN.{length, set}
+use Rattle.notation.specs.Tokens.{CLOSE}
 use Rattle.notation.specs.Notation.{Expr}
+use Rattle.notation.specs.Rules.{NODES, limitOf, depthLimit}
 use Rattle.notation.specs.Texts.{Numbered, numbered, exprOf}
 use Rattle.notation.specs.Layout.{exprCode}
 use Rattle.notation.specs.working.Table.{factor}
@@ -28,19 +30,19 @@ SaysExpr text names l c before g after r = Says text names l (exprWords text nam
 
 -- The descent's answers at the three levels, with so much of the depth left.
 abbrev pub factorAt : List ℕ → List ℕ → Scope → Ledger → ℕ → Cursor → Got Expr
-factorAt text names sc l depth c = reader (length text) (factor (modeOf sc) (16 - depth)) (listed text (c .next)) (bookOf text names l c)
+factorAt text names sc l depth c = reader (length text) (factor (modeOf sc) (depthLimit - depth)) (listed text (c .next)) (bookOf text names l c)
 
 abbrev pub andAt : List ℕ → List ℕ → Scope → Ledger → ℕ → Cursor → Got Expr
-andAt text names sc l depth c = andReader (length text) (modeOf sc) (16 - depth) (listed text (c .next)) (bookOf text names l c)
+andAt text names sc l depth c = andReader (length text) (modeOf sc) (depthLimit - depth) (listed text (c .next)) (bookOf text names l c)
 
 abbrev pub orAt : List ℕ → List ℕ → Scope → Ledger → ℕ → Cursor → Got Expr
-orAt text names sc l depth c = orReader (length text) (modeOf sc) (16 - depth) (listed text (c .next)) (bookOf text names l c)
+orAt text names sc l depth c = orReader (length text) (modeOf sc) (depthLimit - depth) (listed text (c .next)) (bookOf text names l c)
 
 -- The answer of a node that is one token: refused if there are too many, else its code word is stored and the cursor is past it.
 unfoldable pub Leaf : List ℕ → Cursor → ℕ → ℕ → List ℕ → List ℕ → Parsed → Type 0
 Leaf text c code stars before after (Ok d) =
-    (c .nodes < 1024) × ((d ≡ emitted (moved (pieceAt text (c .next .end)) c (c .items) (c .nodes + 1) stars)) × (after ≡ set before (c .emitted) code))
-Leaf text c code stars before after (Refused n i) = (1024 ≤ c .nodes) × ((n ≡ 7) × ((i ≡ c .next .start) × (after ≡ before)))
+    (c .nodes < limitOf NODES) × ((d ≡ emitted (moved (pieceAt text (c .next .end)) c (c .items) (c .nodes + 1) stars)) × (after ≡ set before (c .emitted) code))
+Leaf text c code stars before after (Refused n i) = (limitOf NODES ≤ c .nodes) × ((n ≡ 7) × ((i ≡ c .next .start) × (after ≡ before)))
 
 -- An operand is refused before anything is stored.
 unfoldable pub Kept : List ℕ → List ℕ → Parsed → Type 0
@@ -61,5 +63,5 @@ AfterNode code (Refused n i) before after r = (r ≡ Refused n i) × (after ≡ 
 
 -- The closing parenthesis after what it encloses.
 unfoldable pub AfterClose : List ℕ → Parsed → Parsed → Type 0
-AfterClose text (Ok c) r = Expected text c 22 r
+AfterClose text (Ok c) r = Expected text c CLOSE r
 AfterClose text (Refused n i) r = r ≡ Refused n i

@@ -5,10 +5,11 @@ use mathlib.Core.Bool.{Bool, cond}
 use mathlib.Core.List.{List, [], _∷_, _++_}
 use Prim.Native.Nat.{ℕ, _+_, _≤_, _<_}
 use lib.ListN.{length, set}
-use Rattle.notation.specs.Tokens.{name}
+use Rattle.notation.specs.Tokens.{name, ASSIGN}
 use Rattle.notation.specs.Notation.{Kind, sharedName, rowName, Mode, freeShared, freeRow, part, target, Expr, RowItem, Item}
+use Rattle.notation.specs.Rules.{ITEMS, limitOf}
 use Rattle.notation.specs.Texts.{Numbered, numbered, placeOf, rowItemOf, rowItemsOf, itemOf, itemsOf}
-use Rattle.notation.specs.Layout.{rowItemCode, rowItemsCode, itemCode, itemsCode}
+use Rattle.notation.specs.Layout.{STORE, PASS, rowItemCode, rowItemsCode, itemCode, itemsCode}
 use Rattle.notation.specs.working.Lexing.{tokensFrom}
 use Rattle.notation.specs.working.Ledger.{note, fault}
 use Rattle.notation.specs.working.Table as T
@@ -49,8 +50,8 @@ Marked text kind word (Refused n i) before after r = (r ≡ Refused n i) × (aft
 -- The answer of `skip`.
 unfoldable pub Skipped : List ℕ → Cursor → List ℕ → List ℕ → Parsed → Type 0
 Skipped text c before after (Ok d) =
-    (c .items < 256) × ((d ≡ emitted (moved (pieceAt text (c .next .end)) c (c .items + 1) (c .nodes) (c .stars))) × (after ≡ set before (c .emitted) 320))
-Skipped text c before after (Refused n i) = (256 ≤ c .items) × ((n ≡ 7) × ((i ≡ c .next .start) × (after ≡ before)))
+    (c .items < limitOf ITEMS) × ((d ≡ emitted (moved (pieceAt text (c .next .end)) c (c .items + 1) (c .nodes) (c .stars))) × (after ≡ set before (c .emitted) PASS))
+Skipped text c before after (Refused n i) = (limitOf ITEMS ≤ c .items) × ((n ≡ 7) × ((i ≡ c .next .start) × (after ≡ before)))
 
 -- An assignment after its name is seen: the kind of the name, and where its expression stands.
 abbrev pub kindOf : Bool → Kind
@@ -62,7 +63,7 @@ modeIn rows = cond rows freeRow freeShared
 unfoldable pub assignAt : List ℕ → List ℕ → Ledger → Bool → Cursor → Got Expr
 assignAt text names l rows c =
     ruling (c .next .start) (fault (bookOf text names l c) (part (target (kindOf rows)) (name (nameIn text (c .next)))))
-    (thenReads (reader (length text) (T.lit 20) (tokensFrom text (c .next .end)) (note (bookOf text names l c) (part (target (kindOf rows)) (name (nameIn text (c .next))))))
+    (thenReads (reader (length text) (T.lit ASSIGN) (tokensFrom text (c .next .end)) (note (bookOf text names l c) (part (target (kindOf rows)) (name (nameIn text (c .next))))))
     (λ u ts b. orReader (length text) (modeIn rows) 0 ts b))
 
 -- The number of the bit that the name assigned to is.
@@ -70,7 +71,7 @@ abbrev pub bitIn : List ℕ → List ℕ → Ledger → Bool → Cursor → ℕ
 bitIn text names l rows c = cond rows (l .shared + placeOf (nameIn text (c .next) .word) (rowWords text names l)) (placeOf (nameIn text (c .next) .word) (sharedWords text names l))
 
 abbrev pub SaysAssign : List ℕ → List ℕ → Ledger → Bool → Cursor → List ℕ → List ℕ → Parsed → Type 0
-SaysAssign text names l rows c before after r = Says text names l (withWord (exprWords text names l) (192 + bitIn text names l rows c)) 0 c before (assignAt text names l rows c) after r
+SaysAssign text names l rows c before after r = Says text names l (withWord (exprWords text names l) (STORE + bitIn text names l rows c)) 0 c before (assignAt text names l rows c) after r
 
 abbrev pub SaysRowItem : List ℕ → List ℕ → Ledger → Cursor → List ℕ → Got RowItem → List ℕ → Parsed → Type 0
 SaysRowItem text names l c before g after r = Says text names l (rowItemWords text names l) 0 c before g after r

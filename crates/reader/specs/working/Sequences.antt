@@ -2,9 +2,10 @@
 -- Assumes nothing.
 use mathlib.Core.List.{List, _∷_, _++_}
 use Prim.Native.Nat.{ℕ}
-use Rattle.notation.specs.Tokens.{Lexeme}
+use Rattle.notation.specs.Tokens.{Lexeme, DO, ELSE}
 use Rattle.notation.specs.Notation.{Expr}
 use Rattle.notation.specs.Texts.{Numbered, numbered}
+use Rattle.notation.specs.Layout.{WHEN, OTHERWISE, DONE}
 use Rattle.notation.specs.working.Ledger.{Book}
 use Rattle.notation.specs.working.Table.{lit, rowItem, rowItems, item, items}
 use Rattle.notation.specs.working.Descent.{Got, got, thenReads, reader}
@@ -47,7 +48,7 @@ Tested A = Pair Expr (Pair (List A) (List A))
 
 -- The test, `do`, the first branch, `else`, the second branch and the last sign.
 abbrev pub tested : {A : Type 0} → ℕ → (List Lexeme → Book → Got (List A)) → ℕ → Got Expr → Got (Tested A)
-tested len all last g = pairing (signedBy len 7 g) (λ ts b. pairing (signedBy len 8 (all ts b)) (λ ts b. signedBy len last (all ts b)))
+tested len all last g = pairing (signedBy len DO g) (λ ts b. pairing (signedBy len ELSE (all ts b)) (λ ts b. signedBy len last (all ts b)))
 
 abbrev pub testedWords : {A : Type 0} → List ℕ → List ℕ → Ledger → (ℕ → List A → Numbered (List ℕ)) → ℕ → Tested A → Numbered (List ℕ)
-testedWords text names l code = paired (withWord (exprWords text names l) 224) (paired (withWord code 256) (withWord code 288))
+testedWords text names l code = paired (withWord (exprWords text names l) WHEN) (paired (withWord code OTHERWISE) (withWord code DONE))

@@ -6,7 +6,7 @@ use mathlib.Core.List.{List, _++_}
 use Prim.Native.Nat.{ℕ, _+_}
 use lib.ListN.{length, replicate}
 use lib.Seq.{sets}
-use Rattle.notation.specs.Tokens.{Name, Lexeme}
+use Rattle.notation.specs.Tokens.{SHARED, ROW, START, KEEP, DOT, Name, Lexeme}
 use Rattle.notation.specs.Notation.{Tree, Clause}
 use Rattle.notation.specs.Texts.{wordsOf, modelOf, namesOf}
 use Rattle.notation.specs.Layout.{layoutOf}
@@ -36,14 +36,14 @@ use Rattle.reader.specs.working.Commands.{Naming, Arrays, arrays, WroteA
 -- The descent's answer at a sign, names and a full stop.
 abbrev pub headReader : ℕ → Bool → ℕ → List Lexeme → Book → Got (List Name)
 headReader len rows kind ts b =
-    thenReads (reader len (T.lit kind) ts b) (λ u ts b. thenReads (reader len (T.names (kindOf rows)) ts b) (λ ws ts b. thenReads (reader len (T.lit 18) ts b) (λ v ts b. got ws ts b)))
+    thenReads (reader len (T.lit kind) ts b) (λ u ts b. thenReads (reader len (T.names (kindOf rows)) ts b) (λ ws ts b. thenReads (reader len (T.lit DOT) ts b) (λ v ts b. got ws ts b)))
 
 abbrev pub headAt : List ℕ → List ℕ → Ledger → Bool → ℕ → Cursor → Got (List Name)
 headAt text names l rows kind c = headReader (length text) rows kind (listed text (c .next)) (bookOf text names l c)
 
 -- Both lists of names, from the front of the text.
 abbrev pub headsReader : ℕ → List Lexeme → Book → Got (Pair (List Name) (List Name))
-headsReader len ts b = pairing (headReader len false 0 ts b) (λ ts b. headReader len true 1 ts b)
+headsReader len ts b = pairing (headReader len false SHARED ts b) (λ ts b. headReader len true ROW ts b)
 
 abbrev pub headsAt : List ℕ → Got (Pair (List Name) (List Name))
 headsAt text = headsReader (length text) (tokens text) blankBook
@@ -65,7 +65,7 @@ HeadsSay text names names′ (D.Refused n i) = (headsAt text ≡ stop n i) × Wr
 
 -- Both clauses.
 abbrev pub clausesAt : List ℕ → List ℕ → Ledger → Cursor → Got (Pair Clause Clause)
-clausesAt text names l c = pairing (clauseAt text names l 2 c) (λ ts b. reader (length text) (T.clause 3) ts b)
+clausesAt text names l c = pairing (clauseAt text names l START c) (λ ts b. reader (length text) (T.clause KEEP) ts b)
 
 pub record ClausesDone (text names : List ℕ) (l : Ledger) (c : Cursor) (p e a e′ : List ℕ) (d : Cursor) : Type 0 where
   pub done : Done text names l (paired (clauseWords text names l) (clauseWords text names l)) 0 c p (clausesAt text names l c) a d

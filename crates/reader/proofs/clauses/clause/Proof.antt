@@ -6,24 +6,12 @@ use borrow.Author.Needs.{needs}
 use Rattle.reader.proofs.clauses.clause.Statement.{statement}
 use Rattle.reader.proofs.clauses.clause.Tie as tie
 
-segment-requires : tie.Need-segment-requires
-segment-requires c κs = search needs
-
-enum-known-whole : tie.Need-enum-known-whole
-enum-known-whole c = search needs
-
-enum-told : tie.Need-enum-told
-enum-told c = search needs
-
 returns : tie.Need-returns
 returns c =
     let after-segment : tie.After-segment = search in
     let start : tie.Start = search in
     whole-bad _ _ _ _ _ _ (start .pre .0) (start .pre .1 .0) _ _ _ _ _ (after-segment .segment .ensures) _ _
     (c .enum-told .given .1)
-
-add-segment : tie.Need-add-segment
-add-segment c = search needs
 
 segment-requires-2 : tie.Need-segment-requires-2
 segment-requires-2 c κs =
@@ -35,12 +23,6 @@ segment-requires-2 c κs =
       (omega arith, omega (arith, start .pre .1 .1)),
     )
 
-enum-known-each : tie.Need-enum-known-each
-enum-known-each c = search needs
-
-enum-told-2 : tie.Need-enum-told-2
-enum-told-2 c = search needs
-
 returns-2 : tie.Need-returns-2
 returns-2 c =
     let after-segment2 : tie.After-segment2 = search in
@@ -49,9 +31,6 @@ returns-2 c =
     let start : tie.Start = search in
     each-bad _ _ _ _ _ _ (start .pre .0) (start .pre .1 .0) _ _ _ _ _ (after-segment .segment .ensures) _
     (after-whole .whole .given .1) _ _ _ (after-segment2 .segment2 .ensures) _ _ (c .enum-told2 .given .1)
-
-expect-requires : tie.Need-expect-requires
-expect-requires c κs = search needs
 
 returns-3 : tie.Need-returns-3
 returns-3 c =
@@ -68,14 +47,14 @@ pub clause-spec : {M : Type 1} → statement M
 clause-spec =
     tie.close
     (tie.spec
-    segment-requires
-    enum-known-whole
-    enum-told
+    (λ c κs. search needs)
+    (λ c. search needs)
+    (λ c. search needs)
     returns
-    add-segment
+    (λ c. search needs)
     segment-requires-2
-    enum-known-each
-    enum-told-2
+    (λ c. search needs)
+    (λ c. search needs)
     returns-2
-    expect-requires
+    (λ c κs. search needs)
     returns-3)

@@ -1,15 +1,9 @@
 -- `declare_name` meets its contract: the look-up says whether the name is declared already, the counts whether it is one too many, and else it is stored as the next name.
 -- Assumes nothing.
-use Rattle.reader.proofs.Declaring.{name-again, name-many, row-full, shared-full, row-declared, shared-declared}
+use Rattle.reader.proofs.DeclaredNames.{name-again, name-many, row-full, shared-full, row-declared, shared-declared}
 use borrow.Author.Needs.{needs}
 use Rattle.reader.proofs.clauses.declare_name.Statement.{statement}
 use Rattle.reader.proofs.clauses.declare_name.Tie as tie
-
-add-n : tie.Need-add-n
-add-n c = search needs
-
-find-name-requires : tie.Need-find-name-requires
-find-name-requires c κs = search needs
 
 returns : tie.Need-returns
 returns c =
@@ -30,15 +24,6 @@ returns-3 c =
     row-full _ _ _ _ _ (start .pre .0) _ (after-find-name .find-name .ensures) (else1 .if1 .left)
     (c .before .if3 .taken) (c .if4 .taken)
 
-declare-requires : tie.Need-declare-requires
-declare-requires c κs = search needs
-
-past-requires : tie.Need-past-requires
-past-requires c κs = search needs
-
-add-t18 : tie.Need-add-t18
-add-t18 c = search needs
-
 returns-4 : tie.Need-returns-4
 returns-4 c =
     let else4 : tie.Else4 = search in
@@ -58,15 +43,6 @@ returns-5 c =
     shared-full _ _ _ _ _ (start .pre .0) _ (after-find-name .find-name .ensures) (else1 .if1 .left)
     (c .before .if3 .left) (c .if5 .taken)
 
-declare-requires-2 : tie.Need-declare-requires-2
-declare-requires-2 c κs = search needs
-
-past-requires-2 : tie.Need-past-requires-2
-past-requires-2 c κs = search needs
-
-add-t22 : tie.Need-add-t22
-add-t22 c = search needs
-
 returns-6 : tie.Need-returns-6
 returns-6 c =
     let else5 : tie.Else5 = search in
@@ -82,17 +58,17 @@ pub declare-name-spec : {M : Type 1} → statement M
 declare-name-spec =
     tie.close
     (tie.spec
-    add-n
-    find-name-requires
+    (λ c. search needs)
+    (λ c κs. search needs)
     returns
     returns-2
     returns-3
-    declare-requires
-    past-requires
-    add-t18
+    (λ c κs. search needs)
+    (λ c κs. search needs)
+    (λ c. search needs)
     returns-4
     returns-5
-    declare-requires-2
-    past-requires-2
-    add-t22
+    (λ c κs. search needs)
+    (λ c κs. search needs)
+    (λ c. search needs)
     returns-6)

@@ -35,12 +35,6 @@ declare-name-requires c κs =
     let at-listed : At-listed = search in
     (at-listed .listed .inv .noted .listing, c .before .if1 .left)
 
-enum-known-one : tie.Need-enum-known-one Inv-listed μ-listed
-enum-known-one c = search needs
-
-enum-told : tie.Need-enum-told Inv-listed μ-listed
-enum-told c = search needs
-
 returns-2 : tie.Need-returns-2 Inv-listed μ-listed
 returns-2 c =
     let after-declare-name : After-declare-name = search in
@@ -74,8 +68,8 @@ name-list-spec =
     listed-holds
     returns
     declare-name-requires
-    enum-known-one
-    enum-told
+    (λ c. search needs)
+    (λ c. search needs)
     returns-2
     listed-less
     listed-again)

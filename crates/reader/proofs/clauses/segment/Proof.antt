@@ -7,15 +7,6 @@ use borrow.Author.Needs.{needs}
 use Rattle.reader.proofs.clauses.segment.Statement.{statement}
 use Rattle.reader.proofs.clauses.segment.Tie as tie
 
-expect-requires : tie.Need-expect-requires
-expect-requires c κs = search needs
-
-enum-known-sign : tie.Need-enum-known-sign
-enum-known-sign c = search needs
-
-enum-told : tie.Need-enum-told
-enum-told c = search needs
-
 returns : tie.Need-returns
 returns c =
     let after-expect : tie.After-expect = search in
@@ -29,15 +20,9 @@ or-level-requires c κs =
     let after-expect : tie.After-expect = search in
     let start : tie.Start = search in (
       omega arith,
-      sign-ready _ (start .args .names .now) _ _ _ _ _ _ (start .pre .0) (after-expect .expect .ensures)
+      sign-ready _ (start .pre .0) (after-expect .expect .ensures)
           (after-sign .sign .given .1),
     )
-
-enum-known-read : tie.Need-enum-known-read
-enum-known-read c = search needs
-
-enum-told-2 : tie.Need-enum-told-2
-enum-told-2 c = search needs
 
 returns-2 : tie.Need-returns-2
 returns-2 c =
@@ -86,13 +71,13 @@ pub segment-spec : {M : Type 1} → statement M
 segment-spec =
     tie.close
     (tie.spec
-    expect-requires
-    enum-known-sign
-    enum-told
+    (λ c κs. search needs)
+    (λ c. search needs)
+    (λ c. search needs)
     returns
     or-level-requires
-    enum-known-read
-    enum-told-2
+    (λ c. search needs)
+    (λ c. search needs)
     returns-2
     cast-ends
     mul-ends

@@ -1,8 +1,9 @@
 -- `command` meets its contract: its title and its body are read, and its end and its number of stars stored.
 -- Assumes nothing.
+use Prim.Native.Nat.{_<_}
 use native.Mathlib.Omega.{arith}
-use Rattle.reader.proofs.Commanding.{title-refused, title-ready, title-few, body-refused, command-small}
-use Rattle.reader.proofs.Commanding.{command-says}
+use Rattle.reader.proofs.OneCommand.{title-refused, title-ready, title-few, body-refused, command-small}
+use Rattle.reader.proofs.OneCommand.{command-says}
 use borrow.Author.Needs.{needs}
 use Rattle.reader.proofs.commands.command.Statement.{statement}
 use Rattle.reader.proofs.commands.command.Tie as tie
@@ -12,124 +13,68 @@ title-requires c κs =
     let start : tie.Start = search in
     start .pre
 
-enum-known-titled : tie.Need-enum-known-titled
-enum-known-titled c = search needs
-
-enum-told : tie.Need-enum-told
-enum-told c = search needs
-
 returns : tie.Need-returns
 returns c =
     let after-title : tie.After-title = search in
     let start : tie.Start = search in
-    title-refused (start .args .text .now) (start .args .names .now) (start .args .ops .now) (start .args .ends .now)
-    (start .args .stars .now) (start .args .l) (start .args .c) (start .pre .0) _ _ (after-title .title .ensures) _ _
-    (c .enum-told .given .1)
+    title-refused (start .pre .0) _ (after-title .title .ensures) (start .args .ops .now) (start .args .ends .now) (start .args .stars .now) (c .enum-told .given .1)
 
 body-requires : tie.Need-body-requires
 body-requires c κs =
     let after-titled : tie.After-titled = search in
     let after-title : tie.After-title = search in
     let start : tie.Start = search in
-    title-ready (start .args .text .now) (start .args .names .now) (start .args .ops .now) (start .args .ends .now)
-    (start .args .stars .now) (start .args .l) (start .args .c) (start .pre .0) _ _ (after-title .title .ensures) _ _
-    (after-titled .titled .given .1)
+    title-ready (start .pre .0) _ (after-title .title .ensures) (after-titled .titled .given .1)
 
-enum-known-read : tie.Need-enum-known-read
-enum-known-read c = search needs
+-- There are few commands, and what is stored of one is small.
+few : (c : tie.After-titled) → let start : tie.Start = search in start .args .l .commands < 16
+few c =
+    let after-title : tie.After-title = search in
+    let start : tie.Start = search in
+    title-few (start .pre .0) _ (after-title .title .ensures) (c .titled .given .1)
+
+small : (c : tie.After-read) → (c .read .given .0 .0 .emitted < 65536) × (c .read .given .0 .0 .stars < 65536)
+small c =
+    let after-body : tie.After-body = search in
+    let after-titled : tie.After-titled = search in
+    let after-title : tie.After-title = search in
+    let start : tie.Start = search in
+    command-small (start .pre .0) _ (after-title .title .ensures) (after-titled .titled .given .1) (after-body .body .ensures) (c .read .given .1)
 
 cast-ends : tie.Need-cast-ends
 cast-ends c =
     let after-read : tie.After-read = search in
-    let after-body : tie.After-body = search in
-    let after-titled : tie.After-titled = search in
-    let after-title : tie.After-title = search in
-    let start : tie.Start = search in
-    omega (
-      arith,
-      command-small (start .args .text .now) (start .args .names .now) (start .args .ops .now)
-          (start .args .ends .now) (start .args .stars .now) (start .args .l) (start .args .c) (start .pre .0) _ _
-          (after-title .title .ensures) _ _ (after-titled .titled .given .1) _ _ _ (after-body .body .ensures)
-          (after-read .read .given .1) .0,
-    )
+    omega (arith, small after-read .0)
 
 add-ends : tie.Need-add-ends
 add-ends c =
     let after-titled : tie.After-titled = search in
-    let after-title : tie.After-title = search in
-    let start : tie.Start = search in
-    omega (
-      arith,
-      title-few (start .args .text .now) (start .args .names .now) (start .args .ops .now)
-          (start .args .ends .now) (start .args .stars .now) (start .args .l) (start .args .c) (start .pre .0) _ _
-          (after-title .title .ensures) _ _ (after-titled .titled .given .1),
-    )
+    omega (arith, few after-titled)
 
 mul-ends : tie.Need-mul-ends
 mul-ends c =
     let after-titled : tie.After-titled = search in
-    let after-title : tie.After-title = search in
-    let start : tie.Start = search in
-    omega (
-      arith,
-      title-few (start .args .text .now) (start .args .names .now) (start .args .ops .now)
-          (start .args .ends .now) (start .args .stars .now) (start .args .l) (start .args .c) (start .pre .0) _ _
-          (after-title .title .ensures) _ _ (after-titled .titled .given .1),
-    )
+    omega (arith, few after-titled)
 
 element-write-ends : tie.Need-element-write-ends
 element-write-ends c =
     let after-titled : tie.After-titled = search in
-    let after-title : tie.After-title = search in
-    let start : tie.Start = search in
-    omega (
-      arith,
-      title-few (start .args .text .now) (start .args .names .now) (start .args .ops .now)
-          (start .args .ends .now) (start .args .stars .now) (start .args .l) (start .args .c) (start .pre .0) _ _
-          (after-title .title .ensures) _ _ (after-titled .titled .given .1),
-    )
+    omega (arith, few after-titled)
 
 cast-stars : tie.Need-cast-stars
 cast-stars c =
     let after-read : tie.After-read = search in
-    let after-body : tie.After-body = search in
-    let after-titled : tie.After-titled = search in
-    let after-title : tie.After-title = search in
-    let start : tie.Start = search in
-    omega (
-      arith,
-      command-small (start .args .text .now) (start .args .names .now) (start .args .ops .now)
-          (start .args .ends .now) (start .args .stars .now) (start .args .l) (start .args .c) (start .pre .0) _ _
-          (after-title .title .ensures) _ _ (after-titled .titled .given .1) _ _ _ (after-body .body .ensures)
-          (after-read .read .given .1) .1,
-    )
+    omega (arith, small after-read .1)
 
 mul-stars : tie.Need-mul-stars
 mul-stars c =
     let after-titled : tie.After-titled = search in
-    let after-title : tie.After-title = search in
-    let start : tie.Start = search in
-    omega (
-      arith,
-      title-few (start .args .text .now) (start .args .names .now) (start .args .ops .now)
-          (start .args .ends .now) (start .args .stars .now) (start .args .l) (start .args .c) (start .pre .0) _ _
-          (after-title .title .ensures) _ _ (after-titled .titled .given .1),
-    )
+    omega (arith, few after-titled)
 
 element-write-stars : tie.Need-element-write-stars
 element-write-stars c =
     let after-titled : tie.After-titled = search in
-    let after-title : tie.After-title = search in
-    let start : tie.Start = search in
-    omega (
-      arith,
-      title-few (start .args .text .now) (start .args .names .now) (start .args .ops .now)
-          (start .args .ends .now) (start .args .stars .now) (start .args .l) (start .args .c) (start .pre .0) _ _
-          (after-title .title .ensures) _ _ (after-titled .titled .given .1),
-    )
-
-enum-known-read-2 : tie.Need-enum-known-read-2
-enum-known-read-2 c = search needs
+    omega (arith, few after-titled)
 
 returns-2 : tie.Need-returns-2
 returns-2 c =
@@ -138,9 +83,8 @@ returns-2 c =
     let after-titled : tie.After-titled = search in
     let after-title : tie.After-title = search in
     let start : tie.Start = search in
-    command-says (start .args .text .now) (start .args .names .now) (start .args .ops .now) (start .args .ends .now)
-    (start .args .stars .now) (start .args .l) (start .args .c) (start .pre .0) _ _ (after-title .title .ensures) _ _
-    (after-titled .titled .given .1) _ _ _ (after-body .body .ensures) (after-read .read .given .1)
+    command-says (start .pre .0) _ (after-title .title .ensures) (after-titled .titled .given .1) (after-body .body .ensures) (after-read .read .given .1)
+    (start .args .ends .now) (start .args .stars .now)
 
 returns-3 : tie.Need-returns-3
 returns-3 c =
@@ -148,20 +92,19 @@ returns-3 c =
     let after-titled : tie.After-titled = search in
     let after-title : tie.After-title = search in
     let start : tie.Start = search in
-    body-refused (start .args .text .now) (start .args .names .now) (start .args .ops .now) (start .args .ends .now)
-    (start .args .stars .now) (start .args .l) (start .args .c) (start .pre .0) _ _ (after-title .title .ensures) _ _
-    (after-titled .titled .given .1) _ _ _ _ (after-body .body .ensures) (c .before .read2 .given .1)
+    body-refused (start .pre .0) _ (after-title .title .ensures) (after-titled .titled .given .1) (start .args .ends .now) (start .args .stars .now)
+    (after-body .body .ensures) (c .before .read2 .given .1)
 
 pub command-spec : {M : Type 1} → statement M
 command-spec =
     tie.close
     (tie.spec
     title-requires
-    enum-known-titled
-    enum-told
+    (λ c. search needs)
+    (λ c. search needs)
     returns
     body-requires
-    enum-known-read
+    (λ c. search needs)
     cast-ends
     add-ends
     mul-ends
@@ -169,6 +112,6 @@ command-spec =
     cast-stars
     mul-stars
     element-write-stars
-    enum-known-read-2
+    (λ c. search needs)
     returns-2
     returns-3)

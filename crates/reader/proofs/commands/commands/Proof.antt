@@ -33,12 +33,6 @@ command-requires c κs =
     let at-each : At-each = search in
     (at-each .each .inv .naming, at-each .each .inv .kind)
 
-enum-known-one : tie.Need-enum-known-one Inv-each μ-each
-enum-known-one c = search needs
-
-enum-told : tie.Need-enum-told Inv-each μ-each
-enum-told c = search needs
-
 returns : tie.Need-returns Inv-each μ-each
 returns c =
     let after-command : After-command = search in
@@ -78,8 +72,8 @@ commands-spec =
     μ-each
     each-holds
     command-requires
-    enum-known-one
-    enum-told
+    (λ c. search needs)
+    (λ c. search needs)
     returns
     returns-2
     each-less

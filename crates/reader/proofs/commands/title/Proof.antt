@@ -3,16 +3,13 @@
 use mathlib.Core.Path.{refl}
 use native.Mathlib.Omega.{arith}
 use Rattle.reader.proofs.Titles.{title-bad, title-full, title-missing, title-twice, title-says}
-use Rattle.reader.proofs.Answers.{is-past}
+use Rattle.reader.proofs.Moves.{is-past}
 use borrow.Author.Needs.{needs}
 use Rattle.reader.proofs.commands.title.Statement.{statement}
 use Rattle.reader.proofs.commands.title.Tie as tie
 
 returns : tie.Need-returns
 returns c = title-bad _ _ _ _ _ _ (title-full _ _ _ _ (c .if1 .taken))
-
-past-requires : tie.Need-past-requires
-past-requires c κs = search needs
 
 returns-2 : tie.Need-returns-2
 returns-2 c =
@@ -63,9 +60,6 @@ declare-requires c κs =
       ),
     )
 
-past-requires-2 : tie.Need-past-requires-2
-past-requires-2 c κs = search needs
-
 add-t15 : tie.Need-add-t15
 add-t15 c =
     let after-shared-slice-known : tie.After-shared-slice-known = search in
@@ -89,13 +83,13 @@ title-spec =
     tie.close
     (tie.spec
     returns
-    past-requires
+    (λ c κs. search needs)
     returns-2
     add-n
     add-n-2
     find-name-requires
     returns-3
     declare-requires
-    past-requires-2
+    (λ c κs. search needs)
     add-t15
     returns-4)

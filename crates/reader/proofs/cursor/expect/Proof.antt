@@ -9,9 +9,6 @@ returns : tie.Need-returns
 unfolding Expected
 returns c = search needs
 
-past-requires : tie.Need-past-requires
-past-requires c κs = search needs
-
 returns-2 : tie.Need-returns-2
 unfolding Expected
 returns-2 c =
@@ -19,4 +16,4 @@ returns-2 c =
     (else1 .if1 .left, c .past .ensures)
 
 pub expect-spec : {M : Type 1} → statement M
-expect-spec = tie.close (tie.spec returns past-requires returns-2)
+expect-spec = tie.close (tie.spec returns (λ c κs. search needs) returns-2)

@@ -7,9 +7,6 @@ use Rattle.reader.specs.working.Cursors.{moved}
 use Rattle.reader.proofs.cursor.past.Statement.{statement}
 use Rattle.reader.proofs.cursor.past.Tie as tie
 
-piece-at-requires : tie.Need-piece-at-requires
-piece-at-requires c κs = search needs
-
 returns : tie.Need-returns
 returns c =
     let start : tie.Start = search in
@@ -17,4 +14,4 @@ returns c =
     ap (λ (u : Piece). moved u (a .c) (a .items) (a .nodes) (a .stars)) (c .piece-at .ensures)
 
 pub past-spec : {M : Type 1} → statement M
-past-spec = tie.close (tie.spec piece-at-requires returns)
+past-spec = tie.close (tie.spec (λ c κs. search needs) returns)

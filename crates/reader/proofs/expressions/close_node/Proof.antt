@@ -2,22 +2,16 @@
 -- Assumes nothing.
 use mathlib.Core.Path.{subst}
 use Rattle.reader.specs.working.Expressions.{roomed}
-use Rattle.reader.proofs.Answers.{node-ok, node-bad}
+use Rattle.reader.proofs.Moves.{node-ok, node-bad}
 use borrow.Author.Needs.{needs}
 use Rattle.reader.proofs.expressions.close_node.Statement.{statement}
 use Rattle.reader.proofs.expressions.close_node.Tie as tie
-
-enum-known-inner : tie.Need-enum-known-inner
-enum-known-inner c = search needs
 
 emit-requires : tie.Need-emit-requires
 emit-requires c κs =
     let after-inner : tie.After-inner = search in
     let start : tie.Start = search in
     subst roomed (after-inner .inner .given .1) (start .pre)
-
-enum-known-inner-2 : tie.Need-enum-known-inner-2
-enum-known-inner-2 c = search needs
 
 returns : tie.Need-returns
 returns c =
@@ -29,4 +23,4 @@ returns-2 c = node-bad _ _ _ _ _ (c .before .inner2 .given .1)
 
 pub close-node-spec : {M : Type 1} → statement M
 close-node-spec =
-    tie.close (tie.spec enum-known-inner emit-requires enum-known-inner-2 returns returns-2)
+    tie.close (tie.spec (λ c. search needs) emit-requires (λ c. search needs) returns returns-2)

@@ -1,18 +1,12 @@
 -- `leaf` meets its contract: one test of the count, and then the piece is passed and its code word stored.
 -- Assumes nothing.
-use Rattle.reader.proofs.Answers.{leaf-full, leaf-fits, past-room, is-past}
+use Rattle.reader.proofs.Moves.{leaf-full, leaf-fits, past-room, is-past}
 use borrow.Author.Needs.{needs}
 use Rattle.reader.proofs.expressions.leaf.Statement.{statement}
 use Rattle.reader.proofs.expressions.leaf.Tie as tie
 
 returns : tie.Need-returns
 returns c = leaf-full _ _ _ _ _ (c .if1 .taken)
-
-add-past : tie.Need-add-past
-add-past c = search needs
-
-past-requires : tie.Need-past-requires
-past-requires c κs = search needs
 
 emit-requires : tie.Need-emit-requires
 emit-requires c κs =
@@ -26,4 +20,4 @@ returns-2 c =
     leaf-fits _ _ _ _ _ _ _ _ (else1 .if1 .left) (after-past .past .ensures) (c .emit .ensures)
 
 pub leaf-spec : {M : Type 1} → statement M
-leaf-spec = tie.close (tie.spec returns add-past past-requires emit-requires returns-2)
+leaf-spec = tie.close (tie.spec returns (λ c. search needs) (λ c κs. search needs) emit-requires returns-2)

@@ -9,20 +9,11 @@ use borrow.Author.Needs.{needs}
 use Rattle.reader.proofs.expressions.operand.Statement.{statement}
 use Rattle.reader.proofs.expressions.operand.Tie as tie
 
-leaf-requires : tie.Need-leaf-requires
-leaf-requires c κs = search needs
-
 returns : tie.Need-returns
 returns c =
     let then1 : tie.Then1 = search in
     let start : tie.Start = search in
     zero-says _ _ _ _ _ _ (start .pre .0) _ _ _ (then1 .if1 .taken) (c .leaf .ensures)
-
-add-leaf : tie.Need-add-leaf
-add-leaf c = search needs
-
-leaf-requires-2 : tie.Need-leaf-requires-2
-leaf-requires-2 c κs = search needs
 
 returns-2 : tie.Need-returns-2
 returns-2 c =
@@ -44,18 +35,6 @@ returns-4 c =
     operand-bad _ _ _ _ _ _ (start .pre .0) _ _ _
     (star-many _ _ _ _ _ _ (start .pre .0) (then3 .if3 .taken) (not-false _ (c .before .if4 .left)) (c .if5 .taken))
 
-cast-leaf : tie.Need-cast-leaf
-cast-leaf c = search needs
-
-add-leaf-2 : tie.Need-add-leaf-2
-add-leaf-2 c = search needs
-
-add-leaf-3 : tie.Need-add-leaf-3
-add-leaf-3 c = search needs
-
-leaf-requires-3 : tie.Need-leaf-requires-3
-leaf-requires-3 c κs = search needs
-
 returns-5 : tie.Need-returns-5
 returns-5 c =
     let else5 : tie.Else5 = search in
@@ -64,9 +43,6 @@ returns-5 c =
     let start : tie.Start = search in
     star-says _ _ _ _ _ _ (start .pre .0) _ _ _ (then3 .if3 .taken) (not-false _ (else4 .if4 .left)) (else5 .if5 .left)
     (c .leaf3 .ensures)
-
-visible-requires : tie.Need-visible-requires
-visible-requires c κs = search needs
 
 find-name-requires : tie.Need-find-name-requires
 find-name-requires c κs =
@@ -115,9 +91,6 @@ add-leaf-4 c =
           (c .before .if7 .left),
     )
 
-leaf-requires-4 : tie.Need-leaf-requires-4
-leaf-requires-4 c κs = search needs
-
 returns-7 : tie.Need-returns-7
 returns-7 c =
     let else7 : tie.Else7 = search in
@@ -141,23 +114,23 @@ pub operand-spec : {M : Type 1} → statement M
 operand-spec =
     tie.close
     (tie.spec
-    leaf-requires
+    (λ c κs. search needs)
     returns
-    add-leaf
-    leaf-requires-2
+    (λ c. search needs)
+    (λ c κs. search needs)
     returns-2
     returns-3
     returns-4
-    cast-leaf
-    add-leaf-2
-    add-leaf-3
-    leaf-requires-3
+    (λ c. search needs)
+    (λ c. search needs)
+    (λ c. search needs)
+    (λ c κs. search needs)
     returns-5
-    visible-requires
+    (λ c κs. search needs)
     find-name-requires
     returns-6
     cast-leaf-2
     add-leaf-4
-    leaf-requires-4
+    (λ c κs. search needs)
     returns-7
     returns-8)

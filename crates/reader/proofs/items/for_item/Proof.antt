@@ -3,57 +3,44 @@
 use native.Mathlib.Omega.{arith}
 use lib.ListN.{length}
 use Rattle.reader.specs.working.Items.{rowItemsWords}
-use Rattle.reader.proofs.Done.{wrote-none, says-bad}
-use Rattle.reader.proofs.Sequences.{ready-less}
+use Rattle.reader.proofs.StoredCode.{wrote-none}
+use Rattle.reader.proofs.Moves.{ready-less}
 use Rattle.reader.specs.working.Sequences.{allRows}
-use Rattle.reader.proofs.Tests.{test-roomed, first-bad, yes-ready, done-roomed, second-bad, no-ready}
-use Rattle.reader.proofs.Tests.{rest-roomed, tested-says}
-use Rattle.reader.proofs.Branches.{for-full, for-ready, for-says}
-use Rattle.reader.proofs.Answers.{is-past}
+use Rattle.reader.proofs.TwoBranches.{test-roomed, first-bad, yes-ready, done-roomed, second-bad, no-ready}
+use Rattle.reader.proofs.TwoBranches.{rest-roomed, tested-says}
+use Rattle.reader.proofs.ItemForms.{for-full, for-ready, for-says}
+use Rattle.reader.proofs.Moves.{is-past}
 use borrow.Author.Needs.{needs}
 use Rattle.reader.proofs.items.for_item.Statement.{statement}
 use Rattle.reader.proofs.items.for_item.Tie as tie
+use Rattle.reader.specs.working.Cursors.{Ready, wasRefused}
 
 returns : tie.Need-returns
 returns c =
     let start : tie.Start = search in
-    says-bad _ _ _ _ _ _ _ _ _ _ _ (for-full _ _ _ _ (start .pre .0) (start .pre .1) (c .if1 .taken))
+    wasRefused (for-full _ _ _ _ (start .pre .0) (start .pre .1) (c .if1 .taken))
     wrote-none
 
-add-past : tie.Need-add-past
-add-past c = search needs
-
-past-requires : tie.Need-past-requires
-past-requires c κs = search needs
+-- A reader may be called past `for`.
+ready : (c : tie.After-past) → let start : tie.Start = search in Ready (start .args .text .now) (start .args .l) 3 (c .past .result)
+ready c =
+    let else1 : tie.Else1 = search in
+    let start : tie.Start = search in
+    for-ready _ (start .args .names .now) _ _ (start .pre .0) (start .pre .1) (else1 .if1 .left) _ (is-past (c .past .ensures))
 
 or-level-requires : tie.Need-or-level-requires
 or-level-requires c κs =
-    let else1 : tie.Else1 = search in
-    let start : tie.Start = search in
-    let names = start .args .names .now in (
-      omega arith,
-      ready-less _ names _ 3 0 _ (omega arith)
-          (for-ready (start .args .text .now) names (start .args .l) _ (start .pre .0) (start .pre .1) (else1 .if1 .left) _
-          (is-past (c .before .past .ensures))),
-    )
+    (omega arith, ready-less (ready (c .before)) (omega arith))
 
 mark-requires : tie.Need-mark-requires
 mark-requires c κs =
     let after-past : tie.After-past = search in
-    let else1 : tie.Else1 = search in
     let start : tie.Start = search in
     let names = start .args .names .now in
     let text = start .args .text .now in
     let l = start .args .l in
-    test-roomed text names l (rowItemsWords text names l) (allRows (length text)) 10 (omega arith) _
-    (for-ready text names l _ (start .pre .0) (start .pre .1) (else1 .if1 .left) _ (is-past (after-past .past .ensures))) _ _ _ _
+    test-roomed text names l (rowItemsWords text names l) (allRows (length text)) 10 (omega arith) (ready after-past)
     (c .before .or-level .ensures)
-
-enum-known-first : tie.Need-enum-known-first
-enum-known-first c = search needs
-
-enum-told : tie.Need-enum-told
-enum-told c = search needs
 
 returns-2 : tie.Need-returns-2
 returns-2 c =
@@ -66,9 +53,8 @@ returns-2 c =
     let text = start .args .text .now in
     let l = start .args .l in
     for-says _ _ _ _ (start .pre .0) (start .pre .1) (else1 .if1 .left) _ (is-past (after-past .past .ensures)) _ _ _
-    (first-bad text names l (rowItemsWords text names l) (allRows (length text)) 10 (omega arith) _
-    (for-ready text names l _ (start .pre .0) (start .pre .1) (else1 .if1 .left) _ (is-past (after-past .past .ensures))) _ _ _ _
-    (after-or-level .or-level .ensures) _ _ (after-mark .mark .ensures) _ _ (c .enum-told .given .1))
+    (first-bad text names l (rowItemsWords text names l) (allRows (length text)) 10 (omega arith) (ready after-past)
+    (after-or-level .or-level .ensures) _ _ (after-mark .mark .ensures) (c .enum-told .given .1))
 
 row-items-requires : tie.Need-row-items-requires
 row-items-requires c κs =
@@ -76,14 +62,12 @@ row-items-requires c κs =
     let after-mark : tie.After-mark = search in
     let after-or-level : tie.After-or-level = search in
     let after-past : tie.After-past = search in
-    let else1 : tie.Else1 = search in
     let start : tie.Start = search in
     let names = start .args .names .now in
     let text = start .args .text .now in
     let l = start .args .l in
-    yes-ready text names l (rowItemsWords text names l) (allRows (length text)) 10 (omega arith) _
-    (for-ready text names l _ (start .pre .0) (start .pre .1) (else1 .if1 .left) _ (is-past (after-past .past .ensures))) _ _ _ _
-    (after-or-level .or-level .ensures) _ _ (after-mark .mark .ensures) _ (after-first .first .given .1)
+    yes-ready text names l (rowItemsWords text names l) (allRows (length text)) 10 (omega arith) (ready after-past)
+    (after-or-level .or-level .ensures) _ _ (after-mark .mark .ensures) (after-first .first .given .1)
 
 mark-requires-2 : tie.Need-mark-requires-2
 mark-requires-2 c κs =
@@ -91,21 +75,13 @@ mark-requires-2 c κs =
     let after-mark : tie.After-mark = search in
     let after-or-level : tie.After-or-level = search in
     let after-past : tie.After-past = search in
-    let else1 : tie.Else1 = search in
     let start : tie.Start = search in
     let names = start .args .names .now in
     let text = start .args .text .now in
     let l = start .args .l in
-    done-roomed text names l (rowItemsWords text names l) (allRows (length text)) 10 (omega arith) _
-    (for-ready text names l _ (start .pre .0) (start .pre .1) (else1 .if1 .left) _ (is-past (after-past .past .ensures))) _ _ _ _
-    (after-or-level .or-level .ensures) _ _ (after-mark .mark .ensures) _ (after-first .first .given .1) _ _
+    done-roomed text names l (rowItemsWords text names l) (allRows (length text)) 10 (omega arith) (ready after-past)
+    (after-or-level .or-level .ensures) _ _ (after-mark .mark .ensures) (after-first .first .given .1)
     (c .before .row-items .ensures)
-
-enum-known-second : tie.Need-enum-known-second
-enum-known-second c = search needs
-
-enum-told-2 : tie.Need-enum-told-2
-enum-told-2 c = search needs
 
 returns-3 : tie.Need-returns-3
 returns-3 c =
@@ -121,10 +97,9 @@ returns-3 c =
     let text = start .args .text .now in
     let l = start .args .l in
     for-says _ _ _ _ (start .pre .0) (start .pre .1) (else1 .if1 .left) _ (is-past (after-past .past .ensures)) _ _ _
-    (second-bad text names l (rowItemsWords text names l) (allRows (length text)) 10 (omega arith) _
-    (for-ready text names l _ (start .pre .0) (start .pre .1) (else1 .if1 .left) _ (is-past (after-past .past .ensures))) _ _ _ _
-    (after-or-level .or-level .ensures) _ _ (after-mark .mark .ensures) _ (after-first .first .given .1) _ _
-    (after-row-items .row-items .ensures) _ _ (after-mark2 .mark2 .ensures) _ _ (c .enum-told2 .given .1))
+    (second-bad text names l (rowItemsWords text names l) (allRows (length text)) 10 (omega arith) (ready after-past)
+    (after-or-level .or-level .ensures) _ _ (after-mark .mark .ensures) (after-first .first .given .1)
+    (after-row-items .row-items .ensures) _ _ (after-mark2 .mark2 .ensures) (c .enum-told2 .given .1))
 
 row-items-requires-2 : tie.Need-row-items-requires-2
 row-items-requires-2 c κs =
@@ -135,15 +110,13 @@ row-items-requires-2 c κs =
     let after-mark : tie.After-mark = search in
     let after-or-level : tie.After-or-level = search in
     let after-past : tie.After-past = search in
-    let else1 : tie.Else1 = search in
     let start : tie.Start = search in
     let names = start .args .names .now in
     let text = start .args .text .now in
     let l = start .args .l in
-    no-ready text names l (rowItemsWords text names l) (allRows (length text)) 10 (omega arith) _
-    (for-ready text names l _ (start .pre .0) (start .pre .1) (else1 .if1 .left) _ (is-past (after-past .past .ensures))) _ _ _ _
-    (after-or-level .or-level .ensures) _ _ (after-mark .mark .ensures) _ (after-first .first .given .1) _ _
-    (after-row-items .row-items .ensures) _ _ (after-mark2 .mark2 .ensures) _ (after-second .second .given .1)
+    no-ready text names l (rowItemsWords text names l) (allRows (length text)) 10 (omega arith) (ready after-past)
+    (after-or-level .or-level .ensures) _ _ (after-mark .mark .ensures) (after-first .first .given .1)
+    (after-row-items .row-items .ensures) _ _ (after-mark2 .mark2 .ensures) (after-second .second .given .1)
 
 mark-requires-3 : tie.Need-mark-requires-3
 mark-requires-3 c κs =
@@ -154,15 +127,13 @@ mark-requires-3 c κs =
     let after-mark : tie.After-mark = search in
     let after-or-level : tie.After-or-level = search in
     let after-past : tie.After-past = search in
-    let else1 : tie.Else1 = search in
     let start : tie.Start = search in
     let names = start .args .names .now in
     let text = start .args .text .now in
     let l = start .args .l in
-    rest-roomed text names l (rowItemsWords text names l) (allRows (length text)) 10 (omega arith) _
-    (for-ready text names l _ (start .pre .0) (start .pre .1) (else1 .if1 .left) _ (is-past (after-past .past .ensures))) _ _ _ _
-    (after-or-level .or-level .ensures) _ _ (after-mark .mark .ensures) _ (after-first .first .given .1) _ _
-    (after-row-items .row-items .ensures) _ _ (after-mark2 .mark2 .ensures) _ (after-second .second .given .1) _ _
+    rest-roomed text names l (rowItemsWords text names l) (allRows (length text)) 10 (omega arith) (ready after-past)
+    (after-or-level .or-level .ensures) _ _ (after-mark .mark .ensures) (after-first .first .given .1)
+    (after-row-items .row-items .ensures) _ _ (after-mark2 .mark2 .ensures) (after-second .second .given .1)
     (c .before .row-items2 .ensures)
 
 returns-4 : tie.Need-returns-4
@@ -181,28 +152,27 @@ returns-4 c =
     let text = start .args .text .now in
     let l = start .args .l in
     for-says _ _ _ _ (start .pre .0) (start .pre .1) (else1 .if1 .left) _ (is-past (after-past .past .ensures)) _ _ _
-    (tested-says text names l (rowItemsWords text names l) (allRows (length text)) 10 (omega arith) _
-    (for-ready text names l _ (start .pre .0) (start .pre .1) (else1 .if1 .left) _ (is-past (after-past .past .ensures))) _ _ _ _
-    (after-or-level .or-level .ensures) _ _ (after-mark .mark .ensures) _ (after-first .first .given .1) _ _
-    (after-row-items .row-items .ensures) _ _ (after-mark2 .mark2 .ensures) _ (after-second .second .given .1) _ _
-    (after-row-items2 .row-items2 .ensures) _ _ (c .mark3 .ensures))
+    (tested-says text names l (rowItemsWords text names l) (allRows (length text)) 10 (omega arith) (ready after-past)
+    (after-or-level .or-level .ensures) _ _ (after-mark .mark .ensures) (after-first .first .given .1)
+    (after-row-items .row-items .ensures) _ _ (after-mark2 .mark2 .ensures) (after-second .second .given .1)
+    (after-row-items2 .row-items2 .ensures) (c .mark3 .ensures))
 
 pub for-item-spec : {M : Type 1} → statement M
 for-item-spec =
     tie.close
     (tie.spec
     returns
-    add-past
-    past-requires
+    (λ c. search needs)
+    (λ c κs. search needs)
     or-level-requires
     mark-requires
-    enum-known-first
-    enum-told
+    (λ c. search needs)
+    (λ c. search needs)
     returns-2
     row-items-requires
     mark-requires-2
-    enum-known-second
-    enum-told-2
+    (λ c. search needs)
+    (λ c. search needs)
     returns-3
     row-items-requires-2
     mark-requires-3

@@ -1,13 +1,11 @@
 -- `item` meets its contract, by the kind of its first token.
 -- Assumes nothing.
-use Rattle.reader.proofs.Done.{wrote-none, says-bad}
-use Rattle.reader.proofs.Branches.{item-skip, item-assign, item-missing}
+use Rattle.reader.proofs.StoredCode.{wrote-none}
+use Rattle.reader.proofs.ItemForms.{item-skip, item-assign, item-missing}
 use borrow.Author.Needs.{needs}
 use Rattle.reader.proofs.items.item.Statement.{statement}
 use Rattle.reader.proofs.items.item.Tie as tie
-
-skip-item-requires : tie.Need-skip-item-requires
-skip-item-requires c κs = search needs
+use Rattle.reader.specs.working.Cursors.{wasRefused}
 
 returns : tie.Need-returns
 returns c =
@@ -38,7 +36,7 @@ returns-4 : tie.Need-returns-4
 returns-4 c =
     let else1 : tie.Else1 = search in
     let start : tie.Start = search in
-    says-bad _ _ _ _ _ _ _ _ _ _ _
+    wasRefused
     (item-missing _ _ _ _ (start .pre) (else1 .if1 .left) (c .before .if2 .left) (c .if3 .left))
     wrote-none
 
@@ -46,7 +44,7 @@ pub item-spec : {M : Type 1} → statement M
 item-spec =
     tie.close
     (tie.spec
-    skip-item-requires
+    (λ c κs. search needs)
     returns
     assignment-requires
     returns-2

@@ -2,17 +2,18 @@
 -- Assumes nothing.
 use Prim.Native.Nat.{_+_, _-_, _*_}
 use native.Mathlib.Omega.{arith}
-use Rattle.reader.proofs.Answers.{is-past}
+use Rattle.reader.proofs.Moves.{is-past}
 use borrow.Author.Needs.{needs}
-use Rattle.reader.proofs.Done.{said-ok, says-ok}
-use Rattle.reader.proofs.Series.{Turn, first-bad, rest-first, rest-stop, rest-bad, turn-none, turn-ready}
-use Rattle.reader.proofs.Series.{turn-less, turn-more}
-use Rattle.reader.proofs.Lists.{itemSeries}
+use Rattle.reader.proofs.StoredCode.{said-ok}
+use Rattle.reader.proofs.ItemLoops.{Turn, first-bad, rest-first, rest-stop, rest-bad, turn-none, turn-ready}
+use Rattle.reader.proofs.ItemLoops.{turn-less, turn-more}
+use Rattle.reader.proofs.ItemLists.{itemSeries}
 use Rattle.reader.proofs.items.items.Statement.{statement}
 use Rattle.reader.proofs.items.items.Tie as tie
+use Rattle.reader.specs.working.Cursors.{wasRead}
 
 abbrev Inv-list : tie.InvT-list
-Inv-list text names ops₀ l cur₀ ops cur = Turn text names l (itemSeries text names l) ops₀ cur₀ ops cur
+Inv-list text names ops₀ l cur₀ ops cur = Turn (itemSeries text names l) ops₀ cur₀ ops cur
 
 abbrev μ-list : tie.MeasureT-list
 μ-list text names ops₀ l cur₀ ops cur = 2048 - (cur .nodes + 3 * cur .items)
@@ -44,51 +45,36 @@ item-requires c κs =
     let start : Start = search in
     start .pre
 
-enum-known-first : tie.Need-enum-known-first Inv-list μ-list
-enum-known-first c = search needs
-
-enum-told : tie.Need-enum-told Inv-list μ-list
-enum-told c = search needs
-
 returns : tie.Need-returns Inv-list μ-list
 returns c =
     let after-item : After-item = search in
     let start : Start = search in
-    first-bad _ _ _ (itemSeries (start .args .text .now) (start .args .names .now) (start .args .l)) _ _ _ _ _ _ _
+    first-bad (itemSeries (start .args .text .now) (start .args .names .now) (start .args .l))
     (after-item .item .ensures) (c .enum-told .given .1)
 
 list-holds : tie.Need-list-holds Inv-list μ-list
 list-holds c =
     let after-item : After-item = search in
     let start : Start = search in
-    turn-none _ _ _ (itemSeries _ _ _) _ _ _ _ _
-    (said-ok _ _ _ _ _ _ _ _ _ _ _ (after-item .item .ensures) (c .before .first .given .1)) (start .pre)
+    turn-none
+    (said-ok (after-item .item .ensures) (c .before .first .given .1)) (start .pre)
 
 returns-2 : tie.Need-returns-2 Inv-list μ-list
 returns-2 c =
     let at-list : At-list = search in
     let after-first : After-first = search in
     let after-item : After-item = search in
-    says-ok _ _ _ _ _ _ _ _ _ _
-    (rest-stop _ _ _ (itemSeries _ _ _) _ _ _ _ _
+    wasRead
+    (rest-stop
     (at-list .list .inv .back _ _ _
-    (rest-first _ _ _ (itemSeries _ _ _) _ _ _ _ _
-    (said-ok _ _ _ _ _ _ _ _ _ _ _ (after-item .item .ensures) (after-first .first .given .1))))
+    (rest-first
+    (said-ok (after-item .item .ensures) (after-first .first .given .1))))
     (c .if1 .taken))
-
-past-requires : tie.Need-past-requires Inv-list μ-list
-past-requires c κs = search needs
 
 item-requires-2 : tie.Need-item-requires-2 Inv-list μ-list
 item-requires-2 c κs =
     let at-list : At-list = search in
-    turn-ready _ _ _ (itemSeries _ _ _) _ _ _ _ _ (at-list .list .inv) (is-past (c .before .past .ensures))
-
-enum-known-next : tie.Need-enum-known-next Inv-list μ-list
-enum-known-next c = search needs
-
-enum-told-2 : tie.Need-enum-told-2 Inv-list μ-list
-enum-told-2 c = search needs
+    turn-ready (at-list .list .inv) (is-past (c .before .past .ensures))
 
 returns-3 : tie.Need-returns-3 Inv-list μ-list
 returns-3 c =
@@ -98,11 +84,11 @@ returns-3 c =
     let at-list : At-list = search in
     let after-first : After-first = search in
     let after-item : After-item = search in
-    rest-bad _ _ _ (itemSeries _ _ _) _ _ _ _ _
+    rest-bad
     (at-list .list .inv .back _ _ _
-    (rest-first _ _ _ (itemSeries _ _ _) _ _ _ _ _
-    (said-ok _ _ _ _ _ _ _ _ _ _ _ (after-item .item .ensures) (after-first .first .given .1))))
-    (else1 .if1 .left) _ (is-past (after-past .past .ensures)) _ _ _ _
+    (rest-first
+    (said-ok (after-item .item .ensures) (after-first .first .given .1))))
+    (else1 .if1 .left) (is-past (after-past .past .ensures))
     (after-item2 .item2 .ensures) (c .enum-told2 .given .1)
 
 list-less : tie.Need-list-less Inv-list μ-list
@@ -110,8 +96,8 @@ list-less c =
     let after-item2 : After-item2 = search in
     let after-past : After-past = search in
     let at-list : At-list = search in
-    let k = turn-less _ _ _ (itemSeries _ _ _) _ _ _ _ _ (at-list .list .inv) (is-past (after-past .past .ensures)) _ _ _
-    (said-ok _ _ _ _ _ _ _ _ _ _ _ (after-item2 .item2 .ensures) (c .before .next .given .1)) in
+    let k = turn-less (at-list .list .inv) (is-past (after-past .past .ensures))
+    (said-ok (after-item2 .item2 .ensures) (c .before .next .given .1)) in
     omega (arith, k .0, k .1, k .2)
 
 list-again : tie.Need-list-again Inv-list μ-list
@@ -120,8 +106,8 @@ list-again c =
     let after-past : After-past = search in
     let else1 : Else1 = search in
     let at-list : At-list = search in
-    turn-more _ _ _ (itemSeries _ _ _) _ _ _ _ _ (at-list .list .inv) (is-past (after-past .past .ensures)) (else1 .if1 .left) _ _
-    (said-ok _ _ _ _ _ _ _ _ _ _ _ (after-item2 .item2 .ensures) (c .before .next .given .1))
+    turn-more (at-list .list .inv) (is-past (after-past .past .ensures)) (else1 .if1 .left)
+    (said-ok (after-item2 .item2 .ensures) (c .before .next .given .1))
 
 pub items-spec : {M : Type 1} → statement M
 items-spec =
@@ -130,15 +116,15 @@ items-spec =
     Inv-list
     μ-list
     item-requires
-    enum-known-first
-    enum-told
+    (λ c. search needs)
+    (λ c. search needs)
     returns
     list-holds
     returns-2
-    past-requires
+    (λ c κs. search needs)
     item-requires-2
-    enum-known-next
-    enum-told-2
+    (λ c. search needs)
+    (λ c. search needs)
     returns-3
     list-less
     list-again)

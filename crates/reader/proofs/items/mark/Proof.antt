@@ -2,28 +2,13 @@
 -- Assumes nothing.
 use mathlib.Core.Path.{subst}
 use Rattle.reader.specs.working.Expressions.{roomed}
-use Rattle.reader.proofs.Answers.{mark-bad, mark-missing, mark-room, mark-ok}
+use Rattle.reader.proofs.Moves.{mark-bad, mark-missing, mark-room, mark-ok}
 use borrow.Author.Needs.{needs}
 use Rattle.reader.proofs.items.mark.Statement.{statement}
 use Rattle.reader.proofs.items.mark.Tie as tie
 
-enum-known-read : tie.Need-enum-known-read
-enum-known-read c = search needs
-
-enum-told : tie.Need-enum-told
-enum-told c = search needs
-
 returns : tie.Need-returns
 returns c = mark-bad _ _ _ _ _ _ _ (c .enum-told .given .1)
-
-expect-requires : tie.Need-expect-requires
-expect-requires c κs = search needs
-
-enum-known-after : tie.Need-enum-known-after
-enum-known-after c = search needs
-
-enum-told-2 : tie.Need-enum-told-2
-enum-told-2 c = search needs
 
 returns-2 : tie.Need-returns-2
 returns-2 c =
@@ -54,12 +39,12 @@ pub mark-spec : {M : Type 1} → statement M
 mark-spec =
     tie.close
     (tie.spec
-    enum-known-read
-    enum-told
+    (λ c. search needs)
+    (λ c. search needs)
     returns
-    expect-requires
-    enum-known-after
-    enum-told-2
+    (λ c κs. search needs)
+    (λ c. search needs)
+    (λ c. search needs)
     returns-2
     emit-requires
     returns-3)

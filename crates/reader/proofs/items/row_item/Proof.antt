@@ -1,13 +1,11 @@
 -- `row_item` meets its contract, by the kind of its first token.
 -- Assumes nothing.
-use Rattle.reader.proofs.Done.{wrote-none, says-bad}
-use Rattle.reader.proofs.Branches.{row-skip, row-assign, row-missing}
+use Rattle.reader.proofs.StoredCode.{wrote-none}
+use Rattle.reader.proofs.ItemForms.{row-skip, row-assign, row-missing}
 use borrow.Author.Needs.{needs}
 use Rattle.reader.proofs.items.row_item.Statement.{statement}
 use Rattle.reader.proofs.items.row_item.Tie as tie
-
-skip-item-requires : tie.Need-skip-item-requires
-skip-item-requires c κs = search needs
+use Rattle.reader.specs.working.Cursors.{wasRefused}
 
 returns : tie.Need-returns
 returns c =
@@ -29,9 +27,9 @@ returns-2 c =
 returns-3 : tie.Need-returns-3
 returns-3 c =
     let start : tie.Start = search in
-    says-bad _ _ _ _ _ _ _ _ _ _ _ (row-missing _ _ _ _ (start .pre) (c .before .if1 .left) (c .if2 .left))
+    wasRefused (row-missing _ _ _ _ (start .pre) (c .before .if1 .left) (c .if2 .left))
     wrote-none
 
 pub row-item-spec : {M : Type 1} → statement M
 row-item-spec =
-    tie.close (tie.spec skip-item-requires returns assignment-requires returns-2 returns-3)
+    tie.close (tie.spec (λ c κs. search needs) returns assignment-requires returns-2 returns-3)

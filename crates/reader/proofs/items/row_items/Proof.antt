@@ -2,17 +2,18 @@
 -- Assumes nothing.
 use Prim.Native.Nat.{_+_, _-_, _*_}
 use native.Mathlib.Omega.{arith}
-use Rattle.reader.proofs.Answers.{is-past}
+use Rattle.reader.proofs.Moves.{is-past}
 use borrow.Author.Needs.{needs}
-use Rattle.reader.proofs.Done.{said-ok, says-ok}
-use Rattle.reader.proofs.Series.{Turn, first-bad, rest-first, rest-stop, rest-bad, turn-none, turn-ready}
-use Rattle.reader.proofs.Series.{turn-less, turn-more}
-use Rattle.reader.proofs.Lists.{rowSeries}
+use Rattle.reader.proofs.StoredCode.{said-ok}
+use Rattle.reader.proofs.ItemLoops.{Turn, first-bad, rest-first, rest-stop, rest-bad, turn-none, turn-ready}
+use Rattle.reader.proofs.ItemLoops.{turn-less, turn-more}
+use Rattle.reader.proofs.ItemLists.{rowSeries}
 use Rattle.reader.proofs.items.row_items.Statement.{statement}
 use Rattle.reader.proofs.items.row_items.Tie as tie
+use Rattle.reader.specs.working.Cursors.{wasRead}
 
 abbrev Inv-rows : tie.InvT-rows
-Inv-rows text names ops₀ l cur₀ ops cur = Turn text names l (rowSeries text names l) ops₀ cur₀ ops cur
+Inv-rows text names ops₀ l cur₀ ops cur = Turn (rowSeries text names l) ops₀ cur₀ ops cur
 
 abbrev μ-rows : tie.MeasureT-rows
 μ-rows text names ops₀ l cur₀ ops cur = 2048 - (cur .nodes + 3 * cur .items)
@@ -44,51 +45,36 @@ row-item-requires c κs =
     let start : Start = search in
     start .pre
 
-enum-known-first : tie.Need-enum-known-first Inv-rows μ-rows
-enum-known-first c = search needs
-
-enum-told : tie.Need-enum-told Inv-rows μ-rows
-enum-told c = search needs
-
 returns : tie.Need-returns Inv-rows μ-rows
 returns c =
     let after-row-item : After-row-item = search in
     let start : Start = search in
-    first-bad _ _ _ (rowSeries (start .args .text .now) (start .args .names .now) (start .args .l)) _ _ _ _ _ _ _
+    first-bad (rowSeries (start .args .text .now) (start .args .names .now) (start .args .l))
     (after-row-item .row-item .ensures) (c .enum-told .given .1)
 
 rows-holds : tie.Need-rows-holds Inv-rows μ-rows
 rows-holds c =
     let after-row-item : After-row-item = search in
     let start : Start = search in
-    turn-none _ _ _ (rowSeries _ _ _) _ _ _ _ _
-    (said-ok _ _ _ _ _ _ _ _ _ _ _ (after-row-item .row-item .ensures) (c .before .first .given .1)) (start .pre)
+    turn-none
+    (said-ok (after-row-item .row-item .ensures) (c .before .first .given .1)) (start .pre)
 
 returns-2 : tie.Need-returns-2 Inv-rows μ-rows
 returns-2 c =
     let at-rows : At-rows = search in
     let after-first : After-first = search in
     let after-row-item : After-row-item = search in
-    says-ok _ _ _ _ _ _ _ _ _ _
-    (rest-stop _ _ _ (rowSeries _ _ _) _ _ _ _ _
+    wasRead
+    (rest-stop
     (at-rows .rows .inv .back _ _ _
-    (rest-first _ _ _ (rowSeries _ _ _) _ _ _ _ _
-    (said-ok _ _ _ _ _ _ _ _ _ _ _ (after-row-item .row-item .ensures) (after-first .first .given .1))))
+    (rest-first
+    (said-ok (after-row-item .row-item .ensures) (after-first .first .given .1))))
     (c .if1 .taken))
-
-past-requires : tie.Need-past-requires Inv-rows μ-rows
-past-requires c κs = search needs
 
 row-item-requires-2 : tie.Need-row-item-requires-2 Inv-rows μ-rows
 row-item-requires-2 c κs =
     let at-rows : At-rows = search in
-    turn-ready _ _ _ (rowSeries _ _ _) _ _ _ _ _ (at-rows .rows .inv) (is-past (c .before .past .ensures))
-
-enum-known-next : tie.Need-enum-known-next Inv-rows μ-rows
-enum-known-next c = search needs
-
-enum-told-2 : tie.Need-enum-told-2 Inv-rows μ-rows
-enum-told-2 c = search needs
+    turn-ready (at-rows .rows .inv) (is-past (c .before .past .ensures))
 
 returns-3 : tie.Need-returns-3 Inv-rows μ-rows
 returns-3 c =
@@ -98,11 +84,11 @@ returns-3 c =
     let at-rows : At-rows = search in
     let after-first : After-first = search in
     let after-row-item : After-row-item = search in
-    rest-bad _ _ _ (rowSeries _ _ _) _ _ _ _ _
+    rest-bad
     (at-rows .rows .inv .back _ _ _
-    (rest-first _ _ _ (rowSeries _ _ _) _ _ _ _ _
-    (said-ok _ _ _ _ _ _ _ _ _ _ _ (after-row-item .row-item .ensures) (after-first .first .given .1))))
-    (else1 .if1 .left) _ (is-past (after-past .past .ensures)) _ _ _ _
+    (rest-first
+    (said-ok (after-row-item .row-item .ensures) (after-first .first .given .1))))
+    (else1 .if1 .left) (is-past (after-past .past .ensures))
     (after-row-item2 .row-item2 .ensures) (c .enum-told2 .given .1)
 
 rows-less : tie.Need-rows-less Inv-rows μ-rows
@@ -110,8 +96,8 @@ rows-less c =
     let after-row-item2 : After-row-item2 = search in
     let after-past : After-past = search in
     let at-rows : At-rows = search in
-    let k = turn-less _ _ _ (rowSeries _ _ _) _ _ _ _ _ (at-rows .rows .inv) (is-past (after-past .past .ensures)) _ _ _
-    (said-ok _ _ _ _ _ _ _ _ _ _ _ (after-row-item2 .row-item2 .ensures) (c .before .next .given .1)) in
+    let k = turn-less (at-rows .rows .inv) (is-past (after-past .past .ensures))
+    (said-ok (after-row-item2 .row-item2 .ensures) (c .before .next .given .1)) in
     omega (arith, k .0, k .1, k .2)
 
 rows-again : tie.Need-rows-again Inv-rows μ-rows
@@ -120,8 +106,8 @@ rows-again c =
     let after-past : After-past = search in
     let else1 : Else1 = search in
     let at-rows : At-rows = search in
-    turn-more _ _ _ (rowSeries _ _ _) _ _ _ _ _ (at-rows .rows .inv) (is-past (after-past .past .ensures)) (else1 .if1 .left) _ _
-    (said-ok _ _ _ _ _ _ _ _ _ _ _ (after-row-item2 .row-item2 .ensures) (c .before .next .given .1))
+    turn-more (at-rows .rows .inv) (is-past (after-past .past .ensures)) (else1 .if1 .left)
+    (said-ok (after-row-item2 .row-item2 .ensures) (c .before .next .given .1))
 
 pub row-items-spec : {M : Type 1} → statement M
 row-items-spec =
@@ -130,15 +116,15 @@ row-items-spec =
     Inv-rows
     μ-rows
     row-item-requires
-    enum-known-first
-    enum-told
+    (λ c. search needs)
+    (λ c. search needs)
     returns
     rows-holds
     returns-2
-    past-requires
+    (λ c κs. search needs)
     row-item-requires-2
-    enum-known-next
-    enum-told-2
+    (λ c. search needs)
+    (λ c. search needs)
     returns-3
     rows-less
     rows-again)

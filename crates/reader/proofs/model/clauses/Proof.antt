@@ -1,7 +1,7 @@
 -- `clauses` meets its contract: one clause after the other, their ends stored side by side.
 -- Assumes nothing.
 use native.Mathlib.Omega.{arith}
-use Rattle.reader.proofs.Modelling.{start-bad, keep-ready, clauses-say}
+use Rattle.reader.proofs.WholeTexts.{start-bad, keep-ready, clauses-say}
 use borrow.Author.Needs.{needs}
 use Rattle.reader.proofs.model.clauses.Statement.{statement}
 use Rattle.reader.proofs.model.clauses.Tie as tie
@@ -10,12 +10,6 @@ clause-requires : tie.Need-clause-requires
 clause-requires c κs =
     let start : tie.Start = search in
     (start .pre, (omega arith, omega arith))
-
-enum-known-start : tie.Need-enum-known-start
-enum-known-start c = search needs
-
-enum-told : tie.Need-enum-told
-enum-told c = search needs
 
 returns : tie.Need-returns
 returns c =
@@ -48,4 +42,4 @@ returns-2 c =
 pub clauses-spec : {M : Type 1} → statement M
 clauses-spec =
     tie.close
-    (tie.spec clause-requires enum-known-start enum-told returns clause-requires-2 returns-2)
+    (tie.spec clause-requires (λ c. search needs) (λ c. search needs) returns clause-requires-2 returns-2)

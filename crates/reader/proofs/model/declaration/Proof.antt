@@ -1,15 +1,9 @@
 -- `declaration` meets its contract: its answer is that of its sign, of the names after it, and of the full stop after them.
 -- Assumes nothing.
-use Rattle.reader.proofs.Headings.{head-bad, sign-listing, list-bad, end-bad, end-ok}
+use Rattle.reader.proofs.Declarations.{head-bad, sign-listing, list-bad, end-bad, end-ok}
 use borrow.Author.Needs.{needs}
 use Rattle.reader.proofs.model.declaration.Statement.{statement}
 use Rattle.reader.proofs.model.declaration.Tie as tie
-
-expect-requires : tie.Need-expect-requires
-expect-requires c κs = search needs
-
-enum-known-sign : tie.Need-enum-known-sign
-enum-known-sign c = search needs
 
 name-list-requires : tie.Need-name-list-requires
 name-list-requires c κs =
@@ -19,12 +13,6 @@ name-list-requires c κs =
     sign-listing _ _ _ _ _ _ (start .pre .0) (start .pre .1) _ (after-expect .expect .ensures) _
     (after-sign .sign .given .1)
 
-enum-known-list : tie.Need-enum-known-list
-enum-known-list c = search needs
-
-enum-told : tie.Need-enum-told
-enum-told c = search needs
-
 returns : tie.Need-returns
 returns c =
     let after-name-list : tie.After-name-list = search in
@@ -33,18 +21,6 @@ returns c =
     let start : tie.Start = search in
     list-bad _ _ _ _ _ _ (start .pre .0) (start .pre .1) _ (after-expect .expect .ensures) _
     (after-sign .sign .given .1) _ _ (after-name-list .name-list .ensures) _ _ (c .enum-told .given .1)
-
-expect-requires-2 : tie.Need-expect-requires-2
-expect-requires-2 c κs = search needs
-
-enum-known-end : tie.Need-enum-known-end
-enum-known-end c = search needs
-
-enum-known-end-2 : tie.Need-enum-known-end-2
-enum-known-end-2 c = search needs
-
-enum-known-sign-2 : tie.Need-enum-known-sign-2
-enum-known-sign-2 c = search needs
 
 returns-2 : tie.Need-returns-2
 returns-2 c =
@@ -81,16 +57,16 @@ pub declaration-spec : {M : Type 1} → statement M
 declaration-spec =
     tie.close
     (tie.spec
-    expect-requires
-    enum-known-sign
+    (λ c κs. search needs)
+    (λ c. search needs)
     name-list-requires
-    enum-known-list
-    enum-told
+    (λ c. search needs)
+    (λ c. search needs)
     returns
-    expect-requires-2
-    enum-known-end
-    enum-known-end-2
-    enum-known-sign-2
+    (λ c κs. search needs)
+    (λ c. search needs)
+    (λ c. search needs)
+    (λ c. search needs)
     returns-2
     returns-3
     returns-4)

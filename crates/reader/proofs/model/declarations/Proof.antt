@@ -1,26 +1,17 @@
 -- `declarations` meets its contract: from the front of the text, with nothing declared, its answer is that of the shared names and then of the row names, stored behind them.
 -- Assumes nothing.
 use native.Mathlib.Omega.{arith}
-use Rattle.reader.proofs.Headings.{shared-bad, row-listing, heads-say}
+use Rattle.reader.proofs.Declarations.{shared-bad, row-listing, heads-say}
 use Rattle.reader.proofs.Lexing.{is-tokened}
 use borrow.Author.Needs.{needs}
 use Rattle.reader.proofs.model.declarations.Statement.{statement}
 use Rattle.reader.proofs.model.declarations.Tie as tie
-
-piece-at-requires : tie.Need-piece-at-requires
-piece-at-requires c κs = search needs
 
 declaration-requires : tie.Need-declaration-requires
 declaration-requires c κs =
     let after-piece-at : tie.After-piece-at = search in
     let t = is-tokened (after-piece-at .piece-at .ensures) in
     search needs
-
-enum-known-shared : tie.Need-enum-known-shared
-enum-known-shared c = search needs
-
-enum-told : tie.Need-enum-told
-enum-told c = search needs
 
 returns : tie.Need-returns
 returns c =
@@ -51,10 +42,10 @@ pub declarations-spec : {M : Type 1} → statement M
 declarations-spec =
     tie.close
     (tie.spec
-    piece-at-requires
+    (λ c κs. search needs)
     declaration-requires
-    enum-known-shared
-    enum-told
+    (λ c. search needs)
+    (λ c. search needs)
     returns
     declaration-requires-2
     returns-2)

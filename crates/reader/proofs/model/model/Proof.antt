@@ -1,42 +1,33 @@
 -- `model` meets its contract: declarations, clauses and commands in order, and the end of the text after them.
 -- Assumes nothing.
-use Rattle.reader.specs.working.Commands.{arrays}
-use Rattle.reader.proofs.Modelling.{head-refused, head-ready, both-refused, first-missing, both-naming}
-use Rattle.reader.proofs.Modelling.{all-refused, more-follows, model-says}
+use Rattle.reader.specs.working.Commands.{Arrays, arrays}
+use Rattle.reader.proofs.WholeTexts.{head-refused, head-ready, both-refused, first-missing, both-naming}
+use Rattle.reader.proofs.WholeTexts.{all-refused, more-follows, model-says}
 use borrow.Author.Needs.{needs}
 use Rattle.reader.proofs.model.model.Statement.{statement}
 use Rattle.reader.proofs.model.model.Tie as tie
+
+-- The arrays as they were lent.
+abbrev lent : tie.Start → Arrays
+lent start = arrays (start .args .names .now) (start .args .ops .now) (start .args .ends .now) (start .args .stars .now)
 
 declarations-requires : tie.Need-declarations-requires
 declarations-requires c κs =
     let start : tie.Start = search in
     start .pre
 
-enum-known-head : tie.Need-enum-known-head
-enum-known-head c = search needs
-
-enum-told : tie.Need-enum-told
-enum-told c = search needs
-
 returns : tie.Need-returns
 returns c =
     let after-declarations : tie.After-declarations = search in
     let start : tie.Start = search in
-    head-refused (start .args .text .now)
-    (arrays (start .args .names .now) (start .args .ops .now) (start .args .ends .now) (start .args .stars .now)) _ _
-    (after-declarations .declarations .ensures) _ _ (c .enum-told .given .1)
+    head-refused (start .args .text .now) (lent start) _ _ (after-declarations .declarations .ensures) _ _ (c .enum-told .given .1)
 
 clauses-requires : tie.Need-clauses-requires
 clauses-requires c κs =
     let after-head : tie.After-head = search in
     let after-declarations : tie.After-declarations = search in
     let start : tie.Start = search in
-    head-ready (start .args .text .now)
-    (arrays (start .args .names .now) (start .args .ops .now) (start .args .ends .now) (start .args .stars .now)) _ _
-    (after-declarations .declarations .ensures) _ _ (after-head .head .given .1)
-
-enum-known-both : tie.Need-enum-known-both
-enum-known-both c = search needs
+    head-ready (start .args .text .now) (lent start) _ _ (after-declarations .declarations .ensures) _ _ (after-head .head .given .1)
 
 returns-2 : tie.Need-returns-2
 returns-2 c =
@@ -45,9 +36,7 @@ returns-2 c =
     let after-head : tie.After-head = search in
     let after-declarations : tie.After-declarations = search in
     let start : tie.Start = search in
-    first-missing (start .args .text .now)
-    (arrays (start .args .names .now) (start .args .ops .now) (start .args .ends .now) (start .args .stars .now)) _ _
-    (after-declarations .declarations .ensures) _ _ (after-head .head .given .1) _ _ _ (after-clauses .clauses .ensures)
+    first-missing (start .args .text .now) (lent start) _ _ (after-declarations .declarations .ensures) _ _ (after-head .head .given .1) _ _ _ (after-clauses .clauses .ensures)
     _ (after-both .both .given .1) (c .if1 .taken)
 
 commands-requires : tie.Need-commands-requires
@@ -58,18 +47,10 @@ commands-requires c κs =
     let after-head : tie.After-head = search in
     let after-declarations : tie.After-declarations = search in
     let start : tie.Start = search in (
-      both-naming (start .args .text .now)
-          (arrays (start .args .names .now) (start .args .ops .now) (start .args .ends .now) (start .args .stars .now)) _ _
-          (after-declarations .declarations .ensures) _ _ (after-head .head .given .1) _ _ _
+      both-naming (start .args .text .now) (lent start) _ _ (after-declarations .declarations .ensures) _ _ (after-head .head .given .1) _ _ _
           (after-clauses .clauses .ensures) _ (after-both .both .given .1),
       else1 .if1 .left,
     )
-
-enum-known-all : tie.Need-enum-known-all
-enum-known-all c = search needs
-
-enum-told-2 : tie.Need-enum-told-2
-enum-told-2 c = search needs
 
 returns-3 : tie.Need-returns-3
 returns-3 c =
@@ -80,9 +61,7 @@ returns-3 c =
     let after-head : tie.After-head = search in
     let after-declarations : tie.After-declarations = search in
     let start : tie.Start = search in
-    all-refused (start .args .text .now)
-    (arrays (start .args .names .now) (start .args .ops .now) (start .args .ends .now) (start .args .stars .now)) _ _
-    (after-declarations .declarations .ensures) _ _ (after-head .head .given .1) _ _ _ (after-clauses .clauses .ensures)
+    all-refused (start .args .text .now) (lent start) _ _ (after-declarations .declarations .ensures) _ _ (after-head .head .given .1) _ _ _ (after-clauses .clauses .ensures)
     _ (after-both .both .given .1) (else1 .if1 .left) _ _ (after-commands .commands .ensures) _ _
     (c .enum-told2 .given .1)
 
@@ -96,14 +75,9 @@ returns-4 c =
     let after-head : tie.After-head = search in
     let after-declarations : tie.After-declarations = search in
     let start : tie.Start = search in
-    more-follows (start .args .text .now)
-    (arrays (start .args .names .now) (start .args .ops .now) (start .args .ends .now) (start .args .stars .now)) _ _
-    (after-declarations .declarations .ensures) _ _ (after-head .head .given .1) _ _ _ (after-clauses .clauses .ensures)
+    more-follows (start .args .text .now) (lent start) _ _ (after-declarations .declarations .ensures) _ _ (after-head .head .given .1) _ _ _ (after-clauses .clauses .ensures)
     _ (after-both .both .given .1) (else1 .if1 .left) _ _ (after-commands .commands .ensures) _ _
     (after-all .all .given .1) (c .if2 .taken)
-
-enum-known-both-2 : tie.Need-enum-known-both-2
-enum-known-both-2 c = search needs
 
 returns-5 : tie.Need-returns-5
 returns-5 c =
@@ -115,9 +89,7 @@ returns-5 c =
     let after-head : tie.After-head = search in
     let after-declarations : tie.After-declarations = search in
     let start : tie.Start = search in
-    model-says (start .args .text .now)
-    (arrays (start .args .names .now) (start .args .ops .now) (start .args .ends .now) (start .args .stars .now)) _ _
-    (after-declarations .declarations .ensures) _ _ (after-head .head .given .1) _ _ _ (after-clauses .clauses .ensures)
+    model-says (start .args .text .now) (lent start) _ _ (after-declarations .declarations .ensures) _ _ (after-head .head .given .1) _ _ _ (after-clauses .clauses .ensures)
     _ (after-both .both .given .1) (else1 .if1 .left) _ _ (after-commands .commands .ensures) _ _
     (after-all .all .given .1) (c .if2 .left)
 
@@ -127,9 +99,7 @@ returns-6 c =
     let after-head : tie.After-head = search in
     let after-declarations : tie.After-declarations = search in
     let start : tie.Start = search in
-    both-refused (start .args .text .now)
-    (arrays (start .args .names .now) (start .args .ops .now) (start .args .ends .now) (start .args .stars .now)) _ _
-    (after-declarations .declarations .ensures) _ _ (after-head .head .given .1) _ _ _ (after-clauses .clauses .ensures)
+    both-refused (start .args .text .now) (lent start) _ _ (after-declarations .declarations .ensures) _ _ (after-head .head .given .1) _ _ _ (after-clauses .clauses .ensures)
     _ _ (c .before .both2 .given .1)
 
 pub model-spec : {M : Type 1} → statement M
@@ -137,17 +107,17 @@ model-spec =
     tie.close
     (tie.spec
     declarations-requires
-    enum-known-head
-    enum-told
+    (λ c. search needs)
+    (λ c. search needs)
     returns
     clauses-requires
-    enum-known-both
+    (λ c. search needs)
     returns-2
     commands-requires
-    enum-known-all
-    enum-told-2
+    (λ c. search needs)
+    (λ c. search needs)
     returns-3
     returns-4
-    enum-known-both-2
+    (λ c. search needs)
     returns-5
     returns-6)

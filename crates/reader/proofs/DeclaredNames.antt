@@ -27,7 +27,7 @@ use Rattle.reader.specs.working.Cursors.{bookOf, moved}
 use Rattle.reader.specs.working.Items.{kindOf}
 use Rattle.reader.specs.Read.{placed}
 use Rattle.reader.specs.working.Clauses.{grown, Listing, nameAt, NameSays}
-use Rattle.reader.proofs.Answers.{Past, is-past}
+use Rattle.reader.proofs.Moves.{Past, is-past}
 use Rattle.reader.proofs.Books.{declares-again, declares-many, declares-full, declares-fits, note-declares}
 use Rattle.reader.proofs.Lookup.{window-slice, any-name, found-among, withName, with-length, words-kept, words-declared}
 

@@ -3,9 +3,10 @@
 use mathlib.Core.Path.{_≡_, refl}
 use mathlib.Core.Bool.{true}
 use Rattle.notation.specs.working.Table.{Sym, lit, whole, rows, clause, names, title, oneCommand, commands, factor, ands, ors, item, items, rowItem, rowItems, lines, skips, more, ends, kinds, firsts, closed, closedLines, ll1}
+use Rattle.notation.specs.Rules.{elem}
 
 pub ll1-table : (n : Sym) → ll1 n ≡ true
-unfolding ll1 closedLines closed firsts kinds lines skips more ends
+unfolding ll1 closedLines closed firsts kinds lines skips more ends elem
 ll1-table (lit k) = refl
 ll1-table whole = refl
 ll1-table rows = refl

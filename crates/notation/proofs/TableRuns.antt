@@ -10,7 +10,8 @@ use lib.Dec.{eqb, eqb·suc-suc}
 use borrow.Author.Tests.{eqb-true, not-true}
 use Rattle.notation.specs.Tokens.{Token, sign, name}
 use Rattle.notation.specs.Notation.{Role, Part, part, Tree}
-use Rattle.notation.specs.working.Table.{Sym, Val, Cont, feed, Line, on, named, lines, skips, more, Found, find, kind, Reads, done, over, takes, State, pick, past, step, ending, isSome, optional, ends, elem, apart, within, kinds, firsts, closed, closedLines, ll1}
+use Rattle.notation.specs.Rules.{elem}
+use Rattle.notation.specs.working.Table.{Sym, Val, Cont, feed, Line, on, named, lines, skips, more, Found, find, kind, Reads, done, over, takes, State, pick, past, step, ending, isSome, optional, ends, apart, within, kinds, firsts, closed, closedLines, ll1}
 
 -- What a step takes, the symbols stand for.
 pub step-reads : (σ : List Sym) (k : Cont σ Tree) {t : Token} {r : Role} {s : State} {ps : List Part} {x : Tree} → step σ k t ≡ some (r, s)
@@ -38,30 +39,37 @@ or-cases false b e = inr e
 -- Lists of kinds.
 module _ (k x : ℕ) (xs : List ℕ) where
   elem-here : eqb x k ≡ true → elem k (x ∷ xs) ≡ true
+  unfolding elem
   elem-here e = rw e
 
   elem-there : elem k xs ≡ true → elem k (x ∷ xs) ≡ true
+  unfolding elem
   elem-there e = rw e (or-true (eqb x k))
 
 elem-left : (k : ℕ) (xs ys : List ℕ) → elem k xs ≡ true → elem k (xs ++ ys) ≡ true
+unfolding elem
 elem-left k [] ys e = absurd (false≢true e)
 elem-left k (x ∷ xs) ys e = ⊎-elim (elem-here k x (xs ++ ys)) (λ f. elem-there k x (xs ++ ys) (elem-left k xs ys f)) (or-cases (eqb x k) _ e)
 
 elem-right : (k : ℕ) (xs ys : List ℕ) → elem k ys ≡ true → elem k (xs ++ ys) ≡ true
+unfolding elem
 elem-right k [] ys e = e
 elem-right k (x ∷ xs) ys e = elem-there k x (xs ++ ys) (elem-right k xs ys e)
 
 elem-cases : (k : ℕ) (xs ys : List ℕ) → elem k (xs ++ ys) ≡ true → (elem k xs ≡ true) ⊎ (elem k ys ≡ true)
+unfolding elem
 elem-cases k [] ys e = inr e
 elem-cases k (x ∷ xs) ys e = ⊎-elim (λ f. inl (elem-here k x xs f)) (λ f. ⊎-elim (λ g. inl (elem-there k x xs g)) inr (elem-cases k xs ys f)) (or-cases (eqb x k) _ e)
 
 apart-elem : (k : ℕ) (xs ys : List ℕ) → apart xs ys ≡ true → elem k xs ≡ true → elem k ys ≡ false
+unfolding elem
 apart-elem k [] ys a e = absurd (false≢true e)
 apart-elem k (x ∷ xs) ys a e =
     let h = and-eq-true-iff _ _ .0 a in
     ⊎-elim (λ f. rw (← (eqb-true x k f)) (not-true _ (h .0))) (apart-elem k xs ys (h .1)) (or-cases (eqb x k) _ e)
 
 within-elem : (k : ℕ) (xs ys : List ℕ) → within xs ys ≡ true → elem k xs ≡ true → elem k ys ≡ true
+unfolding elem
 within-elem k [] ys a e = absurd (false≢true e)
 within-elem k (x ∷ xs) ys a e =
     let h = and-eq-true-iff _ _ .0 a in
@@ -87,7 +95,7 @@ some-is o e = rw e
 
 -- A token that has a line is of one of the line's kinds.
 found-kind : {n : Sym} (ls : List (Line n)) (t : Token) {x : Found n} → find ls t ≡ some x → elem (kind t) (kinds ls) ≡ true
-unfolding find kinds
+unfolding find kinds elem
 found-kind [] t e = absurd (Option·none-ne-some _ e)
 found-kind {n} (on k r α f ∷ ls) (sign j) {x} e = go (eqb k j) refl e (λ e. found-kind ls (sign j) e)
   where
@@ -111,7 +119,7 @@ Good [] = Unit {0}
 Good (n ∷ σ) = ((k : ℕ) → elem k (firsts σ) ≡ true → elem k (more n) ≡ false) × Good σ
 
 firsts-append : (k : ℕ) (β σ : List Sym) → elem k (firsts (β ++ σ)) ≡ true → (elem k (firsts β) ≡ true) ⊎ ((ends β ≡ true) × (elem k (firsts σ) ≡ true))
-unfolding firsts ends
+unfolding firsts ends elem
 firsts-append k [] σ e = inr (refl, e)
 firsts-append k (n ∷ β) σ e = ⊎-elim (λ f. inl (elem-left k (kinds (lines n)) _ f)) (go (optional n) refl (firsts-append k β σ)) (elem-cases k (kinds (lines n)) _ e)
   where

@@ -1,14 +1,16 @@
--- The answers of the small functions that follow a reader or store one code word.
+-- How the cursor moves: the answers of the small functions that pass a piece or store one code word, and that a reader may be called after them.
 -- Assumes nothing.
 use mathlib.Core.Path.{_≡_, refl, sym, ap, _∙_, subst}
 use mathlib.Core.List.{List}
-use Prim.Native.Nat.{ℕ, _+_, _≤_, _<_}
+use Prim.Native.Nat.{ℕ, _+_, _*_, _≤_, _<_}
+use native.Mathlib.Omega.{arith}
 use lib.ListN.{set}
 use Rattle.reader.specs.declared.cursor.Cursor.{Cursor}
+use Rattle.reader.specs.declared.cursor.Ledger.{Ledger}
 use Rattle.reader.specs.declared.cursor.Parsed.{Parsed}
 use Rattle.reader.specs.declared.cursor.Parsed.the-variants.{Ok, Refused}
 use Rattle.reader.specs.working.Pieces.{pieceAt}
-use Rattle.reader.specs.working.Cursors.{moved, emitted, Expected}
+use Rattle.reader.specs.working.Cursors.{moved, emitted, Expected, Ready}
 use Rattle.reader.specs.working.Expressions.{Leaf, AfterNode, AfterClose}
 use Rattle.reader.specs.working.Items.{Marked, Skipped}
 use Rattle.reader.proofs.Lexing.{Tokened, tokened}
@@ -38,11 +40,50 @@ module _ (text : List ℕ) (inner : Parsed) where
 pub record Past (text : List ℕ) (c : Cursor) (items nodes stars : ℕ) (d : Cursor) : Type 0 where
   pub next : Tokened text (c .next .end) (d .next)
   pub is : d ≡ moved (d .next) c items nodes stars
+  pub place : d .emitted ≡ c .emitted
+  pub itemsAre : d .items ≡ items
+  pub nodesAre : d .nodes ≡ nodes
+  pub starsAre : d .stars ≡ stars
 
 -- A cursor that was moved is past its piece.
 pub is-past : {text : List ℕ} {c d : Cursor} {items nodes stars : ℕ} → d ≡ moved (pieceAt text (c .next .end)) c items nodes stars → Past text c items nodes stars d
 is-past {text} {c} {d} {items} {nodes} {stars} e =
-    subst (λ (z : Cursor). Past text c items nodes stars z) (sym e) (record { next = tokened text (c .next .end); is = refl })
+    subst (λ (z : Cursor). Past text c items nodes stars z) (sym e)
+    (record { next = tokened text (c .next .end); is = refl; place = refl; itemsAre = refl; nodesAre = refl; starsAre = refl })
+
+-- Less spare room will do.
+pub ready-less : {text : List ℕ} {l : Ledger} {spare spare′ : ℕ} {c : Cursor} → Ready text l spare c → spare′ ≤ spare → Ready text l spare′ c
+ready-less r h = record {
+  fits = r .fits;
+  fresh = r .fresh;
+  names = r .names;
+  commands = r .commands;
+  items = r .items;
+  nodes = r .nodes;
+  stars = r .stars;
+  room = omega (arith, r .room);
+}
+
+-- A reader may be called past a piece.
+pub past-ready : {text : List ℕ} {l : Ledger} {spare spare′ : ℕ} {c d : Cursor} {items nodes stars : ℕ} → Ready text l spare c → Past text c items nodes stars d →
+    items ≤ 256 → nodes ≤ 1024 → stars ≤ 8 → c .emitted + spare′ ≤ nodes + 3 * items + 3 * l .commands → Ready text l spare′ d
+past-ready r q i n s h = record {
+  fits = r .fits;
+  fresh = q .next .fresh;
+  names = r .names;
+  commands = r .commands;
+  items = omega arith;
+  nodes = omega arith;
+  stars = omega arith;
+  room = omega arith;
+}
+
+-- Past a piece that is not counted; and past a node, which pays for one code word.
+pub past-same : {text : List ℕ} {l : Ledger} {spare : ℕ} {c d : Cursor} → Ready text l spare c → Past text c (c .items) (c .nodes) (c .stars) d → Ready text l spare d
+past-same r q = past-ready r q (r .items) (r .nodes) (r .stars) (r .room)
+
+pub past-node : {text : List ℕ} {l : Ledger} {c d : Cursor} → Ready text l 0 c → c .nodes < 1024 → Past text c (c .items) (c .nodes + 1) (c .stars) d → Ready text l 1 d
+past-node r x q = past-ready r q (r .items) (omega arith) (r .stars) (omega (arith, r .room))
 
 module _ (text : List ℕ) (c : Cursor) (b : List ℕ) where
   pub leaf-full : (code stars : ℕ) → 1024 ≤ c .nodes → Leaf text c code stars b b (Refused 7 (c .next .start))
@@ -64,7 +105,7 @@ module _ (text : List ℕ) (c : Cursor) (b : List ℕ) where
   skip-fits d r a h q e = (h, (e .0 ∙ ap emitted q, e .1 ∙ ap (λ (z : Cursor). set b (z .emitted) 320) q))
 
   pub past-room : (items nodes stars : ℕ) (d : Cursor) → Past text c items nodes stars d → c .emitted < 2048 → d .emitted < 2048
-  past-room items nodes stars d q h = subst (λ (z : Cursor). z .emitted < 2048) (sym (q .is)) h
+  past-room items nodes stars d q h = omega arith
 
 -- A sign that has to follow, and a code word.
 module _ (text : List ℕ) (kind word : ℕ) (read : Parsed) (b : List ℕ) where

@@ -28,9 +28,9 @@ use Rattle.reader.specs.working.Clauses.{grown, Listing, listAt, Noted, 
 use Rattle.reader.specs.working.Sequences.{pairOf, pairing, signedBy}
 use Rattle.reader.specs.working.Whole.{headReader, headAt, headsAt, Heads, HeadsSay}
 use Rattle.reader.proofs.Lexing.{Tokened}
-use Rattle.reader.proofs.Done.{then-bad}
-use Rattle.reader.proofs.Answers.{Past, expected-said, is-past}
-use Rattle.reader.proofs.Factors.{expected-ok, expected-bad}
+use Rattle.reader.proofs.StoredCode.{then-bad}
+use Rattle.reader.proofs.Moves.{Past, expected-said, is-past}
+use Rattle.reader.proofs.Sequences.{expected-ok, expected-bad}
 use Rattle.reader.proofs.NameLists.{placed-append, named-same, named-behind, grown-names, listed-ok, listed-bad}
 
 -- The cursor z with the next piece of d.
@@ -57,7 +57,7 @@ module _ (text names : List ℕ) (l : Ledger) (rows : Bool) (kind : ℕ) (c : Cu
   pub head-bad : (n i : ℕ) → sign ≡ Refused n i → SaysAt names (D.Refused n i)
   unfolding NamesSay
   head-bad n i f = (
-    then-bad (λ u ts b. inside ts b) _ At n i refl
+    then-bad (λ u ts b. inside ts b) refl
         (expected-bad text names l c kind n i (g .fresh) (expected-said text c kind sign (Refused n i) h f)),
     named-same refl,
   )
@@ -196,6 +196,6 @@ module _ (text names : List ℕ) (first : Piece) (t : Tokened text 0 first) wher
       unfolding NamesSay HeadsSay
       heads-say m′ (D.Ok d l′) r = both m′ d l′ r
       heads-say m′ (D.Refused n i) r = (
-        then-bad (λ vs ts b. got (pairOf ws vs) ts b) (headAt text m l true 1 a) (headsAt text) n i after-shared (r .0),
+        then-bad (λ vs ts b. got (pairOf ws vs) ts b) after-shared (r .0),
         named-behind names m m′ 0 (l .shared + l .row) ws (noted-shared .stored) many (r .1),
       )

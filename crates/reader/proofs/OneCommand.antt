@@ -19,13 +19,13 @@ use Rattle.reader.specs.declared.clauses.Declared.{Declared}
 use Rattle.reader.specs.declared.clauses.Declared.the-variants as D
 use Rattle.reader.specs.working.Pieces.{listed}
 use Rattle.reader.specs.working.Names.{sharedWords, rowWords}
-use Rattle.reader.specs.working.Cursors.{bookOf, Ready, Done, Says}
+use Rattle.reader.specs.working.Cursors.{bookOf, Ready, Done}
 use Rattle.reader.specs.working.Expressions.{exprWords}
 use Rattle.reader.specs.working.Items.{itemsWords}
 use Rattle.reader.specs.Read.{placed}
 use Rattle.reader.specs.working.Sequences.{Tested, testedWords}
-use Rattle.reader.specs.working.Commands.{withCommands, Naming, Titled, TitleSays, bodyReader, BodySays, commandWords, starsIn, oneAt, Arrays, arrays, CommandsSay}
-use Rattle.reader.proofs.Done.{wrote-none, wrote-from, said-bad, done-ready}
+use Rattle.reader.specs.working.Commands.{withCommands, Naming, Titled, TitleSays, bodyReader, BodySays, commandWords, starsIn, oneAt, arrays, CommandsSay}
+use Rattle.reader.proofs.StoredCode.{wrote-none, wrote-from, said-ok, said-bad, done-ready}
 use Rattle.reader.proofs.NameLists.{named-same}
 use Rattle.reader.proofs.Lookup.{words-kept}
 
@@ -57,20 +57,17 @@ module _ (text names : List ℕ) (l : Ledger) (n : Name) (v : Tested Item) where
   unfolding exprWords itemsWords
   body-stars = refl
 
-module _ (text names ops ends stars : List ℕ) (l : Ledger) (c : Cursor) (g : Naming text names l c) (titled : Declared) (names′ : List ℕ) (h : TitleSays text names l c names′ titled) where
-  abbrev S : Arrays
-  S = arrays names ops ends stars
-
-  pub title-refused : (n i : ℕ) → titled ≡ D.Refused n i → CommandsSay text l c S (oneAt text names l c) (arrays names′ ops ends stars) titled
+module _ {text names : List ℕ} {l : Ledger} {c : Cursor} (g : Naming text names l c) {titled : Declared} (names′ : List ℕ) (h : TitleSays text names l c names′ titled) where
+  pub title-refused : (ops ends stars : List ℕ) {n i : ℕ} → titled ≡ D.Refused n i → CommandsSay text l c (arrays names ops ends stars) (oneAt text names l c) (arrays names′ ops ends stars) titled
   unfolding TitleSays CommandsSay
-  title-refused n i e =
+  title-refused ops ends stars {n} {i} e =
       let k : TitleSays text names l c names′ (D.Refused n i) = subst (λ (z : Declared). TitleSays text names l c names′ z) e h in
-      subst (λ (z : Declared). CommandsSay text l c S (oneAt text names l c) (arrays names′ ops ends stars) z) (sym e) (
+      subst (λ (z : Declared). CommandsSay text l c (arrays names ops ends stars) (oneAt text names l c) (arrays names′ ops ends stars) z) (sym e) (
         ap (λ (o : Got Name). thenReads (thenReads o (λ n ts b. thenReads (bodyReader (length text) ts b) (λ v ts b. got (made n v) ts b))) (λ x ts b. got (x ∷ []) ts b)) (k .0),
         record { names = named-same (k .1); ops = wrote-none; ends = wrote-none; stars = wrote-none },
       )
 
-  module _ (d : Cursor) (l′ : Ledger) (e : titled ≡ D.Ok d l′) where
+  module _ {d : Cursor} {l′ : Ledger} (e : titled ≡ D.Ok d l′) where
     abbrev T : Titled text names l c names′ d l′
     unfolding TitleSays
     T = subst (λ (z : Declared). TitleSays text names l c names′ z) e h
@@ -102,22 +99,21 @@ module _ (text names ops ends stars : List ℕ) (l : Ledger) (c : Cursor) (g : N
     from-place : d .emitted ≡ c .emitted
     from-place = ap (λ (z : Cursor). z .emitted) same
 
-    pub body-refused : (ops′ : List ℕ) (read : Parsed) (n i : ℕ) → BodySays text names′ l′ d ops ops′ read → read ≡ Refused n i →
-        CommandsSay text l c S (oneAt text names l c) (arrays names′ ops′ ends stars) (D.Refused n i)
+    pub body-refused : (ends stars : List ℕ) {ops ops′ : List ℕ} {read : Parsed} {n i : ℕ} → BodySays text names′ l′ d ops ops′ read → read ≡ Refused n i →
+        CommandsSay text l c (arrays names ops ends stars) (oneAt text names l c) (arrays names′ ops′ ends stars) (D.Refused n i)
     unfolding CommandsSay
-    body-refused ops′ read n i b f =
-        let k = said-bad text names′ l′ (testedWords text names′ l′ (itemsWords text names′ l′)) 3 d ops body ops′ read n i b f in (
+    body-refused ends stars b f =
+        let k = said-bad b f in (
           titled-is ∙ ap (λ (o : Got (Tested Item)). thenReads (thenReads o (λ v ts b. got (made (T .tree) v) ts b)) (λ x ts b. got (x ∷ []) ts b)) (k .0),
           record { names = record { names = T .tree ∷ []; is = T .stored }; ops = wrote-from from-place (k .1); ends = wrote-none; stars = wrote-none },
         )
 
-    module _ (ops′ : List ℕ) (read : Parsed) (v : Cursor) (b : BodySays text names′ l′ d ops ops′ read) (f : read ≡ Ok v) where
+    module _ {ops ops′ : List ℕ} {read : Parsed} {v : Cursor} (b : BodySays text names′ l′ d ops ops′ read) (f : read ≡ Ok v) where
       abbrev W : ℕ → Tested Item → Numbered (List ℕ)
       W = testedWords text names′ l′ (itemsWords text names′ l′)
 
       done : Done text names′ l′ W 3 d ops body ops′ v
-      unfolding Says
-      done = subst (λ (z : Parsed). BodySays text names′ l′ d ops ops′ z) f b
+      done = said-ok b f
 
       pub command-small : (v .emitted < 65536) × (v .stars < 65536)
       command-small = (omega (arith, title-ready .room, title-ready .commands, done .level, done .nodes, done .items), omega (arith, done .stars))
@@ -160,9 +156,10 @@ module _ (text names ops ends stars : List ℕ) (l : Ledger) (c : Cursor) (g : N
       ops-are : ops′ ≡ sets ops (c .emitted) code
       ops-are = done .stored ∙ ap (λ (i : ℕ). sets ops i (W (d .stars) (done .tree) .is)) from-place ∙ ap (λ (z : List ℕ). sets ops (c .emitted) z) words-are
 
-      pub command-says : CommandsSay text l c S (oneAt text names l c) (arrays names′ ops′ (set ends (4 + l .commands) (v .emitted)) (set stars (l .commands) (v .stars))) (D.Ok v l′)
+      pub command-says : (ends stars : List ℕ) →
+          CommandsSay text l c (arrays names ops ends stars) (oneAt text names l c) (arrays names′ ops′ (set ends (4 + l .commands) (v .emitted)) (set stars (l .commands) (v .stars))) (D.Ok v l′)
       unfolding CommandsSay joined endsFrom
-      command-says = record {
+      command-says ends stars = record {
         tree = x ∷ [];
         some = omega arith;
         says = titled-is ∙ ap (λ (o : Got (Tested Item)). thenReads (thenReads o (λ v ts b. got (made (T .tree) v) ts b)) (λ x ts b. got (x ∷ []) ts b)) (done .says);
@@ -170,5 +167,5 @@ module _ (text names ops ends stars : List ℕ) (l : Ledger) (c : Cursor) (g : N
             (set ends (4 + l .commands) (place-is t)) (set stars (l .commands) (stars-are t));
         place = place-is ∙ ap (λ (z : List ℕ). c .emitted + length z) (sym (append-nil code));
         ledger = T .ledger;
-        naming = record { ready = done-ready text names′ l′ W 3 d ops body ops′ 0 v title-ready done; long = ap length (T .stored) ∙ placed-length names j (T .tree) ∙ g .long };
+        naming = record { ready = done-ready done 0 title-ready; long = ap length (T .stored) ∙ placed-length names j (T .tree) ∙ g .long };
       }

@@ -7,7 +7,7 @@ use mathlib.Core.Option.{Option}
 use Prim.Native.Nat.{ℕ, _+_, _-_, _≤_, _<_}
 use native.Mathlib.Nat.{zero-add}
 use native.Mathlib.Omega.{arith}
-use lib.ListN.{length, length-append}
+use lib.ListN.{length}
 use lib.Seq.{sets}
 use borrow.Author.Tests.{ne-eqb}
 use Rattle.notation.specs.Tokens.{sign, name, Word, Lexeme}
@@ -29,45 +29,22 @@ use Rattle.reader.specs.declared.cursor.Parsed.{Parsed}
 use Rattle.reader.specs.declared.cursor.Parsed.the-variants.{Ok, Refused}
 use Rattle.reader.specs.working.Pieces.{nameIn, listed, pieceAt}
 use Rattle.reader.specs.working.Names.{wordsIn, sharedWords, rowWords, namesKept}
-use Rattle.reader.specs.working.Cursors.{modeOf, bookOf, moved, emitted, Expected, Ready, Done, Says}
+use Rattle.reader.specs.working.Cursors.{modeOf, bookOf, moved, emitted, Expected, Ready, Says, wasRead, wasRefused}
 use Rattle.reader.specs.working.Expressions.{exprWords, SaysExpr, orAt, AfterNode}
 use Rattle.reader.specs.working.Items.{rowItemWords, rowItemsWords, itemWords, withWord, Skipped, kindOf, modeIn, assignAt, bitIn, SaysAssign, SaysRowItem, rowItemAt, SaysItem, itemAt}
 use Rattle.reader.proofs.Books.{target-unknown, target-full, target-fits, item-full, item-fits, note-target, note-item}
 use Rattle.reader.proofs.Symbols.{listed-sign, listed-name, missing}
 use Rattle.reader.proofs.Lexing.{tokened}
-use Rattle.reader.proofs.Answers.{Past, is-past}
-use Rattle.reader.proofs.Done.{stores, wrote-none, wrote-same}
+use Rattle.reader.proofs.Moves.{Past, is-past, past-ready}
+use Rattle.reader.proofs.StoredCode.{wrote-none, wrote-same, said-as, says-of}
 use Rattle.reader.proofs.Lookup.{words-length, shared-name, row-name}
 use Rattle.reader.proofs.Operands.{found-out, found-in}
-use Rattle.reader.proofs.Factors.{expected-ok, expected-bad}
-use Rattle.reader.proofs.Sequences.{says-map, says-from, past-ready, sign-ready}
+use Rattle.reader.proofs.Sequences.{expected-ok, expected-bad, says-map, says-from, says-node, sign-ready}
 use Rattle.reader.specs.working.Sequences.{allRows, Tested, tested, testedWords}
 
 -- Where the expressions of a `for` stand.
 abbrev pub inRow : Scope
 inRow = record { rows = true; stars = true }
-
--- ---- a code word after an operand, whatever was read
-
-pub says-node : {A : Type 0} (text names : List ℕ) (l : Ledger) (code : ℕ → A → Numbered (List ℕ)) (x : ℕ) (s : Cursor) (p : List ℕ) (g : Got A) (a b : List ℕ) (word : ℕ) (inner y : Parsed) →
-    Says text names l code x s p g a inner → AfterNode word inner a b y → Says text names l (withWord code word) (x + 1) s p g b y
-unfolding Says AfterNode
-says-node text names l code x s p g a b word (Refused n i) y h e = subst (λ (z : Parsed). Says text names l (withWord code word) (x + 1) s p g b z) (sym (e .0)) (h .0, wrote-same (e .1) (h .1))
-says-node text names l code x s p g a b word (Ok c) y h e =
-    subst (λ (z : Parsed). Says text names l (withWord code word) (x + 1) s p g b z) (sym (e .0)) (record {
-      tree = h .tree;
-      says = h .says;
-      stored = stores p a b (s .emitted) (c .emitted) (code (s .stars) (h .tree) .is) (word ∷ []) (h .stored) (h .long) (e .1);
-      long = omega (arith, h .long, length-append (code (s .stars) (h .tree) .is) (word ∷ []));
-      numbered = h .numbered;
-      level = omega (arith, h .level);
-      moreNodes = h .moreNodes;
-      moreItems = h .moreItems;
-      nodes = h .nodes;
-      items = h .items;
-      stars = h .stars;
-      fresh = h .fresh;
-    })
 
 -- ---- `skip`
 
@@ -84,16 +61,16 @@ module _ (text names : List ℕ) (l : Ledger) (c : Cursor) (r : Ready text l 0 c
   pub skip-says : {A : Type 0} (code : ℕ → A → Numbered (List ℕ)) (v : A) (G : Got A) (p a : List ℕ) (y : Parsed) → G
       ≡ ruling (t .start) (fault B (part beginsItem (sign 11))) (got v rest (note B (part beginsItem (sign 11)))) →
       code (c .stars) v ≡ numbered (320 ∷ []) (c .stars) → Skipped text c p a y → Says text names l code 0 c p G a y
-  unfolding Says Skipped
-  skip-says code v G p a (Refused n i) g one h = (
-    g ∙ ap (λ (o : Option ℕ). ruling (t .start) o (got v rest (note B (part beginsItem (sign 11))))) (item-full text names l c (sign 11) (h .0))
-        ∙ ap (λ (x : ℕ). stop x (t .start)) (sym (h .1 .0)) ∙ ap (λ (x : ℕ). stop n x) (sym (h .1 .1 .0)),
-    wrote-same (h .1 .1 .1) wrote-none,
-  )
+  unfolding Skipped
+  skip-says code v G p a (Refused n i) g one h =
+      wasRefused
+      (g ∙ ap (λ (o : Option ℕ). ruling (t .start) o (got v rest (note B (part beginsItem (sign 11))))) (item-full text names l c (sign 11) (h .0))
+      ∙ ap (λ (x : ℕ). stop x (t .start)) (sym (h .1 .0)) ∙ ap (λ (x : ℕ). stop n x) (sym (h .1 .1 .0)))
+      (wrote-same (h .1 .1 .1) wrote-none)
   skip-says code v G p a (Ok d) g one h =
       let u = pieceAt text (t .end) in
       let k = tokened text (t .end) in
-      subst (λ (z : Cursor). Done text names l code 0 c p G a z) (sym (h .1 .0)) (record {
+      said-as (ap Ok (sym (h .1 .0))) (wasRead (record {
         tree = v;
         says = g ∙ ap (λ (o : Option ℕ). ruling (t .start) o (got v rest (note B (part beginsItem (sign 11))))) (item-fits text names l c (sign 11) (h .0))
             ∙ ap (λ (b : Book). got v rest b) (note-item text names l c u (sign 11))
@@ -108,7 +85,7 @@ module _ (text names : List ℕ) (l : Ledger) (c : Cursor) (r : Ready text l 0 c
         items = omega (arith, h .0);
         stars = r .stars;
         fresh = k .fresh;
-      })
+      }))
 
   pub row-skip : t .kind ≡ 11 → (p a : List ℕ) (y : Parsed) → Skipped text c p a y → SaysRowItem text names l c p (rowItemAt text names l c) a y
   unfolding sequence find lines skips rowItemWords rowItemOf rowItemCode
@@ -142,14 +119,12 @@ module _ (text names : List ℕ) (l : Ledger) (c : Cursor) (r : Ready text l 0 c
   pub row-assign : t .kind ≡ 24 → (p a : List ℕ) (y : Parsed) → SaysAssign text names l true c p a y → SaysRowItem text names l c p (rowItemAt text names l c) a y
   unfolding rowItemWords rowItemOf rowItemCode exprWords
   row-assign u p a y h =
-      says-map text names l (withWord (exprWords text names l) (192 + bitIn text names l true c)) (rowItemWords text names l) 0 c p
-      (assignAt text names l true c) (rowItemAt text names l c) (λ e. RowItem.set′ (nameIn text t) e) a y (row-assign-is u) (λ e. refl) h
+      says-map (λ e. RowItem.set′ (nameIn text t) e) (row-assign-is u) h (λ e. refl)
 
   pub item-assign : t .kind ≡ 24 → (p a : List ℕ) (y : Parsed) → SaysAssign text names l false c p a y → SaysItem text names l c p (itemAt text names l c) a y
   unfolding itemWords itemOf itemCode exprWords
   item-assign u p a y h =
-      says-map text names l (withWord (exprWords text names l) (192 + bitIn text names l false c)) (itemWords text names l) 0 c p
-      (assignAt text names l false c) (itemAt text names l c) (λ e. Item.set′ (nameIn text t) e) a y (item-assign-is u) (λ e. refl) h
+      says-map (λ e. Item.set′ (nameIn text t) e) (item-assign-is u) h (λ e. refl)
 
   -- ---- an assignment: its name, `:=` and its expression
 
@@ -251,18 +226,13 @@ module _ (text names : List ℕ) (l : Ledger) (c : Cursor) (r : Ready text l 0 c
 
           pub value-ready : Ready text l 1 v
           value-ready =
-              sign-ready text names l 1 20 d v (Ok v)
-              (past-ready text names l 0 1 c d (c .items + 1) (c .nodes) (c .stars) r q (omega arith) (r .nodes) (r .stars) (omega (arith, r .room))) e refl
+              sign-ready 20 (past-ready r q (omega arith) (r .nodes) (r .stars) (omega (arith, r .room))) e refl
 
           pub assign-says : (p a b : List ℕ) (inner y : Parsed) → SaysExpr text names l v p (orAt text names sc l 16 v) a inner → AfterNode (192 + i) inner a b y → SaysAssign text names l rows c p b y
           unfolding Expected
           assign-says p a b inner y s f =
               subst (λ (n : ℕ). Says text names l (withWord (exprWords text names l) (192 + n)) 0 c p (assignAt text names l rows c) b y) bit-is
-              (subst (λ (o : Got Expr). Says text names l (withWord (exprWords text names l) (192 + i)) 0 c p o b y) (sym assign-value)
-              (says-from text names l (withWord (exprWords text names l) (192 + i)) 1 0 c d (c .items + 1) (c .nodes) p (orAt text names sc l 16 v) b y q (omega arith) (omega arith) (omega arith)
-              (says-from text names l (withWord (exprWords text names l) (192 + i)) 1 1 d v (d .items) (d .nodes) p (orAt text names sc l 16 v) b y (is-past (e .1))
-              (omega arith) (omega arith) (omega arith)
-              (says-node text names l (exprWords text names l) 0 v p (orAt text names sc l 16 v) a b (192 + i) inner y s f))))
+              (says-of assign-value (says-from q (says-from {y = 1} (is-past (e .1)) (says-node (192 + i) s f) (omega arith) (omega arith) (omega arith)) (omega arith) (omega arith) (omega arith)))
 
   -- ---- `for`
 
@@ -287,7 +257,7 @@ module _ (text names : List ℕ) (l : Ledger) (c : Cursor) (r : Ready text l 0 c
           ∙ ap (λ (ts : List Lexeme). loop (orReader (length text) freeRow 0 ts (bookOf text names l d))) (q .next .tokens)
 
       pub for-ready : Ready text l 3 d
-      for-ready = past-ready text names l 0 3 c d (c .items + 1) (c .nodes) (c .stars) r q (omega arith) (r .nodes) (r .stars) (omega (arith, r .room))
+      for-ready = past-ready r q (omega arith) (r .nodes) (r .stars) (omega (arith, r .room))
 
       abbrev forWords : ℕ → Tested RowItem → Numbered (List ℕ)
       forWords = testedWords text names l (rowItemsWords text names l)
@@ -300,7 +270,4 @@ module _ (text names : List ℕ) (l : Ledger) (c : Cursor) (r : Ready text l 0 c
           → Says text names l forWords 3 d p (tested (length text) (allRows (length text)) 10 (orAt text names inRow l 16 d)) a y
           → SaysItem text names l c p (itemAt text names l c) a y
       for-says p a y s =
-          says-map text names l forWords (itemWords text names l) 0 c p (tested (length text) (allRows (length text)) 10 (orAt text names inRow l 16 d))
-          (itemAt text names l c) made a y for-goes for-words
-          (says-from text names l forWords 3 0 c d (c .items + 1) (c .nodes) p
-          (tested (length text) (allRows (length text)) 10 (orAt text names inRow l 16 d)) a y q (omega arith) (omega arith) (omega arith) s)
+          says-map made for-goes (says-from q s (omega arith) (omega arith) (omega arith)) for-words

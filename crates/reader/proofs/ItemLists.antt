@@ -20,7 +20,7 @@ use Rattle.reader.specs.declared.cursor.Ledger.{Ledger}
 use Rattle.reader.specs.working.Pieces.{listed}
 use Rattle.reader.specs.working.Items.{rowItemWords, rowItemsWords, itemWords, itemsWords}
 use Rattle.reader.proofs.Symbols.{passed}
-use Rattle.reader.proofs.Series.{Series}
+use Rattle.reader.proofs.ItemLoops.{Series}
 
 module _ (text names : List ℕ) (l : Ledger) where
   abbrev len : ℕ

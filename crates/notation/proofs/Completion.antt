@@ -6,7 +6,7 @@ use Prim.Native.Nat.{ℕ}
 use Rattle.notation.specs.Tokens.{sign, name, SHARED, ROW, START, KEEP, EACH, COMMAND, IF, DO, ELSE, SKIP, ZERO, DOT, Name}
 use Rattle.notation.specs.Notation.{declares, constant, beginsItem, beginsCommand, Part, part, plain, commandName, tree′, clause′, command′, RowItem, Item, Clause, Command, Tree, false′}
 use Rattle.notation.specs.working.Table.{Sym, lit, whole, rows, clause, names, title, oneCommand, commands, factor, ands, ors, item, items, rowItem, rowItems, Val, Cont, lines, skips, find, Reads, done, over, takes}
-use Rattle.notation.proofs.Spelt.{at-sign}
+use Rattle.notation.proofs.NotationToTable.{at-sign}
 
 -- Some parts for a symbol.
 record Least (n : Sym) : Type 0 where

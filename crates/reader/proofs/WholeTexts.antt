@@ -27,16 +27,16 @@ use Rattle.reader.specs.declared.clauses.Declared.the-variants as D
 use Rattle.reader.specs.working.Names.{rowWords}
 use Rattle.reader.specs.working.Cursors.{bookOf, Ready}
 use Rattle.reader.specs.Read.{placed}
-use Rattle.reader.specs.working.Clauses.{WroteNames, clauseWords, clauseEnds, clauseAt, ClauseDone, ClauseSays}
+use Rattle.reader.specs.working.Clauses.{WroteNames, clauseWords, clauseEnds, ClauseDone, ClauseSays}
 use Rattle.reader.specs.working.Sequences.{Pair, pairOf, paired, pairing}
 use Rattle.reader.specs.working.Commands.{withCommands, Naming, Arrays, arrays, WroteArrays, WroteCommands, storedIn, commandWords, starsIn, commandsAt, Commanded, CommandsSay}
-use Rattle.reader.specs.working.Whole.{Heads, HeadsSay, clausesAt, ClausesDone, ClausesSay, ModelSays}
-use Rattle.reader.proofs.Done.{sets-append, stores, wrote-none, wrote-from, wrote-behind, done-then, done-ready}
+use Rattle.reader.specs.working.Whole.{Heads, HeadsSay, ClausesDone, ClausesSay, ModelSays}
+use Rattle.reader.proofs.StoredCode.{sets-append, stores, wrote-none, wrote-from, wrote-behind, done-then, done-ready}
 use Rattle.reader.proofs.NameLists.{placed-append, named-behind}
 use Rattle.reader.proofs.CommandLists.{arrays-same, commanded-wrote}
 use Rattle.reader.proofs.Sequences.{pair-done, pair-bad}
-use Rattle.reader.proofs.Wholes.{heads-bad, clauses-bad, command-missing, commands-bad, text-ends, text-goes-on}
-use Rattle.reader.proofs.Stores.{stars-layout, code-layout, ends-layout, names-are}
+use Rattle.reader.proofs.WholeDescent.{heads-bad, clauses-bad, command-missing, commands-bad, text-ends, text-goes-on}
+use Rattle.reader.proofs.StoredModel.{stars-layout, code-layout, ends-layout, names-are}
 
 -- ---- `start` and `keep`
 
@@ -52,7 +52,7 @@ module _ (text names : List ℕ) (l : Ledger) (c : Cursor) (p e a e′ : List �
   start-bad n i f =
       let k : ClauseSays text names l 2 0 c p e a e′ (Refused n i) = subst (λ (z : Parsed). ClauseSays text names l 2 0 c p e a e′ z) f h in
       subst (λ (z : Parsed). ClausesSay text names l c p e a e′ z) (sym f)
-      (pair-bad text names l (clauseAt text names l 2 c) (λ ts b. reader (length text) (T.clause 3) ts b) n i (k .0), k .1)
+      (pair-bad (λ ts b. reader (length text) (T.clause 3) ts b) (k .0), k .1)
 
   module _ (d : Cursor) (f : start ≡ Ok d) where
     first : ClauseDone text names l 2 0 c p e a e′ d
@@ -60,7 +60,7 @@ module _ (text names : List ℕ) (l : Ledger) (c : Cursor) (p e a e′ : List �
     first = subst (λ (z : Parsed). ClauseSays text names l 2 0 c p e a e′ z) f h
 
     pub keep-ready : Ready text l 0 c → Ready text l 0 d
-    keep-ready r = done-ready text names l words 0 c p (clauseAt text names l 2 c) a 0 d r (first .done)
+    keep-ready r = done-ready (first .done) 0 r
 
     pub clauses-say : (a′ e″ : List ℕ) (y : Parsed) → ClauseSays text names l 3 2 d a e′ a′ e″ y → ClausesSay text names l c p e a′ e″ y
     unfolding ClauseSays ClausesSay pair-done
@@ -68,13 +68,13 @@ module _ (text names : List ℕ) (l : Ledger) (c : Cursor) (p e a e′ : List �
       ap (λ (o : Got Clause). pairing o (λ ts b. reader (length text) (T.clause 3) ts b)) (first .done .says)
           ∙ ap (λ (o : Got Clause). thenReads o (λ v ts b. got (pairOf (first .done .tree) v) ts b)) (q .0),
       (
-        done-then text names l words 0 c p (clauseAt text names l 2 c) a d a′ (first .done) (q .1 .0),
+        done-then (first .done) (q .1 .0),
         wrote-behind e e′ e″ 0 2 (clauseEnds text names l (c .stars) (c .emitted) (first .done .tree)) (first .ends)
             (omega (arith, two-ends text names l (c .stars) (c .emitted) (first .done .tree))) (q .1 .1),
       ),
     )
     clauses-say a′ e″ (Ok v) q = record {
-      done = pair-done text names l words words 0 0 c d p a (clauseAt text names l 2 c) (λ ts b. reader (length text) (T.clause 3) ts b) (first .done) a′ v (q .done);
+      done = pair-done (λ ts b. reader (length text) (T.clause 3) ts b) (first .done) (q .done);
       ends =
           q .ends ∙ ap (λ (z : List ℕ). sets z 2 (clauseEnds text names l (d .stars) (d .emitted) (q .done .tree))) (first .ends)
           ∙ ap (λ (k : ℕ). sets (sets e 0 (clauseEnds text names l (c .stars) (c .emitted) (first .done .tree))) 2 (clauseEnds text names l k (d .emitted) (q .done .tree))) (first .done .numbered)
@@ -164,7 +164,7 @@ module _ (text : List ℕ) (s : Arrays) (head : Declared) (names′ : List ℕ) 
             omega (arith, ap (λ (z : Ledger). z .shared) (headed .ledger), ap (λ (z : Ledger). z .row) (headed .ledger), none-yet, length-append ws vs) in
             record {
               names = named-behind (s .names) names′ (t .names) 0 (l .shared + l .row + l .commands) (ws ++ vs) (headed .stored) many (w .names);
-              ops = wrote-from from-front (done-then text names′ l clausesWords 0 c (s .ops) (clausesAt text names′ l c) ops′ d (t .ops) (claused .done) (w .ops));
+              ops = wrote-from from-front (done-then (claused .done) (w .ops));
               ends = wrote-behind (s .ends) ends′ (t .ends) 0 (4 + l .commands) (clausesEnds (c .stars) (c .emitted)) (claused .ends) (four-ends (c .stars) (c .emitted)) (w .ends);
               stars = wrote-from none-yet (w .stars);
             }
@@ -178,8 +178,7 @@ module _ (text : List ℕ) (s : Arrays) (head : Declared) (names′ : List ℕ) 
 
         pub both-naming : Naming text names′ l d
         both-naming = record {
-          ready = done-ready text names′ l (paired (clauseWords text names′ l) (clauseWords text names′ l)) 0 c (s .ops)
-              (clausesAt text names′ l c) ops′ 0 d head-ready (claused .done);
+          ready = done-ready (claused .done) 0 head-ready;
           long = headed .naming .long;
         }
 
