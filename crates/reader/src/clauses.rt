@@ -25,7 +25,7 @@ const MAX_NAMES: usize = 12;
 // Names were declared, or the number and place of the refusal.
 pub enum Declared {
     Ok(Cursor, Ledger),
-    Refused(u8, usize),
+    Refused(usize, usize),
 }
 
 // A name to declare, as a row name if `rows`, or else as a shared name.
@@ -110,7 +110,7 @@ pub fn segment(
     c: Cursor,
     l: Ledger,
     rows: bool,
-    kind: u8,
+    kind: usize,
     i: usize,
 ) -> Parsed
     requires { ⌜ Ready (now text) l 0 c × ((kind < 24) × (i < 20)) ⌝ }
@@ -140,7 +140,7 @@ pub fn clause(
     ends: &mut [u16; 20],
     c: Cursor,
     l: Ledger,
-    kind: u8,
+    kind: usize,
     i: usize,
 ) -> Parsed
     requires { ⌜ Ready (now text) l 0 c × ((kind < 24) × (i < 19)) ⌝ }

@@ -40,7 +40,7 @@ pub const DONE: u16 = 288;
 pub const PASS: u16 = 320;
 
 // A sign that has to follow what was read, and then this code word.
-pub fn mark(text: &[u8], ops: &mut [u16; 2048], read: Parsed, kind: u8, code: u16) -> Parsed
+pub fn mark(text: &[u8], ops: &mut [u16; 2048], read: Parsed, kind: usize, code: u16) -> Parsed
     requires { ⌜ roomed read ⌝ }
     ensures { λ r. ⌜ Marked (now (text .entry)) kind code read (now (ops .entry)) (now (ops .exit)) r ⌝ }
 {

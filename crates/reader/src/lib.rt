@@ -103,7 +103,7 @@ pub fn read_into(
             *ops = [0u16; 2048];
             *ends = [0u16; 20];
             *stars = [0u16; 16];
-            refusal(n, i)
+            refusal(n as u8, i)
         }
     }
 }

@@ -32,7 +32,7 @@ pub fn declaration(
     c: Cursor,
     l: Ledger,
     rows: bool,
-    kind: u8,
+    kind: usize,
 ) -> Declared
     requires { ⌜ Listing (now text) (now names) l rows c × (kind < 24) ⌝ }
     ensures { λ r. ⌜ NamesSay (now (text .entry)) (now (names .entry)) l rows c (headAt (now (text .entry)) (now (names .entry)) l rows kind c) (now (names .exit)) r ⌝ }

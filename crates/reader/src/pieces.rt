@@ -3,78 +3,82 @@ ghost use mathlib.Core.Path.{_≡_};
 ghost use Prim.Native.Nat.{_+_, _≤_, _<_, _^_};
 ghost use lib.ListN.{length, drop};
 ghost use Rattle.notation.specs.working.Lexing.{span};
-ghost use Rattle.reader.specs.working.Pieces.{pieceOf, blanks, wordPiece, markPiece, pieceAt};
+ghost use Rattle.reader.specs.working.Pieces.{BAD, pieceOf, blanks, wordPiece, markPiece, pieceAt};
 use crate::bytes::byte_at;
 use crate::bytes::is_blank;
 use crate::bytes::is_letter;
 use crate::bytes::is_word;
+use crate::words::WORDS;
 use crate::words::reserved_at;
 
+// The longest word that is a token.
+const MAX_WORD: usize = 16;
+
 // The kinds: the signs by their numbers, then a name, a byte or word that is refused, and the end of the text.
-pub const SHARED: u8 = 0;
+pub const SHARED: usize = 0;
 
-pub const ROW: u8 = 1;
+pub const ROW: usize = 1;
 
-pub const START: u8 = 2;
+pub const START: usize = 2;
 
-pub const KEEP: u8 = 3;
+pub const KEEP: usize = 3;
 
-pub const EACH: u8 = 4;
+pub const EACH: usize = 4;
 
-pub const COMMAND: u8 = 5;
+pub const COMMAND: usize = 5;
 
-pub const IF: u8 = 6;
+pub const IF: usize = 6;
 
-pub const DO: u8 = 7;
+pub const DO: usize = 7;
 
-pub const ELSE: u8 = 8;
+pub const ELSE: usize = 8;
 
-pub const FOR: u8 = 9;
+pub const FOR: usize = 9;
 
-pub const END: u8 = 10;
+pub const END: usize = 10;
 
-pub const SKIP: u8 = 11;
+pub const SKIP: usize = 11;
 
-pub const AND: u8 = 12;
+pub const AND: usize = 12;
 
-pub const OR: u8 = 13;
+pub const OR: usize = 13;
 
-pub const NOT: u8 = 14;
+pub const NOT: usize = 14;
 
-pub const ZERO: u8 = 15;
+pub const ZERO: usize = 15;
 
-pub const ONE: u8 = 16;
+pub const ONE: usize = 16;
 
-pub const STAR: u8 = 17;
+pub const STAR: usize = 17;
 
-pub const DOT: u8 = 18;
+pub const DOT: usize = 18;
 
-pub const SEMI: u8 = 19;
+pub const SEMI: usize = 19;
 
-pub const ASSIGN: u8 = 20;
+pub const ASSIGN: usize = 20;
 
-pub const OPEN: u8 = 21;
+pub const OPEN: usize = 21;
 
-pub const CLOSE: u8 = 22;
+pub const CLOSE: usize = 22;
 
-pub const OTHER: u8 = 23;
+pub const OTHER: usize = 23;
 
-pub const NAME: u8 = 24;
+pub const NAME: usize = 24;
 
-pub const BAD: u8 = 25;
+pub const BAD: usize = 25;
 
-pub const FINISH: u8 = 26;
+pub const FINISH: usize = 26;
 
-// From start to end, with the number that refuses it where nothing of its kind may stand.
+// From start to end, with the number that refuses it where nothing of its kind may stand. All fields are as wide as a place: to copy a narrow one that was just stored takes longer.
 pub struct Piece {
-    pub kind: u8,
+    pub kind: usize,
     pub start: usize,
     pub end: usize,
-    pub fault: u8,
+    pub fault: usize,
 }
 
 // A piece that is a token, or the end.
-pub fn token(kind: u8, start: usize, end: usize) -> Piece
+pub fn token(kind: usize, start: usize, end: usize) -> Piece
     ensures { λ r. ⌜ r ≡ pieceOf kind start end 3 ⌝ }
 {
     Piece {
@@ -87,7 +91,7 @@ pub fn token(kind: u8, start: usize, end: usize) -> Piece
 
 // A byte that is not allowed, or a word that is too long.
 pub fn refused(start: usize, end: usize) -> Piece
-    ensures { λ r. ⌜ r ≡ pieceOf 25 start end 2 ⌝ }
+    ensures { λ r. ⌜ r ≡ pieceOf BAD start end 2 ⌝ }
 {
     Piece {
         kind: BAD,
@@ -134,11 +138,11 @@ pub fn word_piece(text: &[u8], s: usize, e: usize) -> Piece
     ensures { λ r. ⌜ r ≡ wordPiece (now (text .entry)) s e ⌝ }
 {
     let n = e - s;
-    if 16 < n {
+    if MAX_WORD < n {
         return refused(s, e);
     }
     let k = reserved_at(text, s, e);
-    if k < 15 {
+    if k < WORDS {
         return token(k, s, e);
     }
     let b = text[s];

@@ -6,26 +6,32 @@ ghost use lib.ListN.{length, getD};
 ghost use lib.Seq.{slice};
 ghost use Rattle.notation.specs.Bytes.{sameWord};
 ghost use Rattle.notation.specs.Tokens.{reserved, wordIn};
-ghost use Rattle.reader.specs.working.Pieces.{numberOr, Tabled};
+ghost use Rattle.reader.specs.working.Pieces.{WORDS, LONGEST, numberOr, Tabled};
 
-// Seven bytes to a word, in the order of the words' numbers.
+// How many words are reserved; as a number, that of none.
+pub const WORDS: usize = 15;
+
+// The letters of the longest.
+const LONGEST: usize = 7;
+
+// As many bytes to each word, in the order of the words' numbers.
 const LETTERS: [u8; 105] =
     *b"shared\0row\0\0\0\0start\0\0keep\0\0\0each\0\0\0commandif\0\0\0\0\0do\0\0\0\0\0else\0\0\0for\0\0\0\0end\0\0\0\0skip\0\0\0and\0\0\0\0or\0\0\0\0\0not\0\0\0\0";
 
-const LENGTHS: [u8; 15] = [6, 3, 5, 4, 4, 7, 2, 2, 4, 3, 3, 4, 3, 2, 3];
+const LENGTHS: [u8; WORDS] = [6, 3, 5, 4, 4, 7, 2, 2, 4, 3, 3, 4, 3, 2, 3];
 
 // Letter j of reserved word k.
-fn letter_of(letters: &[u8; 105], lengths: &[u8; 15], k: usize, j: usize) -> u8
-    requires { ⌜ Tabled (now letters) (now lengths) × ((k < 15) × (j < 7)) ⌝ }
+fn letter_of(letters: &[u8; 105], lengths: &[u8; WORDS], k: usize, j: usize) -> u8
+    requires { ⌜ Tabled (now letters) (now lengths) × ((k < WORDS) × (j < LONGEST)) ⌝ }
     ensures { λ r. ⌜ r ≡ getD (getD reserved k []) j 0 ⌝ }
 {
-    letters[7 * k + j]
+    letters[LONGEST * k + j]
 }
 
 // The length of reserved word k.
-fn length_of(letters: &[u8; 105], lengths: &[u8; 15], k: usize) -> u8
-    requires { ⌜ Tabled (now letters) (now lengths) × (k < 15) ⌝ }
-    ensures { λ r. ⌜ (r ≡ length (getD reserved k [])) × (r ≤ 7) ⌝ }
+fn length_of(letters: &[u8; 105], lengths: &[u8; WORDS], k: usize) -> u8
+    requires { ⌜ Tabled (now letters) (now lengths) × (k < WORDS) ⌝ }
+    ensures { λ r. ⌜ (r ≡ length (getD reserved k [])) × (r ≤ LONGEST) ⌝ }
 {
     lengths[k]
 }
@@ -33,13 +39,13 @@ fn length_of(letters: &[u8; 105], lengths: &[u8; 15], k: usize) -> u8
 // Whether the word from s to e is reserved word k.
 fn matches(
     letters: &[u8; 105],
-    lengths: &[u8; 15],
+    lengths: &[u8; WORDS],
     text: &[u8],
     s: usize,
     e: usize,
     k: usize,
 ) -> bool
-    requires { ⌜ Tabled (now letters) (now lengths) × ((s ≤ e) × ((e ≤ length (now text)) × (k < 15))) ⌝ }
+    requires { ⌜ Tabled (now letters) (now lengths) × ((s ≤ e) × ((e ≤ length (now text)) × (k < WORDS))) ⌝ }
     ensures { λ r. ⌜ r ≡ sameWord (slice s e (now (text .entry))) (getD reserved k []) ⌝ }
 {
     let n = length_of(letters, lengths, k) as usize;
@@ -58,29 +64,29 @@ fn matches(
     true
 }
 
-// The number of the reserved word from s to e, looked up in the tables; 15 for none.
-fn number_in(letters: &[u8; 105], lengths: &[u8; 15], text: &[u8], s: usize, e: usize) -> u8
+// The number of the reserved word from s to e, looked up in the tables; WORDS for none.
+fn number_in(letters: &[u8; 105], lengths: &[u8; WORDS], text: &[u8], s: usize, e: usize) -> usize
     requires { ⌜ Tabled (now letters) (now lengths) × ((s ≤ e) × (e ≤ length (now text))) ⌝ }
     ensures { λ r. ⌜ r ≡ numberOr (wordIn (slice s e (now (text .entry))) reserved 0) ⌝ }
 {
     let mut k: usize = 0;
-    while k < 15 {
+    while k < WORDS {
         let hit = matches(letters, lengths, text, s, e, k);
         if hit {
-            return k as u8;
+            return k;
         }
         k += 1;
     }
-    15
+    WORDS
 }
 
-// The number of the reserved word from s to e; 15 for none. The tables are laid out once for all comparisons.
-pub fn reserved_at(text: &[u8], s: usize, e: usize) -> u8
+// The number of the reserved word from s to e; WORDS for none. The tables are laid out once for all comparisons.
+pub fn reserved_at(text: &[u8], s: usize, e: usize) -> usize
     requires { ⌜ (s ≤ e) × (e ≤ length (now text)) ⌝ }
     ensures { λ r. ⌜ r ≡ numberOr (wordIn (slice s e (now (text .entry))) reserved 0) ⌝ }
 {
-    if 7 < e - s {
-        return 15;
+    if LONGEST < e - s {
+        return WORDS;
     }
     let letters = LETTERS;
     let lengths = LENGTHS;

@@ -4,7 +4,7 @@ use mathlib.Core.Path.{ap}
 use lib.ListN.{length}
 use native.Mathlib.Omega.{arith}
 use Rattle.reader.specs.working.Commands.{Arrays, arrays}
-use Rattle.reader.proofs.Answering.{too-long, is-read, is-refused}
+use Rattle.reader.proofs.Answering.{too-long, is-read, small, is-refused}
 use borrow.Author.Needs.{needs}
 use Rattle.reader.proofs.read_into.Statement.{statement}
 use Rattle.reader.proofs.read_into.Tie as tie
@@ -27,6 +27,14 @@ enum-known-said c = search needs
 
 enum-known-said-2 : tie.Need-enum-known-said-2
 enum-known-said-2 c = search needs
+
+cast-refusal : tie.Need-cast-refusal
+cast-refusal c =
+    let after-said2 : tie.After-said2 = search in
+    let after-model : tie.After-model = search in
+    let else1 : tie.Else1 = search in
+    let start : tie.Start = search in
+    omega (arith, small _ (else1 .if1 .left) _ _ (start .pre) _ (after-model .model .ensures) _ _ (after-said2 .said2 .given .1))
 
 refusal-requires-2 : tie.Need-refusal-requires-2
 refusal-requires-2 c κs = search needs
@@ -56,6 +64,7 @@ read-into-spec =
     model-requires
     enum-known-said
     enum-known-said-2
+    cast-refusal
     refusal-requires-2
     returns-2
     returns-3)

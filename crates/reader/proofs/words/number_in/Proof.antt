@@ -34,9 +34,6 @@ matches-requires c κs =
     let start : Start = search in
     (start .pre .0, (start .pre .1 .0, (start .pre .1 .1, c .loop-test .taken)))
 
-cast-result : tie.Need-cast-result Inv-loop μ-loop
-cast-result c = omega arith
-
 returns : tie.Need-returns Inv-loop μ-loop
 returns c =
     let in-loop : In-loop = search in
@@ -69,7 +66,6 @@ number-in-spec =
     μ-loop
     loop-holds
     matches-requires
-    cast-result
     returns
     add-k
     loop-less
