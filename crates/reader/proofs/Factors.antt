@@ -15,18 +15,18 @@ use Rattle.notation.specs.working.Lexing.{tokensFrom}
 use Rattle.notation.specs.working.Ledger.{Book, note, fault}
 use Rattle.notation.specs.working.Table.{lit, factor}
 use Rattle.notation.specs.working.Descent.{Got, got, stop, thenReads, ruling, reader, orReader}
-use Rattle.reader.specs.declared.pieces.Piece.{Piece}
+use Rattle.lexer.specs.declared.pieces.Piece.{Piece}
 use Rattle.reader.specs.declared.cursor.Cursor.{Cursor}
 use Rattle.reader.specs.declared.cursor.Ledger.{Ledger}
 use Rattle.reader.specs.declared.cursor.Scope.{Scope}
 use Rattle.reader.specs.declared.cursor.Parsed.{Parsed}
 use Rattle.reader.specs.declared.cursor.Parsed.the-variants.{Ok, Refused}
-use Rattle.reader.specs.working.Pieces.{listed, Fresh, pieceAt}
+use Rattle.lexer.specs.working.Pieces.{listed, Fresh, pieceAt}
 use Rattle.reader.specs.working.Cursors.{modeOf, bookOf, moved, emitted, Expected, Ready, Done, Says}
 use Rattle.reader.specs.working.Expressions.{exprWords, SaysExpr, SaysOperand, factorAt, orAt, Leaf, Kept, AfterNode, AfterClose, roomed}
 use Rattle.reader.proofs.Books.{quiet-fits, opens-deep, opens-fits, negates-deep, negates-full, negates-fits, note-quiet, note-opens, note-negates}
 use Rattle.reader.proofs.Symbols.{lit-is, lit-missing, open-is, not-is}
-use Rattle.reader.proofs.Lexing.{tokened}
+use Rattle.lexer.proofs.Lexing.{tokened}
 use Rattle.reader.proofs.Answers.{Past, is-past}
 use Rattle.reader.proofs.Done.{stores, wrote-none, wrote-same, wrote-from, done-wrote}
 

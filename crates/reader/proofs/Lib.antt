@@ -3,10 +3,7 @@ pub mod Symbols
 pub mod Done
 pub mod Chains
 pub mod Factors
-pub mod Lookup
-pub mod Spelling
-pub mod Runs
-pub mod Lexing
+pub mod NameKinds
 pub mod Operands
 pub mod Answers
 pub mod Sequences

@@ -10,11 +10,11 @@ use crate::cursor::Scope;
 use crate::cursor::expect;
 use crate::cursor::past;
 use crate::expressions::or_level;
-use crate::names::declare;
-use crate::names::find_name;
-use crate::pieces::DOT;
-use crate::pieces::EACH;
-use crate::pieces::NAME;
+use lexer::names::declare;
+use lexer::names::find_name;
+use lexer::pieces::DOT;
+use lexer::pieces::EACH;
+use lexer::pieces::NAME;
 
 const MAX_SHARED: usize = 8;
 

@@ -2,10 +2,10 @@
 ghost use mathlib.Core.Path.{_≡_};
 ghost use Prim.Native.Nat.{_<_};
 ghost use lib.ListN.{set};
-ghost use Rattle.reader.specs.working.Pieces.{pieceAt};
+ghost use Rattle.lexer.specs.working.Pieces.{pieceAt};
 ghost use Rattle.reader.specs.working.Cursors.{moved, Expected, emitted};
-use crate::pieces::Piece;
-use crate::pieces::piece_at;
+use lexer::pieces::Piece;
+use lexer::pieces::piece_at;
 
 // Whether row names and stars may stand in an expression.
 pub struct Scope {

@@ -14,17 +14,17 @@ use crate::cursor::expect;
 use crate::cursor::past;
 use crate::expressions::close_node;
 use crate::expressions::or_level;
-use crate::names::find_name;
 use crate::names::first_target;
 use crate::names::visible;
-use crate::pieces::ASSIGN;
-use crate::pieces::DO;
-use crate::pieces::ELSE;
-use crate::pieces::END;
-use crate::pieces::FOR;
-use crate::pieces::NAME;
-use crate::pieces::SEMI;
-use crate::pieces::SKIP;
+use lexer::names::find_name;
+use lexer::pieces::ASSIGN;
+use lexer::pieces::DO;
+use lexer::pieces::ELSE;
+use lexer::pieces::END;
+use lexer::pieces::FOR;
+use lexer::pieces::NAME;
+use lexer::pieces::SEMI;
+use lexer::pieces::SKIP;
 
 const MAX_ITEMS: usize = 256;
 

@@ -16,14 +16,14 @@ use crate::cursor::Cursor;
 use crate::cursor::Ledger;
 use crate::cursor::Parsed;
 use crate::cursor::expect;
-use crate::pieces::COMMAND;
-use crate::pieces::DOT;
-use crate::pieces::FINISH;
-use crate::pieces::KEEP;
-use crate::pieces::ROW;
-use crate::pieces::SHARED;
-use crate::pieces::START;
-use crate::pieces::piece_at;
+use lexer::pieces::COMMAND;
+use lexer::pieces::DOT;
+use lexer::pieces::FINISH;
+use lexer::pieces::KEEP;
+use lexer::pieces::ROW;
+use lexer::pieces::SHARED;
+use lexer::pieces::START;
+use lexer::pieces::piece_at;
 
 // A sign, names to declare, and a full stop.
 pub fn declaration(
