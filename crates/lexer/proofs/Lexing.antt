@@ -12,11 +12,11 @@ use lib.ListN.{length, getD, drop, take, length-drop}
 use lib.Seq.{slice, slice-cons, slice-empty, drop-cons, length-slice, take-add, drop-at, length-take-le}
 use borrow.Author.Tests.{eq-eqb, ne-eqb, eqb-true, eqb-false, ltb-true, ltb-false, leb-true, leb-false, le-leb, lt-leb}
 use Rattle.notation.specs.Bytes.{letter, wordByte, begins}
-use Rattle.notation.specs.Tokens.{sign, name, Word, reserved, wordIn, plainWord, wordToken}
+use Rattle.notation.specs.Tokens.{sign, name, Word, reserved, wordIn, plainWord, wordToken, ZERO, ONE, STAR, DOT, SEMI, ASSIGN, OPEN, CLOSE, OTHER, longestWord}
 use Rattle.notation.specs.working.Lexing.{span, beginsWith, Front, oneByte, mark, front, tokensFrom}
 use Rattle.notation.proofs.Lexes.{from-end, from-token}
 use Rattle.lexer.specs.declared.pieces.Piece.{Piece}
-use Rattle.lexer.specs.working.Pieces.{numberOr, pieceOf, tokenOf, listed, Fresh, blanks, plainPiece, numberedPiece, wordPiece, markPiece, pieceFrom, pieceAt}
+use Rattle.lexer.specs.working.Pieces.{numberOr, pieceOf, tokenOf, listed, Fresh, blanks, plainPiece, numberedPiece, wordPiece, markPiece, pieceFrom, pieceAt, WORDS, NAME, BAD, FINISH}
 use Rattle.lexer.proofs.Runs.{word-run, run-step, run-within, Behind, behind-blanks}
 use Rattle.lexer.proofs.Spelling.{token-long, token-reserved, token-plain, plain-other, plain-digit}
 
@@ -33,13 +33,13 @@ begins-drop (a ∷ text) (suc i) = begins-drop text i
 
 -- Signs.
 
-module _ (text : List ℕ) (k s e : ℕ) (h : k < 24) where
+module _ (text : List ℕ) (k s e : ℕ) (h : k < NAME) where
   sign-token : tokenOf text (pieceOf k s e 3) ≡ some (sign k)
   unfolding tokenOf
-  sign-token = rw (ne-eqb k 25 (λ z. absurd (omega arith)), ne-eqb k 24 (λ z. absurd (omega arith)))
+  sign-token = rw (ne-eqb k BAD (λ z. absurd (omega arith)), ne-eqb k NAME (λ z. absurd (omega arith)))
 
-  sign-fault : pieceOf k s e 3 .fault ≡ cond (eqb k 25) 2 3
-  sign-fault = rw (ne-eqb k 25 (λ z. absurd (omega arith)))
+  sign-fault : pieceOf k s e 3 .fault ≡ cond (eqb k BAD) 2 3
+  sign-fault = rw (ne-eqb k BAD (λ z. absurd (omega arith)))
 
 -- The word from s to e.
 
@@ -60,18 +60,18 @@ record Worded (text : List ℕ) (s e : ℕ) (r : Piece) : Type 0 where
   pub start : r .start ≡ s
   pub ends : r .end ≡ e
   pub token : tokenOf text r ≡ wordToken s (slice s e text)
-  pub fault : r .fault ≡ cond (eqb (r .kind) 25) 2 3
-  pub kind : r .kind < 26
-  pub short : r .kind ≡ 24 → e ≤ s + 16
+  pub fault : r .fault ≡ cond (eqb (r .kind) BAD) 2 3
+  pub kind : r .kind < FINISH
+  pub short : r .kind ≡ NAME → e ≤ s + longestWord
 
 -- The word is short and not reserved.
 record Plain (text : List ℕ) (s e : ℕ) : Type 0 where
   pub fits : (s < e) × (e ≤ length text)
-  pub short : e - s ≤ 16
+  pub short : e - s ≤ longestWord
   pub token : wordToken s (slice s e text) ≡ some (plainWord s (slice s e text))
 
 module _ {text : List ℕ} {s e : ℕ} where
-  is-sign : (k : ℕ) → k < 24 → wordToken s (slice s e text) ≡ some (sign k) → Worded text s e (pieceOf k s e 3)
+  is-sign : (k : ℕ) → k < NAME → wordToken s (slice s e text) ≡ some (sign k) → Worded text s e (pieceOf k s e 3)
   is-sign k h t = record {
     start = refl;
     ends = refl;
@@ -82,43 +82,43 @@ module _ {text : List ℕ} {s e : ℕ} where
   }
 
   module _ (fits : (s < e) × (e ≤ length text)) where
-    word-long : 16 < e - s → Worded text s e (pieceOf 25 s e 2)
+    word-long : longestWord < e - s → Worded text s e (pieceOf BAD s e 2)
     unfolding tokenOf
     word-long h =
         let t : wordToken s (slice s e text) ≡ none = token-long s (slice s e text) (omega (arith, size text s e fits)) in
         record { start = refl; ends = refl; token = sym t; fault = refl; kind = omega arith; short = λ z. absurd (omega arith) }
 
-    module _ (h : e - s ≤ 16) {k : ℕ} (is : k ≡ numberOr (wordIn (slice s e text) reserved 0)) where
-      word-reserved : k < 15 → Worded text s e (pieceOf k s e 3)
+    module _ (h : e - s ≤ longestWord) {k : ℕ} (is : k ≡ numberOr (wordIn (slice s e text) reserved 0)) where
+      word-reserved : k < WORDS → Worded text s e (pieceOf k s e 3)
       word-reserved u = is-sign k (omega arith) (token-reserved s (slice s e text) (omega (arith, size text s e fits)) k is u)
 
-      plain : 15 ≤ k → Plain text s e
+      plain : WORDS ≤ k → Plain text s e
       plain u = record { fits = fits; short = h; token = token-plain s (slice s e text) (omega (arith, size text s e fits)) k is u }
 
   module _ (p : Plain text s e) where
-    word-name : letter (getD text s 0) ≡ true → Worded text s e (pieceOf 24 s e 3)
+    word-name : letter (getD text s 0) ≡ true → Worded text s e (pieceOf NAME s e 3)
     unfolding tokenOf
     word-name h =
         let t : wordToken s (slice s e text) ≡ some (name (record { place = s; word = slice s e text })) = p .token ∙ rw (first text s e (p .fits) ∙ h) in
         record { start = refl; ends = refl; token = sym t; fault = refl; kind = omega arith; short = λ z. omega arith }
 
     module _ (h : letter (getD text s 0) ≡ false) where
-      word-other : (e - s ≡ 1 → ⊥) → Worded text s e (pieceOf 23 s e 3)
+      word-other : (e - s ≡ 1 → ⊥) → Worded text s e (pieceOf OTHER s e 3)
       word-other n =
-          is-sign 23 (omega arith) (p .token ∙ ap some (plain-other s (slice s e text) (first text s e (p .fits) ∙ h) (λ z. n (sym (size text s e (p .fits)) ∙ z))))
+          is-sign OTHER (omega arith) (p .token ∙ ap some (plain-other s (slice s e text) (first text s e (p .fits) ∙ h) (λ z. n (sym (size text s e (p .fits)) ∙ z))))
 
       module _ (n : e - s ≡ 1) where
-        digit : wordToken s (slice s e text) ≡ some (cond (eqb (getD text s 0) 48) (sign 15) (cond (eqb (getD text s 0) 49) (sign 16) (sign 23)))
+        digit : wordToken s (slice s e text) ≡ some (cond (eqb (getD text s 0) 48) (sign ZERO) (cond (eqb (getD text s 0) 49) (sign ONE) (sign OTHER)))
         digit = p .token ∙ ap some (ap (plainWord s) (alone text s e (p .fits) n) ∙ plain-digit s (getD text s 0) h)
 
-        word-zero : getD text s 0 ≡ 48 → Worded text s e (pieceOf 15 s e 3)
-        word-zero i = is-sign 15 (omega arith) (digit ∙ rw (eq-eqb _ _ i))
+        word-zero : getD text s 0 ≡ 48 → Worded text s e (pieceOf ZERO s e 3)
+        word-zero i = is-sign ZERO (omega arith) (digit ∙ rw (eq-eqb _ _ i))
 
-        word-one : (getD text s 0 ≡ 48 → ⊥) → getD text s 0 ≡ 49 → Worded text s e (pieceOf 16 s e 3)
-        word-one i j = is-sign 16 (omega arith) (digit ∙ rw (ne-eqb _ _ i, eq-eqb _ _ j))
+        word-one : (getD text s 0 ≡ 48 → ⊥) → getD text s 0 ≡ 49 → Worded text s e (pieceOf ONE s e 3)
+        word-one i j = is-sign ONE (omega arith) (digit ∙ rw (ne-eqb _ _ i, eq-eqb _ _ j))
 
-        word-digit : (getD text s 0 ≡ 48 → ⊥) → (getD text s 0 ≡ 49 → ⊥) → Worded text s e (pieceOf 23 s e 3)
-        word-digit i j = is-sign 23 (omega arith) (digit ∙ rw (ne-eqb _ _ i, ne-eqb _ _ j))
+        word-digit : (getD text s 0 ≡ 48 → ⊥) → (getD text s 0 ≡ 49 → ⊥) → Worded text s e (pieceOf OTHER s e 3)
+        word-digit i j = is-sign OTHER (omega arith) (digit ∙ rw (ne-eqb _ _ i, ne-eqb _ _ j))
 
   -- By the tests that the definition makes.
   by-test : {t u : Piece} (x : Bool) → (x ≡ true → Worded text s e t) → (x ≡ false → Worded text s e u) → Worded text s e (cond x t u)
@@ -130,10 +130,10 @@ module _ {text : List ℕ} {s e : ℕ} where
   worded fits =
       let b = getD text s 0 in
       let k = numberOr (wordIn (slice s e text) reserved 0) in
-      by-test (ltb 16 (e - s)) (λ h. word-long fits (ltb-true 16 (e - s) h))
-      (λ h. let short : e - s ≤ 16 = ltb-false 16 (e - s) h in
-      by-test (ltb k 15) (λ u. word-reserved fits short refl (ltb-true k 15 u))
-      (λ u. let p : Plain text s e = plain fits short refl (ltb-false k 15 u) in
+      by-test (ltb longestWord (e - s)) (λ h. word-long fits (ltb-true longestWord (e - s) h))
+      (λ h. let short : e - s ≤ longestWord = ltb-false longestWord (e - s) h in
+      by-test (ltb k WORDS) (λ u. word-reserved fits short refl (ltb-true k WORDS u))
+      (λ u. let p : Plain text s e = plain fits short refl (ltb-false k WORDS u) in
       by-test (letter b) (λ l. word-name p l)
       (λ l. by-test (eqb (e - s) 1)
       (λ n. let one : e - s ≡ 1 = eqb-true (e - s) 1 n in
@@ -148,10 +148,10 @@ record Fronts (text : List ℕ) (s : ℕ) (f : Front) (t : Piece) : Type 0 where
   pub start : t .start ≡ s
   pub ends : t .end ≡ suc (s + f .more)
   pub token : tokenOf text t ≡ f .token
-  pub kind : t .kind < 26
+  pub kind : t .kind < FINISH
   pub fresh : Fresh text t
 
-sign-fronts : {text : List ℕ} {s : ℕ} (k m e : ℕ) → k < 24 → e ≡ suc (s + m) → e ≤ length text → Fronts text s (record { token = some (sign k); more = m }) (pieceOf k s e 3)
+sign-fronts : {text : List ℕ} {s : ℕ} (k m e : ℕ) → k < NAME → e ≡ suc (s + m) → e ≤ length text → Fronts text s (record { token = some (sign k); more = m }) (pieceOf k s e 3)
 sign-fronts {text} {s} k m e h q i = record {
   start = refl;
   ends = q;
@@ -165,10 +165,10 @@ either-fronts true a b = a
 either-fronts false a b = b
 
 module _ {text : List ℕ} {s : ℕ} (h : s < length text) where
-  one-fronts : (k : ℕ) → k < 24 → Fronts text s (oneByte (some (sign k))) (pieceOf k s (s + 1) 3)
+  one-fronts : (k : ℕ) → k < NAME → Fronts text s (oneByte (some (sign k))) (pieceOf k s (s + 1) 3)
   one-fronts k i = sign-fronts k 0 (s + 1) i (omega arith) (omega arith)
 
-  barred-fronts : Fronts text s (oneByte none) (pieceOf 25 s (s + 1) 2)
+  barred-fronts : Fronts text s (oneByte none) (pieceOf BAD s (s + 1) 2)
   unfolding tokenOf
   barred-fronts = record {
     start = refl;
@@ -180,19 +180,20 @@ module _ {text : List ℕ} {s : ℕ} (h : s < length text) where
 
   -- A colon with the bytes that follow, of which `next` is the first.
   colon-fronts : (next : ℕ) (bs : List ℕ) → beginsWith 61 bs ≡ eqb next 61 → s + 1 + length bs ≡ length text →
-      Fronts text s (cond (beginsWith 61 bs) (record { token = some (sign 20); more = 1 }) (oneByte (some (sign 23)))) (cond (eqb next 61) (pieceOf 20 s (s + 2) 3) (pieceOf 23 s (s + 1) 3))
-  colon-fronts next [] e l = rw (sym e) (one-fronts 23 (omega arith))
-  colon-fronts next (a ∷ bs) e l = rw e (either-fronts (eqb next 61) (sign-fronts 20 1 (s + 2) (omega arith) (omega arith) (omega arith)) (one-fronts 23 (omega arith)))
+      Fronts text s (cond (beginsWith 61 bs) (record { token = some (sign ASSIGN); more = 1 }) (oneByte (some (sign OTHER))))
+      (cond (eqb next 61) (pieceOf ASSIGN s (s + 2) 3) (pieceOf OTHER s (s + 1) 3))
+  colon-fronts next [] e l = rw (sym e) (one-fronts OTHER (omega arith))
+  colon-fronts next (a ∷ bs) e l = rw e (either-fronts (eqb next 61) (sign-fronts ASSIGN 1 (s + 2) (omega arith) (omega arith) (omega arith)) (one-fronts OTHER (omega arith)))
 
   mark-fronts : (b next : ℕ) (bs : List ℕ) → beginsWith 61 bs ≡ eqb next 61 → s + 1 + length bs ≡ length text → Fronts text s (mark b bs) (markPiece b next s)
   unfolding mark markPiece
   mark-fronts b next bs e l =
-      either-fronts (eqb b 46) (one-fronts 18 (omega arith))
-      (either-fronts (eqb b 59) (one-fronts 19 (omega arith))
-      (either-fronts (eqb b 40) (one-fronts 21 (omega arith))
-      (either-fronts (eqb b 41) (one-fronts 22 (omega arith))
-      (either-fronts (eqb b 42) (one-fronts 17 (omega arith))
-      (either-fronts (eqb b 61) (one-fronts 23 (omega arith))
+      either-fronts (eqb b 46) (one-fronts DOT (omega arith))
+      (either-fronts (eqb b 59) (one-fronts SEMI (omega arith))
+      (either-fronts (eqb b 40) (one-fronts OPEN (omega arith))
+      (either-fronts (eqb b 41) (one-fronts CLOSE (omega arith))
+      (either-fronts (eqb b 42) (one-fronts STAR (omega arith))
+      (either-fronts (eqb b 61) (one-fronts OTHER (omega arith))
       (either-fronts (eqb b 58) (colon-fronts next bs e l) barred-fronts))))))
 
 -- The next piece.
@@ -202,7 +203,7 @@ pub record Tokened (text : List ℕ) (i : ℕ) (t : Piece) : Type 0 where
   pub tokens : tokensFrom text i ≡ listed text t
   pub fresh : Fresh text t
 
-piece-end : {text : List ℕ} {i s : ℕ} → Behind text i s → length text ≤ s → Tokened text i (pieceOf 26 (length text) (length text) 3)
+piece-end : {text : List ℕ} {i s : ℕ} → Behind text i s → length text ≤ s → Tokened text i (pieceOf FINISH (length text) (length text) 3)
 unfolding listed
 piece-end {text} {s = s} b h =
     record { tokens = b .same ∙ from-end text s h; fresh = record { fault = refl; last = λ z. refl; ordered = omega arith; inside = omega arith; short = λ z. absurd (omega arith) } }
@@ -211,7 +212,7 @@ module _ {text : List ℕ} {i s : ℕ} (b : Behind text i s) (within : s < lengt
   fronts : (t : Piece) → Fronts text s (front s (getD text s 0) (drop (suc s) text)) t → Tokened text i t
   unfolding listed
   fronts t f = record {
-    tokens = b .same ∙ from-token text s within (b .held within) ∙ sym (rw (ne-eqb (t .kind) 26 (λ z. absurd (omega arith)), f .token, f .start, f .ends));
+    tokens = b .same ∙ from-token text s within (b .held within) ∙ sym (rw (ne-eqb (t .kind) FINISH (λ z. absurd (omega arith)), f .token, f .start, f .ends));
     fresh = f .fresh;
   }
 
@@ -255,7 +256,7 @@ tokened text i = go (leb (length text) s) (wordByte (getD text s 0)) refl refl
     b = behind-blanks text (length text) i (omega arith)
 
     go : (x y : Bool) → leb (length text) s ≡ x → wordByte (getD text s 0) ≡ y →
-        Tokened text i (cond x (pieceOf 26 (length text) (length text) 3) (cond y (wordPiece text s (s + span (drop s text))) (markPiece (getD text s 0) (getD text (s + 1) 0) s)))
+        Tokened text i (cond x (pieceOf FINISH (length text) (length text) 3) (cond y (wordPiece text s (s + span (drop s text))) (markPiece (getD text s 0) (getD text (s + 1) 0) s)))
     go true y e f = piece-end b (leb-true (length text) s e)
     go false true e f = piece-word b (leb-false (length text) s e) f
     go false false e f = piece-mark b (leb-false (length text) s e) f
@@ -269,7 +270,7 @@ module _ (text : List ℕ) (i s : ℕ) {r : Piece} (is : s ≡ i + blanks (drop 
   unfolding pieceAt
   from-here q = q ∙ ap (pieceFrom text) is
 
-  pub at-end : length text ≤ s → r ≡ pieceOf 26 (length text) (length text) 3 → r ≡ pieceAt text i
+  pub at-end : length text ≤ s → r ≡ pieceOf FINISH (length text) (length text) 3 → r ≡ pieceAt text i
   unfolding pieceFrom
   at-end h q = from-here (q ∙ rw (le-leb (length text) s h))
 

@@ -85,6 +85,10 @@ and-and : (x y z : Bool) → cond x (cond y z false) false ≡ cond (cond x y fa
 and-and true y z = refl
 and-and false y z = refl
 
+neither : (x : Bool) → cond x false false ≡ false
+neither true = refl
+neither false = refl
+
 window-eight : (text : List ℕ) (a : ℕ) → window text a 8 ≡
     getD text a 0 ∷ getD text (a + 1) 0 ∷ getD text (a + 2) 0 ∷ getD text (a + 3) 0 ∷ getD text (a + 4) 0 ∷ getD text (a + 5) 0 ∷ getD text (a + 6) 0 ∷ getD text (a + 7) 0 ∷ []
 unfolding window
@@ -119,15 +123,23 @@ module _ (text : List ℕ) (a b n : ℕ) where
       (and-and (eqb (getD text (b + j) 0) (getD text (a + j) 0)) (sameWord (window text (b + (j + 1)) m) (window text (a + (j + 1)) m)) (sameFrom text a b n (j + 1 + m)) ∙
       rw (f, g))
 
-  module _ (j x y : ℕ) (h : j + 8 ≤ n) (p : Packed text (b + j) x) (q : Packed text (a + j) y) where
-    same-eight : sameFrom text a b n j ≡ cond (eqb x y) (sameFrom text a b n (j + 8)) false
-    same-eight = same-run 8 j h ∙ rw (packs-same text (a + j) (b + j) x y p q)
+module _ (text : List ℕ) (a b : ℕ) where
+  -- Whether the first k bytes are the same.
+  abbrev pub sameFirst : ℕ → Bool
+  sameFirst k = sameWord (window text b k) (window text a k)
 
-    pub eight-no : (x ≡ y → ⊥) → false ≡ sameFrom text a b n j
-    eight-no d = sym (same-eight ∙ rw (ne-eqb x y d))
+  module _ (k m x y : ℕ) (h : m + 8 ≡ k) (p : Packed text (b + m) x) (q : Packed text (a + m) y) where
+    same-last : sameFirst k ≡ cond (sameFirst m) (eqb x y) false
+    same-last =
+        let e : k - m ≡ 8 = omega arith in
+        sym (same-start text a b k) ∙ same-run text a b k m 0 (omega arith) ∙
+        rw (zero-add m, add-zero a, add-zero b, e, packs-same text (a + m) (b + m) x y p q)
 
-    pub eight-more : x ≡ y → sameFrom text a b n (j + 8) ≡ sameFrom text a b n j
-    eight-more d = sym (same-eight ∙ rw (eq-eqb x y d))
+    pub eight-no : (x ≡ y → ⊥) → false ≡ sameFirst k
+    eight-no d = sym (same-last ∙ rw (ne-eqb x y d) (neither (sameFirst m)))
+
+    pub eight-more : x ≡ y → sameFirst m ≡ sameFirst k
+    eight-more d = sym (same-last ∙ rw (eq-eqb x y d) (sym (itself (sameFirst m))))
 
 -- ---- the place of a word among words
 

@@ -13,8 +13,8 @@ use lib.ListN.{length, getD, take, drop, drop-of-length-le, List·getD-map}
 use lib.Seq.{slice, drop-cons, getD-drop, getD-take}
 use borrow.Author.Tests.{le-ltb, lt-ltb, le-leb, lt-leb, eq-eqb, ne-eqb}
 use Rattle.notation.specs.Bytes.{bytes, letter, wordByte, begins, sameWord}
-use Rattle.notation.specs.Tokens.{sign, Word, reserved, wordIn, plainWord, signOr, wordToken}
-use Rattle.lexer.specs.working.Pieces.{numberOr, Tabled}
+use Rattle.notation.specs.Tokens.{sign, Word, reserved, wordIn, plainWord, signOr, wordToken, ZERO, ONE, OTHER, longestWord}
+use Rattle.lexer.specs.working.Pieces.{numberOr, Tabled, WORDS, LONGEST}
 
 -- Bytes.
 
@@ -157,24 +157,24 @@ module _ {v w : Word} {n j : ℕ} (c : Same v w n j) where
 
 -- The reserved words, looked through from the first.
 
-fifteen : length reserved ≡ 15
+fifteen : length reserved ≡ WORDS
 unfolding reserved
 fifteen = refl
 
 module _ (w : Word) (k : ℕ) (rest : wordIn w (drop k reserved) k ≡ wordIn w reserved 0) where
-  look : k < 15 → wordIn w reserved 0 ≡ cond (sameWord w (getD reserved k [])) (some k) (wordIn w (drop (suc k) reserved) (suc k))
+  look : k < WORDS → wordIn w reserved 0 ≡ cond (sameWord w (getD reserved k [])) (some k) (wordIn w (drop (suc k) reserved) (suc k))
   unfolding wordIn
   look h = sym rest ∙ ap (λ (vs : List Word). wordIn w vs k) (drop-cons reserved k [] (omega (arith, fifteen)))
 
-  pub look-hit : k < 15 → sameWord w (getD reserved k []) ≡ true → k ≡ numberOr (wordIn w reserved 0)
+  pub look-hit : k < WORDS → sameWord w (getD reserved k []) ≡ true → k ≡ numberOr (wordIn w reserved 0)
   look-hit h e =
       let f : wordIn w reserved 0 ≡ some k = look h ∙ rw e in
       sym (ap numberOr f)
 
-  pub look-on : k < 15 → sameWord w (getD reserved k []) ≡ false → wordIn w (drop (k + 1) reserved) (k + 1) ≡ wordIn w reserved 0
+  pub look-on : k < WORDS → sameWord w (getD reserved k []) ≡ false → wordIn w (drop (k + 1) reserved) (k + 1) ≡ wordIn w reserved 0
   look-on h e = rw add-one (sym (look h ∙ rw e))
 
-  pub look-none : 15 ≤ k → 15 ≡ numberOr (wordIn w reserved 0)
+  pub look-none : WORDS ≤ k → WORDS ≡ numberOr (wordIn w reserved 0)
   unfolding wordIn
   look-none h =
       let l : length reserved ≤ k = omega (arith, fifteen) in
@@ -187,7 +187,7 @@ unfolding wordIn greatest
 longer w [] i h = refl
 longer w (v ∷ vs) i h = rw (sym (lengths-differ w v (λ e. omega arith))) (longer w vs (suc i) (omega arith))
 
-pub look-long : (w : Word) → 7 < length w → 15 ≡ numberOr (wordIn w reserved 0)
+pub look-long : (w : Word) → LONGEST < length w → WORDS ≡ numberOr (wordIn w reserved 0)
 unfolding reserved bytes greatest
 look-long w h = sym (ap numberOr (longer w reserved 0 h))
 
@@ -203,35 +203,35 @@ found-below w (v ∷ vs) i j e = go (sameWord w v) e (λ f. found-below w vs (su
 
 -- Which token a word is.
 
-pub token-long : (i : ℕ) (w : Word) → 16 < length w → wordToken i w ≡ none
+pub token-long : (i : ℕ) (w : Word) → longestWord < length w → wordToken i w ≡ none
 unfolding wordToken
-token-long i w h = rw (lt-ltb 16 (length w) h)
+token-long i w h = rw (lt-ltb longestWord (length w) h)
 
-module _ (i : ℕ) (w : Word) (short : length w ≤ 16) (k : ℕ) (is : k ≡ numberOr (wordIn w reserved 0)) where
+module _ (i : ℕ) (w : Word) (short : length w ≤ longestWord) (k : ℕ) (is : k ≡ numberOr (wordIn w reserved 0)) where
   by-number : (o : Option ℕ) → wordIn w reserved 0 ≡ o → wordToken i w ≡ some (signOr o (plainWord i w))
   unfolding wordToken
-  by-number o e = rw (le-ltb 16 (length w) short, e)
+  by-number o e = rw (le-ltb longestWord (length w) short, e)
 
-  pub token-reserved : k < 15 → wordToken i w ≡ some (sign k)
+  pub token-reserved : k < WORDS → wordToken i w ≡ some (sign k)
   token-reserved h = go (wordIn w reserved 0) refl
     where
       go : (o : Option ℕ) → wordIn w reserved 0 ≡ o → wordToken i w ≡ some (sign k)
-      go none e = let z : k ≡ 15 = is ∙ ap numberOr e in absurd (omega arith)
+      go none e = let z : k ≡ WORDS = is ∙ ap numberOr e in absurd (omega arith)
       go (some j) e = by-number (some j) e ∙ rw (is ∙ ap numberOr e)
 
-  pub token-plain : 15 ≤ k → wordToken i w ≡ some (plainWord i w)
+  pub token-plain : WORDS ≤ k → wordToken i w ≡ some (plainWord i w)
   token-plain h = go (wordIn w reserved 0) refl
     where
       go : (o : Option ℕ) → wordIn w reserved 0 ≡ o → wordToken i w ≡ some (plainWord i w)
       go none e = by-number none e
       go (some j) e = let z : k ≡ j = is ∙ ap numberOr e in absurd (omega (arith, found-below w reserved 0 j e, fifteen))
 
-pub plain-other : (i : ℕ) (w : Word) → begins letter w ≡ false → (length w ≡ 1 → ⊥) → plainWord i w ≡ sign 23
+pub plain-other : (i : ℕ) (w : Word) → begins letter w ≡ false → (length w ≡ 1 → ⊥) → plainWord i w ≡ sign OTHER
 plain-other i w h n = rw (h, sym (lengths-differ w (48 ∷ []) n), sym (lengths-differ w (49 ∷ []) n))
 
 same-one : (a b : ℕ) → sameWord (a ∷ []) (b ∷ []) ≡ eqb a b
 unfolding sameWord
 same-one a b = sym (itself (eqb a b))
 
-pub plain-digit : (i b : ℕ) → letter b ≡ false → plainWord i (b ∷ []) ≡ cond (eqb b 48) (sign 15) (cond (eqb b 49) (sign 16) (sign 23))
+pub plain-digit : (i b : ℕ) → letter b ≡ false → plainWord i (b ∷ []) ≡ cond (eqb b 48) (sign ZERO) (cond (eqb b 49) (sign ONE) (sign OTHER))
 plain-digit i b h = rw (h, same-one b 48, same-one b 49)

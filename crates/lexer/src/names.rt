@@ -66,7 +66,8 @@ fn same_inside(text: &[u8], a: usize, b: usize, n: usize) -> bool
     true
 }
 
-// The same for a word of the text from b on, eight bytes at a time while there are as many. A name stands before where it is used; what does not is compared byte by byte.
+// The same for a word of the text from b on, eight bytes at a time while there are as many, from the end, where names that look alike differ.
+// A name stands before where it is used; what does not is compared byte by byte.
 fn same_by_eights(text: &[u8], a: usize, b: usize, n: usize) -> bool
     requires { ⌜ (a + n < 2 ^ 64) × (b + n ≤ length (now text)) ⌝ }
     ensures { λ r. ⌜ r ≡ sameWord (window (now (text .entry)) b n) (window (now (text .entry)) a n) ⌝ }
@@ -74,16 +75,17 @@ fn same_by_eights(text: &[u8], a: usize, b: usize, n: usize) -> bool
     if b < a {
         return same_bytes(text, a, b, n);
     }
-    let mut j: usize = 0;
-    while 8 <= n - j {
-        let x = eight(text, b + j);
-        let y = eight(text, a + j);
+    let mut k = n;
+    while 8 <= k {
+        let m = k - 8;
+        let x = eight(text, b + m);
+        let y = eight(text, a + m);
         if x != y {
             return false;
         }
-        j += 8;
+        k = m;
     }
-    same_inside(text, a + j, b + j, n - j)
+    same_inside(text, a, b, k)
 }
 
 // An entry of the names, as a usize.

@@ -1,19 +1,17 @@
--- The windows are the same from byte j on if and only if they are the same, since the eights before j are.
+-- The first k bytes are the same if and only if all are, since the eights behind them are.
 -- Assumes nothing.
-use mathlib.Core.Path.{_≡_, sym, _∙_}
-use Prim.Native.Nat.{_≤_, _-_}
+use mathlib.Core.Path.{_≡_, refl, _∙_}
+use Prim.Native.Nat.{_≤_}
 use native.Mathlib.Omega.{arith}
-use Rattle.notation.specs.Bytes.{sameWord}
-use Rattle.lexer.specs.working.Names.{window}
-use Rattle.lexer.proofs.Lookup.{sameFrom, same-start, eight-no, eight-more}
+use Rattle.lexer.proofs.Lookup.{sameFirst, eight-no, eight-more}
 use Rattle.lexer.proofs.names.same_by_eights.Statement.{statement}
 use Rattle.lexer.proofs.names.same_by_eights.Tie as tie
 
 abbrev Inv-loop : tie.InvT-loop
-Inv-loop text a b n j₀ j = (j ≤ n) × (sameFrom text a b n j ≡ sameWord (window text b n) (window text a n))
+Inv-loop text a b n k₀ k = (k ≤ n) × (sameFirst text a b k ≡ sameFirst text a b n)
 
 abbrev μ-loop : tie.MeasureT-loop
-μ-loop text a b n j₀ j = n - j
+μ-loop text a b n k₀ k = k
 
 -- The places that the answers name.
 abbrev After-eight : Type 0
@@ -29,10 +27,7 @@ returns : tie.Need-returns Inv-loop μ-loop
 returns c = c .same-bytes .ensures
 
 loop-holds : tie.Need-loop-holds Inv-loop μ-loop
-loop-holds c = (omega arith, same-start _ _ _ _)
-
-sub-loop : tie.Need-sub-loop Inv-loop μ-loop
-sub-loop c = omega arith
+loop-holds c = (omega arith, refl)
 
 add-eight : tie.Need-add-eight Inv-loop μ-loop
 add-eight c = omega arith
@@ -53,9 +48,6 @@ returns-2 c =
     eight-no _ _ _ _ _ _ _ (omega arith) (after-eight .eight .ensures) (c .before .eight2 .ensures) (c .if2 .taken) ∙
     at-loop .loop .inv .1
 
-add-j : tie.Need-add-j Inv-loop μ-loop
-add-j c = omega arith
-
 loop-less : tie.Need-loop-less Inv-loop μ-loop
 loop-less c = omega arith
 
@@ -67,15 +59,6 @@ loop-again c =
       eight-more _ _ _ _ _ _ _ (omega arith) (after-eight .eight .ensures) (c .before .eight2 .ensures) (c .if2 .left) ∙
           at-loop .loop .inv .1,
     )
-
-add-same-inside : tie.Need-add-same-inside Inv-loop μ-loop
-add-same-inside c = omega arith
-
-add-same-inside-2 : tie.Need-add-same-inside-2 Inv-loop μ-loop
-add-same-inside-2 c = omega arith
-
-sub-same-inside : tie.Need-sub-same-inside Inv-loop μ-loop
-sub-same-inside c = omega arith
 
 same-inside-requires : tie.Need-same-inside-requires Inv-loop μ-loop
 same-inside-requires c κs = omega arith
@@ -94,17 +77,12 @@ same-by-eights-spec =
     same-bytes-requires
     returns
     loop-holds
-    sub-loop
     add-eight
     eight-requires
     add-eight-2
     eight-requires-2
     returns-2
-    add-j
     loop-less
     loop-again
-    add-same-inside
-    add-same-inside-2
-    sub-same-inside
     same-inside-requires
     returns-3)
