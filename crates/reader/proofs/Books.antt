@@ -13,7 +13,7 @@ use Rattle.notation.specs.Tokens.{Token, Name, name}
 use Rattle.notation.specs.Notation.{Kind, Mode, part, quiet, declares, uses, constant, chance, joins, negates, opens, target, beginsItem}
 use Rattle.notation.specs.Rules.{view, has, elem, allowed, sameKind, nameCounts}
 use Rattle.notation.specs.working.Ledger.{Book, note, fault, tally, exceeds}
-use Rattle.reader.specs.declared.pieces.Piece.{Piece}
+use Rattle.lexer.specs.declared.pieces.Piece.{Piece}
 use Rattle.reader.specs.declared.cursor.Cursor.{Cursor}
 use Rattle.reader.specs.declared.cursor.Ledger.{Ledger}
 use Rattle.reader.specs.working.Names.{namesKept}

@@ -17,19 +17,21 @@ use Rattle.notation.specs.Texts.{placeOf, among}
 use Rattle.notation.specs.working.Lexing.{tokensFrom}
 use Rattle.notation.specs.working.Ledger.{Book, note, fault}
 use Rattle.notation.specs.working.Descent.{got, ruling}
-use Rattle.reader.specs.declared.pieces.Piece.{Piece}
+use Rattle.lexer.specs.declared.pieces.Piece.{Piece}
 use Rattle.reader.specs.declared.cursor.Cursor.{Cursor}
 use Rattle.reader.specs.declared.cursor.Ledger.{Ledger}
 use Rattle.reader.specs.declared.clauses.Declared.the-variants as D
-use Rattle.reader.specs.working.Pieces.{nameIn, listed, pieceAt}
-use Rattle.reader.specs.working.Names.{wordsIn, sharedWords, rowWords, kinded, namesKept}
+use Rattle.lexer.specs.working.Pieces.{nameIn, listed, pieceAt}
+use Rattle.lexer.specs.working.Names.{wordsIn}
+use Rattle.reader.specs.working.Names.{sharedWords, rowWords, kinded, namesKept}
 use Rattle.reader.specs.working.Cursors.{bookOf, moved}
 use Rattle.reader.specs.working.Items.{kindOf}
 use Rattle.reader.specs.Read.{placed}
 use Rattle.reader.specs.working.Clauses.{grown, Listing, nameAt, NameSays}
 use Rattle.reader.proofs.Moves.{Past, is-past}
 use Rattle.reader.proofs.Books.{declares-again, declares-many, declares-full, declares-fits, note-declares}
-use Rattle.reader.proofs.Lookup.{window-slice, any-name, found-among, withName, with-length, words-kept, words-declared}
+use Rattle.lexer.proofs.Lookup.{window-slice, found-among, withName, with-length, words-kept, words-declared}
+use Rattle.reader.proofs.NameKinds.{any-name}
 
 -- ---- one name more, in the ledger and among names with their kinds
 

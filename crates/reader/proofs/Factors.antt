@@ -15,18 +15,18 @@ use Rattle.notation.specs.working.Lexing.{tokensFrom}
 use Rattle.notation.specs.working.Ledger.{Book, note, fault}
 use Rattle.notation.specs.working.Table.{lit, factor}
 use Rattle.notation.specs.working.Descent.{Got, got, stop, thenReads, ruling, reader, orReader}
-use Rattle.reader.specs.declared.pieces.Piece.{Piece}
+use Rattle.lexer.specs.declared.pieces.Piece.{Piece}
 use Rattle.reader.specs.declared.cursor.Cursor.{Cursor}
 use Rattle.reader.specs.declared.cursor.Ledger.{Ledger}
 use Rattle.reader.specs.declared.cursor.Scope.{Scope}
 use Rattle.reader.specs.declared.cursor.Parsed.{Parsed}
 use Rattle.reader.specs.declared.cursor.Parsed.the-variants.{Ok, Refused}
-use Rattle.reader.specs.working.Pieces.{listed, pieceAt}
+use Rattle.lexer.specs.working.Pieces.{listed, pieceAt}
 use Rattle.reader.specs.working.Cursors.{modeOf, bookOf, moved, emitted, Ready, wasRead, wasRefused}
 use Rattle.reader.specs.working.Expressions.{exprWords, SaysExpr, SaysOperand, factorAt, orAt, Leaf, Kept, AfterNode, AfterClose}
 use Rattle.reader.proofs.Books.{opens-deep, opens-fits, negates-deep, negates-full, negates-fits, note-opens, note-negates}
 use Rattle.reader.proofs.Symbols.{open-is, not-is}
-use Rattle.reader.proofs.Lexing.{tokened}
+use Rattle.lexer.proofs.Lexing.{tokened}
 use Rattle.reader.proofs.Moves.{Past}
 use Rattle.reader.proofs.StoredCode.{wrote-none, wrote-same, said-as, says-of}
 use Rattle.reader.specs.working.Sequences.{signedBy}

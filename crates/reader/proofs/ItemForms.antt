@@ -21,23 +21,25 @@ use Rattle.notation.specs.working.Table as T
 use Rattle.notation.specs.working.Table.{find, lines, skips}
 use Rattle.notation.specs.working.Descent.{Got, got, stop, thenReads, ruling, reader, sequence, orReader}
 use Rattle.notation.proofs.Readers.{reader-token, then-then, then-ruling}
-use Rattle.reader.specs.declared.pieces.Piece.{Piece}
+use Rattle.lexer.specs.declared.pieces.Piece.{Piece}
 use Rattle.reader.specs.declared.cursor.Cursor.{Cursor}
 use Rattle.reader.specs.declared.cursor.Ledger.{Ledger}
 use Rattle.reader.specs.declared.cursor.Scope.{Scope}
 use Rattle.reader.specs.declared.cursor.Parsed.{Parsed}
 use Rattle.reader.specs.declared.cursor.Parsed.the-variants.{Ok, Refused}
-use Rattle.reader.specs.working.Pieces.{nameIn, listed, pieceAt}
-use Rattle.reader.specs.working.Names.{wordsIn, sharedWords, rowWords, namesKept}
+use Rattle.lexer.specs.working.Pieces.{nameIn, listed, pieceAt}
+use Rattle.lexer.specs.working.Names.{wordsIn}
+use Rattle.reader.specs.working.Names.{sharedWords, rowWords, namesKept}
 use Rattle.reader.specs.working.Cursors.{modeOf, bookOf, moved, emitted, Expected, Ready, Says, wasRead, wasRefused}
 use Rattle.reader.specs.working.Expressions.{exprWords, SaysExpr, orAt, AfterNode}
 use Rattle.reader.specs.working.Items.{rowItemWords, rowItemsWords, itemWords, withWord, Skipped, kindOf, modeIn, assignAt, bitIn, SaysAssign, SaysRowItem, rowItemAt, SaysItem, itemAt}
 use Rattle.reader.proofs.Books.{target-unknown, target-full, target-fits, item-full, item-fits, note-target, note-item}
 use Rattle.reader.proofs.Symbols.{listed-sign, listed-name, missing}
-use Rattle.reader.proofs.Lexing.{tokened}
+use Rattle.lexer.proofs.Lexing.{tokened}
 use Rattle.reader.proofs.Moves.{Past, is-past, past-ready}
 use Rattle.reader.proofs.StoredCode.{wrote-none, wrote-same, said-as, says-of}
-use Rattle.reader.proofs.Lookup.{words-length, shared-name, row-name}
+use Rattle.lexer.proofs.Lookup.{words-length}
+use Rattle.reader.proofs.NameKinds.{shared-name, row-name}
 use Rattle.reader.proofs.Operands.{found-out, found-in}
 use Rattle.reader.proofs.Sequences.{expected-ok, expected-bad, says-map, says-from, says-node, sign-ready}
 use Rattle.reader.specs.working.Sequences.{allRows, Tested, tested, testedWords}

@@ -15,9 +15,9 @@ use Rattle.notation.specs.working.Ledger.{Book, note, fault}
 use Rattle.notation.specs.working.Table.{rowItem, rowItems, item, items, find, lines, skips}
 use Rattle.notation.specs.working.Descent.{got, thenReads, ruling, reader, sequence}
 use Rattle.notation.proofs.Readers.{reader-token}
-use Rattle.reader.specs.declared.pieces.Piece.{Piece}
+use Rattle.lexer.specs.declared.pieces.Piece.{Piece}
 use Rattle.reader.specs.declared.cursor.Ledger.{Ledger}
-use Rattle.reader.specs.working.Pieces.{listed}
+use Rattle.lexer.specs.working.Pieces.{listed}
 use Rattle.reader.specs.working.Items.{rowItemWords, rowItemsWords, itemWords, itemsWords}
 use Rattle.reader.proofs.Symbols.{passed}
 use Rattle.reader.proofs.ItemLoops.{Series}

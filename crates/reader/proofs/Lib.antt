@@ -4,10 +4,7 @@ pub mod StoredCode
 pub mod OperatorLoops
 pub mod Sequences
 pub mod Factors
-pub mod Lookup
-pub mod Spelling
-pub mod Runs
-pub mod Lexing
+pub mod NameKinds
 pub mod Operands
 pub mod Moves
 pub mod ItemLoops

@@ -9,11 +9,11 @@ use Rattle.reader.specs.declared.cursor.Cursor.{Cursor}
 use Rattle.reader.specs.declared.cursor.Ledger.{Ledger}
 use Rattle.reader.specs.declared.cursor.Parsed.{Parsed}
 use Rattle.reader.specs.declared.cursor.Parsed.the-variants.{Ok, Refused}
-use Rattle.reader.specs.working.Pieces.{pieceAt}
+use Rattle.lexer.specs.working.Pieces.{pieceAt}
 use Rattle.reader.specs.working.Cursors.{moved, emitted, Expected, Ready}
 use Rattle.reader.specs.working.Expressions.{Leaf, AfterNode, AfterClose}
 use Rattle.reader.specs.working.Items.{Marked, Skipped}
-use Rattle.reader.proofs.Lexing.{Tokened, tokened}
+use Rattle.lexer.proofs.Lexing.{Tokened, tokened}
 
 module _ (inner : Parsed) (code : ℕ) (b : List ℕ) where
   pub node-ok : (x r : Cursor) (a : List ℕ) → inner ≡ Ok x → (r ≡ emitted x) × (a ≡ set b (x .emitted) code) → AfterNode code inner b a (Ok r)

@@ -17,7 +17,7 @@ use Rattle.reader.specs.declared.cursor.Parsed.{Parsed}
 use Rattle.reader.specs.declared.cursor.Parsed.the-variants.{Ok, Refused}
 use Rattle.reader.specs.declared.clauses.Declared.{Declared}
 use Rattle.reader.specs.declared.clauses.Declared.the-variants as D
-use Rattle.reader.specs.working.Pieces.{listed}
+use Rattle.lexer.specs.working.Pieces.{listed}
 use Rattle.reader.specs.working.Names.{sharedWords, rowWords}
 use Rattle.reader.specs.working.Cursors.{bookOf, Ready, Done}
 use Rattle.reader.specs.working.Expressions.{exprWords}
@@ -27,7 +27,7 @@ use Rattle.reader.specs.working.Sequences.{Tested, testedWords}
 use Rattle.reader.specs.working.Commands.{withCommands, Naming, Titled, TitleSays, bodyReader, BodySays, commandWords, starsIn, oneAt, arrays, CommandsSay}
 use Rattle.reader.proofs.StoredCode.{wrote-none, wrote-from, said-ok, said-bad, done-ready}
 use Rattle.reader.proofs.NameLists.{named-same}
-use Rattle.reader.proofs.Lookup.{words-kept}
+use Rattle.lexer.proofs.Lookup.{words-kept}
 
 -- A command made of its name and its body.
 abbrev pub made : Name → Tested Item → Command

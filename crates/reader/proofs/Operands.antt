@@ -19,19 +19,21 @@ use Rattle.notation.specs.Model as M
 use Rattle.notation.specs.working.Lexing.{tokensFrom}
 use Rattle.notation.specs.working.Ledger.{note}
 use Rattle.notation.specs.working.Descent.{Got, got, stop, ruling}
-use Rattle.reader.specs.declared.pieces.Piece.{Piece}
+use Rattle.lexer.specs.declared.pieces.Piece.{Piece}
 use Rattle.reader.specs.declared.cursor.Cursor.{Cursor}
 use Rattle.reader.specs.declared.cursor.Ledger.{Ledger}
 use Rattle.reader.specs.declared.cursor.Scope.{Scope}
 use Rattle.reader.specs.declared.cursor.Parsed.{Parsed}
 use Rattle.reader.specs.declared.cursor.Parsed.the-variants.{Refused}
-use Rattle.reader.specs.working.Pieces.{nameIn}
-use Rattle.reader.specs.working.Names.{wordsIn, sharedWords, rowWords, namesKept}
+use Rattle.lexer.specs.working.Pieces.{nameIn}
+use Rattle.lexer.specs.working.Names.{wordsIn}
+use Rattle.reader.specs.working.Names.{sharedWords, rowWords, namesKept}
 use Rattle.reader.specs.working.Cursors.{modeOf, bookOf, Ready, wasRefused}
 use Rattle.reader.specs.working.Expressions.{exprWords, SaysOperand, factorAt, Leaf, Kept}
 use Rattle.reader.proofs.Books.{constant-full, constant-fits, chance-barred, chance-many, chance-full, chance-fits, uses-unknown, uses-full, uses-fits, note-constant, note-chance, note-uses}
 use Rattle.reader.proofs.Symbols.{zero-is, one-is, star-is, name-is}
-use Rattle.reader.proofs.Lookup.{words-length, words-append, place-among, place-le, place-front, place-append, among-append, shared-name, table-name}
+use Rattle.lexer.proofs.Lookup.{words-length, words-append, place-among, place-le, place-front, place-append, among-append}
+use Rattle.reader.proofs.NameKinds.{shared-name, table-name}
 use Rattle.reader.proofs.StoredCode.{wrote-none}
 use Rattle.reader.proofs.Factors.{leaf-says}
 

@@ -15,12 +15,12 @@ use Rattle.notation.specs.working.Ledger.{Book, note, fault}
 use Rattle.notation.specs.working.Table.{factor}
 use Rattle.notation.specs.working.Descent.{Got, got, thenReads, ruling, reader, andReader, andLoop, orLoop}
 use Rattle.notation.proofs.Readers.{and-loop-turn, or-loop-turn}
-use Rattle.reader.specs.declared.pieces.Piece.{Piece}
+use Rattle.lexer.specs.declared.pieces.Piece.{Piece}
 use Rattle.reader.specs.declared.cursor.Cursor.{Cursor}
 use Rattle.reader.specs.declared.cursor.Ledger.{Ledger}
 use Rattle.reader.specs.declared.cursor.Parsed.{Parsed}
 use Rattle.reader.specs.declared.cursor.Parsed.the-variants.{Refused}
-use Rattle.reader.specs.working.Pieces.{listed}
+use Rattle.lexer.specs.working.Pieces.{listed}
 use Rattle.reader.specs.working.Cursors.{bookOf, emitted, Ready, Done, wasRefused}
 use Rattle.reader.specs.working.Expressions.{exprWords, SaysExpr}
 use Rattle.reader.proofs.Moves.{Past, past-node}

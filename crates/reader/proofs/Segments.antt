@@ -23,7 +23,7 @@ use Rattle.reader.specs.declared.cursor.Ledger.{Ledger}
 use Rattle.reader.specs.declared.cursor.Scope.{Scope}
 use Rattle.reader.specs.declared.cursor.Parsed.{Parsed}
 use Rattle.reader.specs.declared.cursor.Parsed.the-variants.{Ok, Refused}
-use Rattle.reader.specs.working.Pieces.{listed}
+use Rattle.lexer.specs.working.Pieces.{listed}
 use Rattle.reader.specs.working.Cursors.{modeOf, bookOf, Expected, Ready, Done, Wrote, Says}
 use Rattle.reader.specs.working.Expressions.{exprWords, SaysExpr, orAt}
 use Rattle.reader.specs.working.Clauses.{fixedIn, segmentAt, SegmentSays, clauseWords, clauseEnds, clauseAt, ClauseSays}

@@ -18,7 +18,7 @@ use Rattle.reader.specs.declared.cursor.Cursor.{Cursor}
 use Rattle.reader.specs.declared.cursor.Ledger.{Ledger}
 use Rattle.reader.specs.declared.cursor.Parsed.{Parsed}
 use Rattle.reader.specs.declared.cursor.Parsed.the-variants.{Ok, Refused}
-use Rattle.reader.specs.working.Pieces.{listed, Fresh}
+use Rattle.lexer.specs.working.Pieces.{listed, Fresh}
 use Rattle.reader.specs.working.Cursors.{bookOf, emitted, Expected, Ready, Done, Says, wasRead, wasRefused}
 use Rattle.reader.specs.working.Expressions.{AfterNode, AfterClose, roomed}
 use Rattle.reader.specs.working.Items.{withWord, Marked}

@@ -15,7 +15,7 @@ use Rattle.reader.specs.declared.cursor.Cursor.{Cursor}
 use Rattle.reader.specs.declared.cursor.Ledger.{Ledger}
 use Rattle.reader.specs.declared.cursor.Parsed.{Parsed}
 use Rattle.reader.specs.declared.cursor.Parsed.the-variants.{Ok, Refused}
-use Rattle.reader.specs.working.Pieces.{listed}
+use Rattle.lexer.specs.working.Pieces.{listed}
 use Rattle.reader.specs.working.Cursors.{bookOf, Ready, Done, Wrote, Says, wasRead, wasRefused}
 
 -- ---- stores

@@ -16,8 +16,8 @@ use Rattle.notation.specs.working.Ledger.{Book, note, fault}
 use Rattle.notation.specs.working.Table.{Sym, lit, factor, ands, ors, find, lines, skips}
 use Rattle.notation.specs.working.Descent.{Got, got, stop, thenReads, ruling, reader, sequence, orReader, andLoop, orLoop}
 use Rattle.notation.proofs.Readers.{reader-token, reader-end, reader-byte, then-then}
-use Rattle.reader.specs.declared.pieces.Piece.{Piece}
-use Rattle.reader.specs.working.Pieces.{nameIn, tokenOf, listed, Fresh}
+use Rattle.lexer.specs.declared.pieces.Piece.{Piece}
+use Rattle.lexer.specs.working.Pieces.{nameIn, tokenOf, listed, Fresh}
 
 module _ (text : List ℕ) (t : Piece) where
   pub listed-sign : (k : ℕ) → t .kind ≡ k → k < 24 → listed text t ≡ at (t .start) (some (sign k)) ∷ tokensFrom text (t .end)

@@ -9,6 +9,8 @@ use Rattle.notation.specs.Texts.{longestText}
 use Rattle.notation.specs.working.Lexing.{tokens}
 use Rattle.notation.specs.working.Machine.{reading}
 use Rattle.notation.specs.working.Answer.{answer}
+use Rattle.notation.proofs.Places.{refusals-bounded}
+use Rattle.notation.proofs.Texts.{refused-iff-answer}
 use Rattle.reader.specs.declared.Answer.the-variants.{Read}
 use Rattle.reader.specs.declared.Summary.{Summary}
 use Rattle.reader.specs.declared.cursor.Cursor.{Cursor}
@@ -58,6 +60,13 @@ module _ (text : List ℕ) where
       pub is-read : (c : Cursor) (l : Ledger) → said ≡ D.Ok c l → readingWith (summed l) s ≡ readingOf text
       unfolding ModelSays
       is-read c l e = read-model l (said-so (D.Ok c l) e)
+
+      -- The number is one of the refusals'.
+      pub small : (n i : ℕ) → said ≡ D.Refused n i → n ≤ 7
+      unfolding ModelSays
+      small n i e =
+          let q : ModelSays text zeros s (D.Refused n i) = said-so (D.Refused n i) e in
+          refusals-bounded text n i (refused-iff-answer text n i .1 (fits ∙ q .0)) .high
 
       pub is-refused : (n i : ℕ) (r : Summary) → said ≡ D.Refused n i → r ≡ refusedWith n i → readingWith r zeros ≡ readingOf text
       unfolding ModelSays readingIn

@@ -19,10 +19,10 @@ use Rattle.notation.specs.working.Machine.{Outcome, read, refused, reading}
 use Rattle.notation.specs.working.Descent.{Got, got, stop, thenReads, taken, reader, sequence}
 use Rattle.notation.proofs.Descents.{follow, atClose, descent}
 use Rattle.notation.proofs.Readers.{reader-token, reader-end, reader-byte, then-then, then-ruling}
-use Rattle.reader.specs.declared.pieces.Piece.{Piece}
+use Rattle.lexer.specs.declared.pieces.Piece.{Piece}
 use Rattle.reader.specs.declared.cursor.Cursor.{Cursor}
 use Rattle.reader.specs.declared.cursor.Ledger.{Ledger}
-use Rattle.reader.specs.working.Pieces.{nameIn, tokenOf, listed, Fresh}
+use Rattle.lexer.specs.working.Pieces.{nameIn, tokenOf, listed, Fresh}
 use Rattle.reader.specs.working.Cursors.{bookOf}
 use Rattle.reader.specs.working.Sequences.{Pair, pairing}
 use Rattle.reader.specs.working.Whole.{headReader, headsReader, headsAt, clausesAt}

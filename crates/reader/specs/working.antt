@@ -1,5 +1,4 @@
 -- Definitions that only describe how the code goes about its work.
-pub mod Pieces
 pub mod Names
 pub mod Cursors
 pub mod Expressions

@@ -1,7 +1,7 @@
 // Declarations, and the clauses `start` and `keep`.
 ghost use mathlib.Core.Path.{_≡_};
 ghost use Prim.Native.Nat.{_+_, _<_};
-ghost use Rattle.reader.specs.working.Pieces.{NAME};
+ghost use Rattle.lexer.specs.working.Pieces.{NAME};
 ghost use Rattle.reader.specs.working.Cursors.{Ready};
 ghost use Rattle.reader.specs.working.Clauses.{Listing, NameSays, NamesSay, listAt, SegmentSays, ClauseSays};
 use crate::cursor::Cursor;
@@ -12,11 +12,11 @@ use crate::cursor::expect;
 use crate::cursor::past;
 use crate::expressions::MAX_DEPTH;
 use crate::expressions::or_level;
-use crate::names::declare;
-use crate::names::find_name;
-use crate::pieces::DOT;
-use crate::pieces::EACH;
-use crate::pieces::NAME;
+use lexer::names::declare;
+use lexer::names::find_name;
+use lexer::pieces::DOT;
+use lexer::pieces::EACH;
+use lexer::pieces::NAME;
 
 const MAX_SHARED: usize = 8;
 
@@ -27,7 +27,7 @@ const MAX_NAMES: usize = 12;
 // Names were declared, or the number and place of the refusal.
 pub enum Declared {
     Ok(Cursor, Ledger),
-    Refused(u8, usize),
+    Refused(usize, usize),
 }
 
 // A name to declare, as a row name if `rows`, or else as a shared name.
@@ -112,7 +112,7 @@ pub fn segment(
     c: Cursor,
     l: Ledger,
     rows: bool,
-    kind: u8,
+    kind: usize,
     i: usize,
 ) -> Parsed
     requires { ⌜ Ready (now text) l 0 c × ((kind < NAME) × (i < 20)) ⌝ }
@@ -142,7 +142,7 @@ pub fn clause(
     ends: &mut [u16; 20],
     c: Cursor,
     l: Ledger,
-    kind: u8,
+    kind: usize,
     i: usize,
 ) -> Parsed
     requires { ⌜ Ready (now text) l 0 c × ((kind < NAME) × (i < 19)) ⌝ }

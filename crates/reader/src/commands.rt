@@ -18,14 +18,14 @@ use crate::items::OTHERWISE;
 use crate::items::WHEN;
 use crate::items::items;
 use crate::items::mark;
-use crate::names::declare;
-use crate::names::find_name;
-use crate::pieces::COMMAND;
-use crate::pieces::DO;
-use crate::pieces::DOT;
-use crate::pieces::ELSE;
-use crate::pieces::IF;
-use crate::pieces::NAME;
+use lexer::names::declare;
+use lexer::names::find_name;
+use lexer::pieces::COMMAND;
+use lexer::pieces::DO;
+use lexer::pieces::DOT;
+use lexer::pieces::ELSE;
+use lexer::pieces::IF;
+use lexer::pieces::NAME;
 
 const MAX_COMMANDS: usize = 16;
 

@@ -2,10 +2,10 @@
 ghost use mathlib.Core.Path.{_≡_};
 ghost use Prim.Native.Nat.{_<_};
 ghost use lib.ListN.{set};
-ghost use Rattle.reader.specs.working.Pieces.{pieceAt};
+ghost use Rattle.lexer.specs.working.Pieces.{pieceAt};
 ghost use Rattle.reader.specs.working.Cursors.{moved, Expected, emitted};
-use crate::pieces::Piece;
-use crate::pieces::piece_at;
+use lexer::pieces::Piece;
+use lexer::pieces::piece_at;
 
 // Whether row names and stars may stand in an expression.
 pub struct Scope {
@@ -32,7 +32,7 @@ pub struct Cursor {
 // Something was read, or the number and place of the refusal.
 pub enum Parsed {
     Ok(Cursor),
-    Refused(u8, usize),
+    Refused(usize, usize),
 }
 
 // The cursor past its piece, with these counts.
@@ -51,7 +51,7 @@ pub fn past(text: &[u8], c: Cursor, items: usize, nodes: usize, stars: usize) ->
 }
 
 // Past a sign that has to stand here.
-pub fn expect(text: &[u8], c: Cursor, kind: u8) -> Parsed
+pub fn expect(text: &[u8], c: Cursor, kind: usize) -> Parsed
     ensures { λ r. ⌜ Expected (now (text .entry)) c kind r ⌝ }
 {
     let t = c.next;

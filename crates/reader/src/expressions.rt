@@ -12,17 +12,17 @@ use crate::cursor::Scope;
 use crate::cursor::emit;
 use crate::cursor::expect;
 use crate::cursor::past;
-use crate::names::find_name;
 use crate::names::visible;
-use crate::pieces::AND;
-use crate::pieces::CLOSE;
-use crate::pieces::NAME;
-use crate::pieces::NOT;
-use crate::pieces::ONE;
-use crate::pieces::OPEN;
-use crate::pieces::OR;
-use crate::pieces::STAR;
-use crate::pieces::ZERO;
+use lexer::names::find_name;
+use lexer::pieces::AND;
+use lexer::pieces::CLOSE;
+use lexer::pieces::NAME;
+use lexer::pieces::NOT;
+use lexer::pieces::ONE;
+use lexer::pieces::OPEN;
+use lexer::pieces::OR;
+use lexer::pieces::STAR;
+use lexer::pieces::ZERO;
 
 pub const MAX_DEPTH: usize = 16;
 

@@ -3,7 +3,7 @@ ghost use mathlib.Core.Path.{_≡_};
 ghost use Prim.Native.Nat.{_<_};
 ghost use mathlib.Core.Bool.{true, false};
 ghost use Rattle.notation.specs.Tokens.{FOR};
-ghost use Rattle.reader.specs.working.Pieces.{NAME};
+ghost use Rattle.lexer.specs.working.Pieces.{NAME};
 ghost use Rattle.reader.specs.working.Cursors.{Ready};
 ghost use Rattle.reader.specs.working.Expressions.{roomed};
 ghost use Rattle.reader.specs.working.Items.{Skipped, Marked, SaysAssign, SaysRowItem, rowItemAt, SaysRowItems, rowItemsAt, SaysItem, itemAt, SaysItems, itemsAt};
@@ -17,17 +17,17 @@ use crate::cursor::past;
 use crate::expressions::MAX_DEPTH;
 use crate::expressions::close_node;
 use crate::expressions::or_level;
-use crate::names::find_name;
 use crate::names::first_target;
 use crate::names::visible;
-use crate::pieces::ASSIGN;
-use crate::pieces::DO;
-use crate::pieces::ELSE;
-use crate::pieces::END;
-use crate::pieces::FOR;
-use crate::pieces::NAME;
-use crate::pieces::SEMI;
-use crate::pieces::SKIP;
+use lexer::names::find_name;
+use lexer::pieces::ASSIGN;
+use lexer::pieces::DO;
+use lexer::pieces::ELSE;
+use lexer::pieces::END;
+use lexer::pieces::FOR;
+use lexer::pieces::NAME;
+use lexer::pieces::SEMI;
+use lexer::pieces::SKIP;
 
 const MAX_ITEMS: usize = 256;
 
@@ -43,7 +43,7 @@ pub const DONE: u16 = 288;
 pub const PASS: u16 = 320;
 
 // A sign that has to follow what was read, and then this code word.
-pub fn mark(text: &[u8], ops: &mut [u16; 2048], read: Parsed, kind: u8, code: u16) -> Parsed
+pub fn mark(text: &[u8], ops: &mut [u16; 2048], read: Parsed, kind: usize, code: u16) -> Parsed
     requires { ⌜ roomed read ⌝ }
     ensures { λ r. ⌜ Marked (now (text .entry)) kind code read (now (ops .entry)) (now (ops .exit)) r ⌝ }
 {

@@ -1,5 +1,4 @@
 // The reader of model texts: a text says a model, or has a first refusal with its place.
-mod bytes;
 mod clauses;
 mod commands;
 mod cursor;
@@ -7,8 +6,6 @@ mod expressions;
 mod items;
 mod model;
 mod names;
-mod pieces;
-mod words;
 
 ghost use mathlib.Core.Path.{_≡_};
 ghost use Rattle.reader.specs.Read.{emptyCode, readingOf};
@@ -103,7 +100,7 @@ pub fn read_into(
             *ops = [0u16; 2048];
             *ends = [0u16; 20];
             *stars = [0u16; 16];
-            refusal(n, i)
+            refusal(n as u8, i)
         }
     }
 }

@@ -4,7 +4,7 @@ ghost use mathlib.Core.Bool.{true, false};
 ghost use Prim.Native.Nat.{_<_, _≤_};
 ghost use lib.ListN.{length};
 ghost use Rattle.notation.specs.Texts.{longestText};
-ghost use Rattle.reader.specs.working.Pieces.{NAME};
+ghost use Rattle.lexer.specs.working.Pieces.{NAME};
 ghost use Rattle.reader.specs.working.Cursors.{Ready};
 ghost use Rattle.reader.specs.working.Clauses.{Listing, NamesSay};
 ghost use Rattle.reader.specs.working.Commands.{atEntry, atExit};
@@ -17,14 +17,14 @@ use crate::cursor::Cursor;
 use crate::cursor::Ledger;
 use crate::cursor::Parsed;
 use crate::cursor::expect;
-use crate::pieces::COMMAND;
-use crate::pieces::DOT;
-use crate::pieces::FINISH;
-use crate::pieces::KEEP;
-use crate::pieces::ROW;
-use crate::pieces::SHARED;
-use crate::pieces::START;
-use crate::pieces::piece_at;
+use lexer::pieces::COMMAND;
+use lexer::pieces::DOT;
+use lexer::pieces::FINISH;
+use lexer::pieces::KEEP;
+use lexer::pieces::ROW;
+use lexer::pieces::SHARED;
+use lexer::pieces::START;
+use lexer::pieces::piece_at;
 
 // A sign, names to declare, and a full stop.
 pub fn declaration(
@@ -33,7 +33,7 @@ pub fn declaration(
     c: Cursor,
     l: Ledger,
     rows: bool,
-    kind: u8,
+    kind: usize,
 ) -> Declared
     requires { ⌜ Listing (now text) (now names) l rows c × (kind < NAME) ⌝ }
     ensures { λ r. ⌜ NamesSay (now (text .entry)) (now (names .entry)) l rows c (headAt (now (text .entry)) (now (names .entry)) l rows kind c) (now (names .exit)) r ⌝ }

@@ -4,7 +4,7 @@ use mathlib.Core.Path.{ap}
 use lib.ListN.{length}
 use native.Mathlib.Omega.{arith}
 use Rattle.reader.specs.working.Commands.{Arrays}
-use Rattle.reader.proofs.TextAnswers.{too-long, is-read, is-refused}
+use Rattle.reader.proofs.TextAnswers.{too-long, is-read, small, is-refused}
 use borrow.Author.Needs.{needs}
 use Rattle.reader.proofs.read_into.Statement.{statement}
 use Rattle.reader.proofs.read_into.Tie as tie
@@ -18,6 +18,14 @@ model-requires : tie.Need-model-requires
 model-requires c κs =
     let start : tie.Start = search in
     (omega arith, ap (λ (s : Arrays). length (s .names)) (start .pre))
+
+cast-refusal : tie.Need-cast-refusal
+cast-refusal c =
+    let after-said2 : tie.After-said2 = search in
+    let after-model : tie.After-model = search in
+    let else1 : tie.Else1 = search in
+    let start : tie.Start = search in
+    omega (arith, small _ (else1 .if1 .left) _ _ (start .pre) _ (after-model .model .ensures) _ _ (after-said2 .said2 .given .1))
 
 returns-2 : tie.Need-returns-2
 returns-2 c =
@@ -44,6 +52,7 @@ read-into-spec =
     model-requires
     (λ c. search needs)
     (λ c. search needs)
+    cast-refusal
     (λ c κs. search needs)
     returns-2
     returns-3)

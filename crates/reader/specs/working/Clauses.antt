@@ -21,7 +21,7 @@ use Rattle.reader.specs.declared.cursor.Parsed.the-variants.{Ok, Refused
 use Rattle.reader.specs.declared.clauses.Declared.{Declared}
 use Rattle.reader.specs.declared.clauses.Declared.the-variants as D
 use Rattle.reader.specs.Read.{placed}
-use Rattle.reader.specs.working.Pieces.{nameIn, listed, Fresh, pieceAt}
+use Rattle.lexer.specs.working.Pieces.{nameIn, listed, Fresh, pieceAt}
 use Rattle.reader.specs.working.Names.{sharedWords, rowWords}
 use Rattle.reader.specs.working.Cursors.{bookOf, moved, Done, Wrote}
 use Rattle.reader.specs.working.Expressions.{exprWords}

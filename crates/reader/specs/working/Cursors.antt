@@ -10,13 +10,13 @@ use Rattle.notation.specs.Rules.{NAMES, COMMANDS, ITEMS, NODES, STARS, limitOf}
 use Rattle.notation.specs.Texts.{Numbered, longestText}
 use Rattle.notation.specs.working.Ledger.{Book}
 use Rattle.notation.specs.working.Descent.{Got, got, stop}
-use Rattle.reader.specs.declared.pieces.Piece.{Piece}
+use Rattle.lexer.specs.declared.pieces.Piece.{Piece}
 use Rattle.reader.specs.declared.cursor.Cursor.{Cursor}
 use Rattle.reader.specs.declared.cursor.Ledger.{Ledger}
 use Rattle.reader.specs.declared.cursor.Scope.{Scope}
 use Rattle.reader.specs.declared.cursor.Parsed.{Parsed}
 use Rattle.reader.specs.declared.cursor.Parsed.the-variants.{Ok, Refused}
-use Rattle.reader.specs.working.Pieces.{listed, Fresh, pieceAt}
+use Rattle.lexer.specs.working.Pieces.{listed, Fresh, pieceAt}
 use Rattle.reader.specs.working.Names.{namesKept}
 
 abbrev pub modeOf : Scope → Mode

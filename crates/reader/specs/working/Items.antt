@@ -18,7 +18,7 @@ use Rattle.reader.specs.declared.cursor.Cursor.{Cursor}
 use Rattle.reader.specs.declared.cursor.Ledger.{Ledger}
 use Rattle.reader.specs.declared.cursor.Parsed.{Parsed}
 use Rattle.reader.specs.declared.cursor.Parsed.the-variants.{Ok, Refused}
-use Rattle.reader.specs.working.Pieces.{nameIn, listed, pieceAt}
+use Rattle.lexer.specs.working.Pieces.{nameIn, listed, pieceAt}
 use Rattle.reader.specs.working.Names.{sharedWords, rowWords}
 use Rattle.reader.specs.working.Cursors.{bookOf, moved, emitted, Expected, Says}
 use Rattle.reader.specs.working.Expressions.{exprWords}

@@ -24,7 +24,7 @@ use Rattle.reader.specs.declared.cursor.Parsed.{Parsed}
 use Rattle.reader.specs.declared.cursor.Parsed.the-variants.{Ok, Refused}
 use Rattle.reader.specs.declared.clauses.Declared.{Declared}
 use Rattle.reader.specs.declared.clauses.Declared.the-variants as D
-use Rattle.reader.specs.working.Pieces.{listed}
+use Rattle.lexer.specs.working.Pieces.{listed}
 use Rattle.reader.specs.working.Names.{sharedWords, rowWords}
 use Rattle.reader.specs.working.Cursors.{bookOf, Done, Wrote}
 use Rattle.reader.specs.working.Items.{kindOf}

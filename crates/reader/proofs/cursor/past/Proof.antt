@@ -2,7 +2,7 @@
 -- Assumes nothing.
 use mathlib.Core.Path.{ap}
 use borrow.Author.Needs.{needs}
-use Rattle.reader.specs.declared.pieces.Piece.{Piece}
+use Rattle.lexer.specs.declared.pieces.Piece.{Piece}
 use Rattle.reader.specs.working.Cursors.{moved}
 use Rattle.reader.proofs.cursor.past.Statement.{statement}
 use Rattle.reader.proofs.cursor.past.Tie as tie

@@ -2,7 +2,7 @@
 -- Assumes nothing.
 use native.Mathlib.Omega.{arith}
 use Rattle.reader.proofs.Declarations.{shared-bad, row-listing, heads-say}
-use Rattle.reader.proofs.Lexing.{is-tokened}
+use Rattle.lexer.proofs.Lexing.{is-tokened}
 use borrow.Author.Needs.{needs}
 use Rattle.reader.proofs.model.declarations.Statement.{statement}
 use Rattle.reader.proofs.model.declarations.Tie as tie

@@ -1,0 +1,3 @@
+-- Definitions that only describe how the code goes about its work.
+pub mod Pieces
+pub mod Names

@@ -1,0 +1,104 @@
+-- Pieces of a text, as the code keeps them, and what they stand for among the text's lexemes.
+-- Assumes nothing.
+use mathlib.Core.Path.{_≡_}
+use mathlib.Core.Bool.{cond}
+use mathlib.Core.List.{List, [], _∷_}
+use mathlib.Core.Option.{Option, none, some}
+use Prim.Native.Nat.{ℕ, suc, _+_, _*_, _-_, _≤_, _<_}
+use lib.Dec.{eqb, ltb, leb}
+use lib.ListN.{length, getD, drop}
+use lib.Seq.{slice}
+use Rattle.notation.specs.Bytes.{letter, wordByte, blankByte}
+use Rattle.notation.specs.Tokens.{Token, sign, name, Name, Lexeme, at, reserved, wordIn, longestWord, markOf, ZERO, ONE, ASSIGN, OTHER}
+use Rattle.notation.specs.working.Lexing.{span, tokensFrom}
+use Rattle.lexer.specs.declared.pieces.Piece.{Piece}
+
+-- How many words are reserved; as a number, that of none.
+abbrev pub WORDS : ℕ
+WORDS = 15
+
+-- The letters of the longest.
+abbrev pub LONGEST : ℕ
+LONGEST = 7
+
+-- The kinds of pieces that are no signs: a name, what is no token, and the end of the text.
+abbrev pub NAME : ℕ
+NAME = 24
+
+abbrev pub BAD : ℕ
+BAD = 25
+
+abbrev pub FINISH : ℕ
+FINISH = 26
+
+-- A number that was found, or that of none.
+abbrev pub numberOr : Option ℕ → ℕ
+numberOr none = WORDS
+numberOr (some k) = k
+
+-- The tables of the reserved words' letters, as many to each as the longest has, and of their lengths.
+pub record Tabled (letters lengths : List ℕ) : Type 0 where
+  pub letter : (k j : ℕ) → j < LONGEST → getD letters (LONGEST * k + j) 0 ≡ getD (getD reserved k []) j 0
+  pub size : (k : ℕ) → getD lengths k 0 ≡ length (getD reserved k [])
+
+abbrev pub pieceOf : ℕ → ℕ → ℕ → ℕ → Piece
+pieceOf k s e f = record { kind = k; start = s; end = e; fault = f }
+
+-- The name that a piece is.
+abbrev pub nameIn : List ℕ → Piece → Name
+nameIn text t = record { place = t .start; word = slice (t .start) (t .end) text }
+
+-- The token that a piece is.
+unfoldable pub tokenOf : List ℕ → Piece → Option Token
+tokenOf text t = cond (eqb (t .kind) BAD) none (some (cond (eqb (t .kind) NAME) (name (nameIn text t)) (sign (t .kind))))
+
+-- The lexemes that begin with the piece: none if it is the end of the text.
+unfoldable pub listed : List ℕ → Piece → List Lexeme
+listed text t = cond (eqb (t .kind) FINISH) [] (at (t .start) (tokenOf text t) ∷ tokensFrom text (t .end))
+
+-- What holds of every piece of a text.
+pub record Fresh (text : List ℕ) (t : Piece) : Type 0 where
+  pub fault : t .fault ≡ cond (eqb (t .kind) BAD) 2 3
+  pub last : t .kind ≡ FINISH → t .start ≡ length text
+  pub ordered : t .start ≤ t .end
+  pub inside : t .end ≤ length text
+  pub short : t .kind ≡ NAME → t .end ≤ t .start + longestWord
+
+-- ---- the next piece, as a computation
+
+-- How many blanks stand at the front.
+unfoldable pub blanks : List ℕ → ℕ
+blanks [] = 0
+blanks (b ∷ bs) = cond (blankByte b) (suc (blanks bs)) 0
+
+-- The piece from s to e that a word is which is not reserved: it has n bytes, and b is the first.
+unfoldable pub plainPiece : ℕ → ℕ → ℕ → ℕ → Piece
+plainPiece n b s e =
+    cond (letter b) (pieceOf NAME s e 3)
+    (cond (eqb n 1) (cond (eqb b 48) (pieceOf ZERO s e 3) (cond (eqb b 49) (pieceOf ONE s e 3) (pieceOf OTHER s e 3))) (pieceOf OTHER s e 3))
+
+-- The piece that the word from s to e is, whose number among the reserved words is k, or that of none.
+unfoldable pub numberedPiece : ℕ → ℕ → ℕ → ℕ → Piece
+numberedPiece k b s e = cond (ltb longestWord (e - s)) (pieceOf BAD s e 2) (cond (ltb k WORDS) (pieceOf k s e 3) (plainPiece (e - s) b s e))
+
+unfoldable pub wordPiece : List ℕ → ℕ → ℕ → Piece
+wordPiece text s e = numberedPiece (numberOr (wordIn (slice s e text) reserved 0)) (getD text s 0) s e
+
+-- The piece of one byte at s that a sign is, or what is no token.
+abbrev pub signPiece : ℕ → Option ℕ → Piece
+signPiece s none = pieceOf BAD s (s + 1) 2
+signPiece s (some k) = pieceOf k s (s + 1) 3
+
+-- The piece that the mark b is at s, with the byte after it, or 0.
+unfoldable pub markPiece : ℕ → ℕ → ℕ → Piece
+markPiece b next s = cond (eqb b 58) (cond (eqb next 61) (pieceOf ASSIGN s (s + 2) 3) (pieceOf OTHER s (s + 1) 3)) (signPiece s (markOf b))
+
+-- The piece that begins at s, where no blank stands.
+unfoldable pub pieceFrom : List ℕ → ℕ → Piece
+pieceFrom text s =
+    cond (leb (length text) s) (pieceOf FINISH (length text) (length text) 3)
+    (cond (wordByte (getD text s 0)) (wordPiece text s (s + span (drop s text))) (markPiece (getD text s 0) (getD text (s + 1) 0) s))
+
+-- The next piece from place i on.
+unfoldable pub pieceAt : List ℕ → ℕ → Piece
+pieceAt text i = pieceFrom text (i + blanks (drop i text))
