@@ -12,6 +12,9 @@ use acceptance::fields::wide;
 use lines::put;
 use lines::put_number;
 
+// How many bytes the header of a sheet has.
+const HEADER: usize = 9;
+
 // `unsafe` and the number of steps.
 fn put_verdict(out: &mut [u8], at: usize, steps: usize) -> usize
     requires { ⌜ Fits (now out) at (unsafeLine steps) ⌝ }
@@ -86,12 +89,13 @@ pub fn put_run(
     requires { ⌜ Shown (now text) (now names) base (now sheet) × Fits (now out) at (runLines (now text) (now names) base (now sheet)) ⌝ }
     ensures { λ r. ⌜ Puts (now (out .entry)) at (runLines (now (text .entry)) (now (names .entry)) base (now (sheet .entry))) (now (out .exit)) r ⌝ }
 {
-    let steps = (sheet.len() - 17) / 10;
+    let from = HEADER + 8;
+    let steps = (sheet.len() - from) / 10;
     let judged = put_verdict(out, at, steps);
-    let mut end = put_start(out, judged, two_at(sheet, 15));
+    let mut end = put_start(out, judged, two_at(sheet, HEADER + 6));
     let mut i: usize = 0;
     'steps: while i < steps {
-        end = put_record(out, end, text, names, base, sheet, 23 + 10 * i, i + 1);
+        end = put_record(out, end, text, names, base, sheet, from + 10 * i + 6, i + 1);
         i += 1;
     }
     end
