@@ -26,8 +26,8 @@ use Rattle.acceptance.specs.working.SheetReading.{demand, either, mapIn,
 use Rattle.acceptance.specs.working.Test.{mapAnswer, walk, traceAnswer, answerIn, judge, outcomeOf, testIn, testOf}
 use Rattle.acceptance.specs.Cases.{Case, cases, AllCases}
 
--- The answers to all rows, and what is expected in all rows.
-computed : map (λ (c : Case). wordingOf (testOf (c .text) (c .sheet))) cases ≡ map (λ (c : Case). c .expected) cases
+-- To unfold this is to unfold all that computes the answer to a text and a sheet.
+unfoldable pub answering : Unit {0}
 unfolding bytes sameWord reserved wordIn wordToken sameKind allowed nameCounts view has elem starsExpr starsRow starsItems stars
     placeOf among nameOf exprOf rowItemOf rowItemsOf itemOf itemsOf commandOf clauseOf modelOf
     span mark front lexemes tokensFrom tally note exceeds fault lines skips find T.step ending reads answer
@@ -35,7 +35,12 @@ unfolding bytes sameWord reserved wordIn wordToken sameKind allowed nameCounts v
     inMap every implies testA testB wordsStay closedAt testC testE
     mapLength twoAt fourAt isRecord sameCounts unusedClear stepIn stepFits
     demand either mapIn mapAt stepsIn stepsAt stepCount traceAt bodyAt sheetIn
-    mapAnswer walk traceAnswer answerIn judge outcomeOf testIn testOf wordingOf cases
+    mapAnswer walk traceAnswer answerIn judge outcomeOf testIn testOf wordingOf
+answering = tt
+
+-- The answers to all rows, and what is expected in all rows.
+computed : map (λ (c : Case). wordingOf (testOf (c .text) (c .sheet))) cases ≡ map (λ (c : Case). c .expected) cases
+unfolding answering cases
 computed = refl
 
 -- What is computed of a whole table holds of each of its rows.

@@ -10,7 +10,7 @@ use Rattle.acceptance.specs.SheetTexts.{twoAt, stepIn}
 use Rattle.lines.specs.Puts.{Fits, Puts}
 use Rattle.lines.proofs.Stores.{behind, first-fits, rest-fits}
 use Rattle.reporting.specs.Reports.{unsafeLine, startLine, stepLine}
-use Rattle.reporting.specs.working.Writing.{nameIn, Named, recordLine, stepsOf, stepsShown, runLines, counts}
+use Rattle.reporting.specs.working.Writing.{nameIn, Named, recordLine, startIn, stepsOf, stepsShown, runLines, counts}
 
 -- The bytes of a name, from its place and its length.
 pub name-part : (text names : List ℕ) (i from long : ℕ) → from ≡ getD names i 0 → long ≡ getD names (28 + i) 0
@@ -36,11 +36,11 @@ module _ (text names : List ℕ) (base : ℕ) (sheet : List ℕ) (p : ℕ) where
 -- The verdict, the start state and the steps.
 module _ (text names : List ℕ) (base : ℕ) (sheet : List ℕ) {out : List ℕ} {at : ℕ} where
   pub verdict-room : Fits out at (runLines text names base sheet) → Fits out at (unsafeLine (stepsOf sheet))
-  verdict-room f = first-fits (unsafeLine (stepsOf sheet)) (startLine (twoAt sheet 15) ++ stepsShown text names base sheet) f
+  verdict-room f = first-fits (unsafeLine (stepsOf sheet)) (startLine (startIn sheet) ++ stepsShown text names base sheet) f
 
-  module _ {x : List ℕ} {r s : ℕ} (verdict : Puts out at (unsafeLine (stepsOf sheet)) x r) (e : s ≡ twoAt sheet 15) where
+  module _ {x : List ℕ} {r s : ℕ} (verdict : Puts out at (unsafeLine (stepsOf sheet)) x r) (e : s ≡ startIn sheet) where
     after-verdict : Fits out at (runLines text names base sheet) → Fits x r (startLine s ++ stepsShown text names base sheet)
-    after-verdict f = subst (λ t. Fits x r (startLine t ++ stepsShown text names base sheet)) (sym e) (rest-fits (startLine (twoAt sheet 15) ++ stepsShown text names base sheet) verdict f)
+    after-verdict f = subst (λ t. Fits x r (startLine t ++ stepsShown text names base sheet)) (sym e) (rest-fits (startLine (startIn sheet) ++ stepsShown text names base sheet) verdict f)
 
     pub start-room : Fits out at (runLines text names base sheet) → Fits x r (startLine s)
     start-room f = first-fits (startLine s) (stepsShown text names base sheet) (after-verdict f)

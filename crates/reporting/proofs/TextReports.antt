@@ -31,7 +31,7 @@ use Rattle.exploration.proofs.FoundShort.{trace-sheet-length}
 use Rattle.search.proofs.SearchTells as Left
 use Rattle.reporting.specs.Reports.{countsLine, unsafeLine, startLine, stepLine, stepLines, commandName, verdictLines, reportLines}
 use Rattle.reporting.specs.working.Reporting.{foundFor, reportOf}
-use Rattle.reporting.specs.working.Writing.{nameIn, Named, stepsOf, traceSteps, safeReport, traceReport, Printable}
+use Rattle.reporting.specs.working.Writing.{nameIn, Named, headerEnd, startIn, stepsOf, traceSteps, safeReport, traceReport, Printable}
 use Rattle.reporting.proofs.NameArrays.{told}
 use Rattle.reporting.proofs.ReportTells.{found-lines}
 
@@ -40,27 +40,27 @@ module _ (m : Model) (s : ℕ) (xs : List TraceStep) where
   abbrev M : System
   M = systemOf m
 
-  start-read : s < 65536 → twoAt (sheetBytes M (trace s xs)) 15 ≡ s
+  start-read : s < 65536 → startIn (sheetBytes M (trace s xs)) ≡ s
   unfolding sheetBytes headerBytes startBytes recordBytes little twoAt
   start-read h = two-little s h
 
-  pub sheet-length : length (sheetBytes M (trace s xs)) ≡ 17 + 10 * length xs
+  pub sheet-length : length (sheetBytes M (trace s xs)) ≡ headerEnd + 8 + 10 * length xs
   unfolding headerBytes recordBytes little
   sheet-length = trace-sheet-length M s xs
 
   count-read : stepsOf (sheetBytes M (trace s xs)) ≡ length xs
   count-read = omega (arith, sheet-length)
 
-  head-long : length (headerBytes M ++ startBytes s) ≡ 17
+  head-long : length (headerBytes M ++ startBytes s) ≡ headerEnd + 8
   unfolding headerBytes startBytes recordBytes little
   head-long = refl
 
   steps-read : Regular m → Every (StepFits m) xs → traceSteps (sheetBytes M (trace s xs)) ≡ xs
   unfolding sheetBytes
   steps-read g f =
-      ap (stepsIn (sheetBytes M (trace s xs)) 17) count-read
-      ∙ ap (λ l. stepsIn l 17 (length xs)) (sym (append-assoc (headerBytes M) (startBytes s) (stepsBytes xs)))
-      ∙ steps-there M (numbers-fit m g) xs (headerBytes M ++ startBytes s) 17 head-long f .1
+      ap (stepsIn (sheetBytes M (trace s xs)) (headerEnd + 8)) count-read
+      ∙ ap (λ l. stepsIn l (headerEnd + 8) (length xs)) (sym (append-assoc (headerBytes M) (startBytes s) (stepsBytes xs)))
+      ∙ steps-there M (numbers-fit m g) xs (headerBytes M ++ startBytes s) (headerEnd + 8) head-long f .1
 
 -- Steps whose commands have the same names have the same lines.
 lines-same : (f g : ℕ → Word) (i : ℕ) (xs : List TraceStep) → Every (λ (x : TraceStep). f (x .command) ≡ g (x .command)) xs → stepLines f i xs ≡ stepLines g i xs
@@ -136,7 +136,7 @@ module _ (text : List ℕ) (x : Tree) (says : TextSaysTree text x) where
     trace-lines : traceReport text code sheet ≡ reportLines x (unsafeBy s xs)
     unfolding reportLines verdictLines codeOf layoutOf
     trace-lines =
-        ap (λ n. counted ++ (unsafeLine n ++ (startLine (twoAt sheet 15) ++ stepLines called 1 (traceSteps sheet)))) (count-read m s xs)
+        ap (λ n. counted ++ (unsafeLine n ++ (startLine (startIn sheet) ++ stepLines called 1 (traceSteps sheet)))) (count-read m s xs)
         ∙ ap (λ t. counted ++ (unsafeLine (length xs) ++ (startLine t ++ stepLines called 1 (traceSteps sheet)))) (start-read m s xs (omega (arith, few, passes .startFits)))
         ∙ ap (λ ys. counted ++ (unsafeLine (length xs) ++ (startLine s ++ stepLines called 1 ys))) (steps-read m s xs regular (passes .stepsFit))
         ∙ ap (λ l. counted ++ (unsafeLine (length xs) ++ (startLine s ++ l)))

@@ -7,6 +7,7 @@ ghost use Rattle.reporting.specs.Reports.{unsafeLine, startLine, stepLin
 ghost use Rattle.reporting.specs.working.Writing.{nameIn, Named, recordLine, runLines, Shown};
 use crate::names::Names;
 use crate::names::put_name;
+use acceptance::fields::HEADER;
 use acceptance::fields::two_at;
 use acceptance::fields::wide;
 use lines::put;
@@ -86,12 +87,13 @@ pub fn put_run(
     requires { ⌜ Shown (now text) (now names) base (now sheet) × Fits (now out) at (runLines (now text) (now names) base (now sheet)) ⌝ }
     ensures { λ r. ⌜ Puts (now (out .entry)) at (runLines (now (text .entry)) (now (names .entry)) base (now (sheet .entry))) (now (out .exit)) r ⌝ }
 {
-    let steps = (sheet.len() - 17) / 10;
+    let from = HEADER + 8;
+    let steps = (sheet.len() - from) / 10;
     let judged = put_verdict(out, at, steps);
-    let mut end = put_start(out, judged, two_at(sheet, 15));
+    let mut end = put_start(out, judged, two_at(sheet, HEADER + 6));
     let mut i: usize = 0;
     'steps: while i < steps {
-        end = put_record(out, end, text, names, base, sheet, 23 + 10 * i, i + 1);
+        end = put_record(out, end, text, names, base, sheet, from + 10 * i + 6, i + 1);
         i += 1;
     }
     end

@@ -1,6 +1,5 @@
 -- The report over the flat form of a model and the bytes of a sheet, as the code writes it.
 -- Assumes nothing.
-use mathlib.Core.Path.{_≡_}
 use mathlib.Core.List.{List, _++_}
 use Prim.Native.Nat.{ℕ, _+_, _-_, _/_, _<_, _≤_}
 use lib.ListN.{length, getD, take, drop}
@@ -25,13 +24,19 @@ pub record Named (text names : List ℕ) (i : ℕ) : Type 0 where
 abbrev pub recordLine : List ℕ → List ℕ → ℕ → ℕ → TraceStep → List ℕ
 recordLine text names base number x = stepLine number (nameIn text names (base + x .command)) (x .word) (x .after)
 
--- How many steps the bytes of a trace have.
-abbrev pub stepsOf : List ℕ → ℕ
-stepsOf sheet = (length sheet - 17) / 10
+-- Where the records behind a sheet's header begin.
+abbrev pub headerEnd : ℕ
+headerEnd = 9
 
--- The steps that the bytes of a trace say.
+-- The start state, how many steps there are, and the steps that the bytes of a trace say.
+abbrev pub startIn : List ℕ → ℕ
+startIn sheet = twoAt sheet (headerEnd + 6)
+
+abbrev pub stepsOf : List ℕ → ℕ
+stepsOf sheet = (length sheet - (headerEnd + 8)) / 10
+
 abbrev pub traceSteps : List ℕ → List TraceStep
-traceSteps sheet = stepsIn sheet 17 (stepsOf sheet)
+traceSteps sheet = stepsIn sheet (headerEnd + 8) (stepsOf sheet)
 
 -- Their lines, where the commands' names begin with name `base`.
 abbrev pub stepsShown : List ℕ → List ℕ → ℕ → List ℕ → List ℕ
@@ -39,11 +44,11 @@ stepsShown text names base sheet = stepLines (λ k. nameIn text names (base + k)
 
 -- The run that the bytes of a trace say.
 abbrev pub runLines : List ℕ → List ℕ → ℕ → List ℕ → List ℕ
-runLines text names base sheet = unsafeLine (stepsOf sheet) ++ (startLine (twoAt sheet 15) ++ stepsShown text names base sheet)
+runLines text names base sheet = unsafeLine (stepsOf sheet) ++ (startLine (startIn sheet) ++ stepsShown text names base sheet)
 
 -- A start state stands there, and the command of each step has a name.
 pub record Shown (text names : List ℕ) (base : ℕ) (sheet : List ℕ) : Type 0 where
-  pub long : 17 ≤ length sheet
+  pub long : headerEnd + 8 ≤ length sheet
   pub few : base ≤ 28
   pub named : Every (λ (x : TraceStep). Named text names (base + x .command)) (traceSteps sheet)
 

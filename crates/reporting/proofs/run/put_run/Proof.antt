@@ -5,18 +5,18 @@ use mathlib.Core.Path.{_∙_}
 use native.Mathlib.Omega.{arith}
 use lib.ListN.{length}
 use Rattle.lines.proofs.Stores.{keeps}
-use Rattle.reporting.specs.working.Writing.{stepsOf}
+use Rattle.reporting.specs.working.Writing.{headerEnd, stepsOf}
 use Rattle.reporting.proofs.Parts.{verdict-room, start-room, steps-room, run-written}
 use Rattle.reporting.proofs.StepsLeft.{Going, begun, next-named, next-fits, went, done}
 use Rattle.reporting.proofs.run.put_run.Statement.{statement}
 use Rattle.reporting.proofs.run.put_run.Tie as tie
 
 abbrev Inv-steps : tie.InvT-steps
-Inv-steps out₀ at text names base sheet steps judged end₀ i₀ out end i =
-    Going text names base sheet steps out₀ end₀ out end i
+Inv-steps out₀ at text names base sheet from steps judged end₀ i₀ out end i =
+    Going text names base sheet from steps out₀ end₀ out end i
 
 abbrev μ-steps : tie.MeasureT-steps
-μ-steps out₀ at text names base sheet steps judged end₀ i₀ out end i = steps - i
+μ-steps out₀ at text names base sheet from steps judged end₀ i₀ out end i = steps - i
 
 -- The places that the answers name.
 abbrev Start : Type 0
@@ -41,6 +41,9 @@ After-put-record = tie.After-put-record Inv-steps μ-steps
 short : (c : Start) → length (c .args .sheet .now) < 2 ^ 64
 short c = omega arith
 
+add-from : tie.Need-add-from Inv-steps μ-steps
+add-from c = omega arith
+
 sub-steps : tie.Need-sub-steps Inv-steps μ-steps
 sub-steps c = omega arith
 
@@ -49,6 +52,9 @@ put-verdict-requires c κs =
     let start : Start = search in
     let a = start .args in
     verdict-room (a .text .now) (a .names .now) (a .base) (a .sheet .now) (start .pre .1)
+
+add-two-at : tie.Need-add-two-at Inv-steps μ-steps
+add-two-at c = omega arith
 
 two-at-requires : tie.Need-two-at-requires Inv-steps μ-steps
 two-at-requires c κs =
@@ -70,8 +76,8 @@ steps-holds c =
     let after-put-verdict : After-put-verdict = search in
     let at-start : Start = search in
     let a = at-start .args in
-    let h : 17 + 10 * stepsOf (a .sheet .now) ≤ length (a .sheet .now) = omega (arith, at-start .pre .0 .long) in
-    begun (a .text .now) (a .names .now) (a .base) (a .sheet .now) (stepsOf (a .sheet .now)) (at-start .pre .0 .few) h
+    let h : headerEnd + 8 + 10 * stepsOf (a .sheet .now) ≤ length (a .sheet .now) = omega (arith, at-start .pre .0 .long) in
+    begun (a .text .now) (a .names .now) (a .base) (a .sheet .now) (headerEnd + 8) (stepsOf (a .sheet .now)) (at-start .pre .0 .few) h
     (at-start .pre .0 .named)
     (steps-room (a .text .now) (a .names .now) (a .base) (a .sheet .now) (after-put-verdict .put-verdict .ensures)
     (after-two-at .two-at .ensures .0) (after-put-start .put-start .ensures) (at-start .pre .1))
@@ -88,6 +94,12 @@ add-put-record c =
     let start : Start = search in
     omega (arith, at-steps .steps .inv .inside, short start)
 
+add-put-record-3 : tie.Need-add-put-record-3 Inv-steps μ-steps
+add-put-record-3 c =
+    let at-steps : At-steps = search in
+    let start : Start = search in
+    omega (arith, at-steps .steps .inv .inside, short start)
+
 add-put-record-2 : tie.Need-add-put-record-2 Inv-steps μ-steps
 add-put-record-2 c =
     let at-steps : At-steps = search in
@@ -98,7 +110,7 @@ put-record-requires : tie.Need-put-record-requires Inv-steps μ-steps
 put-record-requires c κs =
     let at-steps : At-steps = search in
     let G = at-steps .steps .inv in
-    (G .few, omega (arith, G .inside), next-named _ _ _ _ _ G (omega arith), next-fits _ _ _ _ _ G (omega arith))
+    (G .few, omega (arith, G .inside), next-named _ _ _ _ _ _ G (omega arith), next-fits _ _ _ _ _ _ G (omega arith))
 
 add-i : tie.Need-add-i Inv-steps μ-steps
 add-i c = omega arith
@@ -110,7 +122,7 @@ steps-again : tie.Need-steps-again Inv-steps μ-steps
 steps-again c =
     let after-put-record : After-put-record = search in
     let at-steps : At-steps = search in
-    went _ _ _ _ _ (at-steps .steps .inv) (omega arith) (after-put-record .put-record .ensures)
+    went _ _ _ _ _ _ (at-steps .steps .inv) (omega arith) (after-put-record .put-record .ensures)
 
 same-length : tie.Need-same-length Inv-steps μ-steps
 same-length c =
@@ -127,7 +139,7 @@ returns c =
     let at-start : Start = search in
     let a = at-start .args in
     let n = stepsOf (a .sheet .now) in
-    let d = done (a .text .now) (a .names .now) (a .base) (a .sheet .now) n (c .before .steps .inv) (omega arith) in
+    let d = done (a .text .now) (a .names .now) (a .base) (a .sheet .now) (headerEnd + 8) n (c .before .steps .inv) (omega arith) in
     run-written (a .text .now) (a .names .now) (a .base) (a .sheet .now) (after-put-verdict .put-verdict .ensures)
     (after-two-at .two-at .ensures .0) (after-put-start .put-start .ensures) d
 
@@ -137,14 +149,17 @@ put-run-spec =
     (tie.spec
     Inv-steps
     μ-steps
+    add-from
     sub-steps
     put-verdict-requires
+    add-two-at
     two-at-requires
     put-start-requires
     steps-holds
     mul-put-record
     add-put-record
     add-put-record-2
+    add-put-record-3
     put-record-requires
     add-i
     steps-less
