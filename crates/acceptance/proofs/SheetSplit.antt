@@ -154,7 +154,9 @@ module _ (M : System) (b : List ℕ) where
         let n = mapLength (size M) in
         let s : length (drop (at + 6) b) ≡ length b - (at + 6) = length-drop (at + 6) b in
         let first : getD (take (mapLength (size M)) (drop (at + 6) b)) 0 0 ≡ getD b (at + 6) 0 =
-        getD-take (mapLength (size M)) (drop (at + 6) b) 0 0 (map-length-pos (size M) _ refl) ∙ getD-drop (at + 6) b 0 0 ∙ (let z : at + 6 + 0 ≡ at + 6 = omega arith in ap (λ (x : ℕ). getD b x 0) z) in
+        getD-take (mapLength (size M)) (drop (at + 6) b) 0 0 (map-length-pos (size M) _ refl)
+        ∙ getD-drop (at + 6) b 0 0
+        ∙ (let z : at + 6 + 0 ≡ at + 6 = omega arith in ap (λ (x : ℕ). getD b x 0) z) in
         let end : drop (at + 6 + mapLength (size M)) b ≡ [] = drop-of-length-le b {i = at + 6 + mapLength (size M)} (omega (arith, S .end)) in
         record {
           bytes =

@@ -253,7 +253,9 @@ module _ (m : Model) (s : ℕ) (xs : List TraceStep) where
     fails-f-iff : (answerIn (systemOf m) (trace s xs) ≡ FailsF) ↔ (ConditionD m s × ConditionE m s xs × ¬ (ConditionF m s xs))
     unfolding answerIn traceAnswer walk failed
     fails-f-iff = (
-      λ e. let q = third-failed _ _ _ (trace-failed FailsF e) in (all-tests-tell m .tellsD s .0 (q .0), all-tests-tell m .tellsE s xs f .0 (q .1), no-iff _ _ (all-tests-tell m .tellsF s xs) .0 (q .2)),
+      λ e.
+          let q = third-failed _ _ _ (trace-failed FailsF e) in
+          (all-tests-tell m .tellsD s .0 (q .0), all-tests-tell m .tellsE s xs f .0 (q .1), no-iff _ _ (all-tests-tell m .tellsF s xs) .0 (q .2)),
       λ t. rw (all-tests-tell m .tellsD s .1 (t .0), all-tests-tell m .tellsE s xs f .1 (t .1), no-iff _ _ (all-tests-tell m .tellsF s xs) .1 (t .2)),
     )
 

@@ -1,10 +1,8 @@
 // The run that a trace says: the verdict, the start state, and a line for each step.
-ghost use Prim.Native.Nat.{_+_, _<_, _≤_};
-ghost use lib.ListN.{length};
 ghost use Rattle.acceptance.specs.SheetTexts.{stepIn};
 ghost use Rattle.lines.specs.Puts.{Fits, Puts};
 ghost use Rattle.reporting.specs.Reports.{unsafeLine, startLine, stepLine};
-ghost use Rattle.reporting.specs.working.Writing.{nameIn, Named, recordLine, runLines, Shown};
+ghost use Rattle.reporting.specs.working.Writing.{nameIn, Named, recordLine, runLines, StepShown, Shown};
 use crate::names::Names;
 use crate::names::put_name;
 use acceptance::fields::HEADER;
@@ -66,7 +64,7 @@ fn put_record(
     p: usize,
     number: usize,
 ) -> usize
-    requires { ⌜ (base ≤ 28) × (p + 4 ≤ length (now sheet)) × Named (now text) (now names) (base + stepIn (now sheet) p .command) × Fits (now out) at (recordLine (now text) (now names) base number (stepIn (now sheet) p)) ⌝ }
+    requires { ⌜ StepShown (now text) (now names) base (now sheet) p × Fits (now out) at (recordLine (now text) (now names) base number (stepIn (now sheet) p)) ⌝ }
     ensures { λ r. ⌜ Puts (now (out .entry)) at (recordLine (now (text .entry)) (now (names .entry)) base number (stepIn (now (sheet .entry)) p)) (now (out .exit)) r ⌝ }
 {
     let command = wide(sheet[p]);

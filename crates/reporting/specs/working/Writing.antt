@@ -7,7 +7,7 @@ use Rattle.notation.specs.Tokens.{Word}
 use Rattle.notation.specs.Regular.{Every}
 use Rattle.meaning.specs.OneRow.{TraceStep}
 use Rattle.reader.specs.declared.Code.{Code}
-use Rattle.acceptance.specs.SheetTexts.{twoAt}
+use Rattle.acceptance.specs.SheetTexts.{twoAt, stepIn}
 use Rattle.acceptance.specs.working.SheetReading.{stepsIn}
 use Rattle.reporting.specs.Reports.{countsLine, safeLine, unsafeLine, startLine, stepLine, stepLines}
 
@@ -45,6 +45,12 @@ stepsShown text names base sheet = stepLines (λ k. nameIn text names (base + k)
 -- The run that the bytes of a trace say.
 abbrev pub runLines : List ℕ → List ℕ → ℕ → List ℕ → List ℕ
 runLines text names base sheet = unsafeLine (stepsOf sheet) ++ (startLine (startIn sheet) ++ stepsShown text names base sheet)
+
+-- The payload of a step stands at p, and the step's command has a name.
+pub record StepShown (text names : List ℕ) (base : ℕ) (sheet : List ℕ) (p : ℕ) : Type 0 where
+  pub few : base ≤ 28
+  pub inside : p + 4 ≤ length sheet
+  pub named : Named text names (base + stepIn sheet p .command)
 
 -- A start state stands there, and the command of each step has a name.
 pub record Shown (text names : List ℕ) (base : ℕ) (sheet : List ℕ) : Type 0 where

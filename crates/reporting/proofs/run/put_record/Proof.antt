@@ -39,13 +39,13 @@ put-step-requires c κs =
     let a = start .args in
     let h = start .pre in (
       named-told (a .text .now) (a .names .now) (a .base) (a .sheet .now) (a .p) (after-wide .wide .result)
-          (after-wide .wide .ensures .0) (h .2),
+          (after-wide .wide .ensures .0) (h .0 .named),
       subst (Fits (a .out .now) (a .at))
           (sym
           (record-told (a .text .now) (a .names .now) (a .base) (a .sheet .now) (a .p) (a .number)
           (after-wide .wide .result) (after-wide2 .wide2 .result) (c .before .two-at .result)
           (after-wide .wide .ensures .0) (after-wide2 .wide2 .ensures .0) (c .before .two-at .ensures .0)))
-          (h .3),
+          (h .1),
     )
 
 same-length : tie.Need-same-length

@@ -110,7 +110,7 @@ put-record-requires : tie.Need-put-record-requires Inv-steps μ-steps
 put-record-requires c κs =
     let at-steps : At-steps = search in
     let G = at-steps .steps .inv in
-    (G .few, omega (arith, G .inside), next-named _ _ _ _ _ _ G (omega arith), next-fits _ _ _ _ _ _ G (omega arith))
+    (record { few = G .few; inside = omega (arith, G .inside); named = next-named _ _ _ _ _ _ G (omega arith) }, next-fits _ _ _ _ _ _ G (omega arith))
 
 add-i : tie.Need-add-i Inv-steps μ-steps
 add-i c = omega arith
