@@ -1,6 +1,4 @@
--- Laws of the search in code, of what it leaves and of its sheets, by subject.
-pub mod CodeSteps
-pub mod WholeRuns
+-- Laws of what the search leaves and of its sheets, by subject.
 pub mod SheetsFound
 pub mod SearchesLeft
 pub mod SearchTexts

@@ -1,10 +1,5 @@
 // The search: the first breaking run of a model's table of one row, or the map of the states that its runs reach.
-mod exploring;
 pub mod finding;
-mod maps;
-mod records;
-mod tables;
-mod traces;
 
 ghost use mathlib.Core.Path.{_≡_};
 ghost use Prim.Native.Nat.{_+_, _*_, _^_, _≤_};
@@ -18,15 +13,15 @@ use acceptance::fields::bytes_known;
 use acceptance::fields::map_length;
 use evaluation::numbers::power;
 use evaluation::plan::Plan;
-use exploring::run;
 use finding::Finding;
-use maps::write_map;
 use reader::Answer;
 use reader::read_into;
-use records::put_head;
-use records::put_header;
-use tables::clear;
-use traces::write_trace;
+use traversal::exploring::run;
+use traversal::traces::write_trace;
+use writing::maps::write_map;
+use writing::records::put_head;
+use writing::records::put_header;
+use writing::tables::clear;
 
 // The search over the flat form of a model, where every lent buffer has room.
 fn search_roomy(

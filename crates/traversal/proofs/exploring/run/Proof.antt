@@ -1,0 +1,69 @@
+-- `run` meets its contract: cleared tables, the start states, then the queue.
+-- Assumes nothing.
+use Rattle.traversal.specs.working.CodeTransitions.{transitionsIn}
+use Rattle.traversal.proofs.WholeRuns.{ready-cleared, run-broke, run-on}
+use borrow.Author.Needs.{needs}
+use Rattle.traversal.proofs.exploring.run.Statement.{statement}
+use Rattle.traversal.proofs.exploring.run.Tie as tie
+
+clear-requires : tie.Need-clear-requires
+clear-requires c κs = search needs
+
+take-in-requires : tie.Need-take-in-requires
+take-in-requires c κs =
+    let after-clear : tie.After-clear = search in
+    let start : tie.Start = search in (
+      start .pre .1,
+      start .pre .0,
+      ready-cleared (transitionsIn _ (start .args .plan)) _ (start .pre .1) _ _ _ (after-clear .clear .ensures) (start .pre .2) (start .pre .3),
+    )
+
+same-length : tie.Need-same-length
+same-length c = search needs
+
+same-length-2 : tie.Need-same-length-2
+same-length-2 c = search needs
+
+returns : tie.Need-returns
+returns c =
+    let after-take-in : tie.After-take-in = search in
+    let after-clear : tie.After-clear = search in
+    let start : tie.Start = search in
+    run-broke (transitionsIn _ (start .args .plan)) _ (start .pre .1) _ _ _ (after-clear .clear .ensures) (start .pre .2)
+    (start .pre .3) (after-take-in .take-in .ensures) (c .if1 .taken)
+
+explore-requires : tie.Need-explore-requires
+explore-requires c κs =
+    let after-take-in : tie.After-take-in = search in
+    let start : tie.Start = search in
+    (start .pre .0, after-take-in .take-in .ensures .kept .ready)
+
+same-length-3 : tie.Need-same-length-3
+same-length-3 c = search needs
+
+same-length-4 : tie.Need-same-length-4
+same-length-4 c = search needs
+
+returns-2 : tie.Need-returns-2
+returns-2 c =
+    let after-explore : tie.After-explore = search in
+    let else1 : tie.Else1 = search in
+    let after-take-in : tie.After-take-in = search in
+    let after-clear : tie.After-clear = search in
+    let start : tie.Start = search in
+    run-on (transitionsIn _ (start .args .plan)) _ (start .pre .1) _ _ _ (after-clear .clear .ensures) (start .pre .2)
+    (start .pre .3) (after-take-in .take-in .ensures) (else1 .if1 .left) (after-explore .explore .ensures)
+
+pub run-spec : {M : Type 1} → statement M
+run-spec =
+    tie.close
+    (tie.spec
+    clear-requires
+    take-in-requires
+    same-length
+    same-length-2
+    returns
+    explore-requires
+    same-length-3
+    same-length-4
+    returns-2)

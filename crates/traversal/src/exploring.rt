@@ -1,0 +1,125 @@
+// The search over the table of one row, state by state in the order in which they are met.
+// One table is the queue of the states met; the other has for each of them the number of the state it was met from, plus 1.
+ghost use mathlib.Core.Path.{_≡_};
+ghost use Prim.Native.Nat.{_^_, _≤_};
+ghost use Rattle.evaluation.specs.working.CodeSystem.{Sound};
+ghost use Rattle.traversal.specs.working.CodeTransitions.{transitionsIn};
+ghost use Rattle.exploration.specs.working.Tables.{Ready, Explored, Took, Ran};
+use evaluation::lanes::fill;
+use evaluation::lanes::pick;
+use evaluation::one_row::breaks;
+use evaluation::one_row::segment;
+use evaluation::one_row::starts;
+use evaluation::one_row::word_count;
+use evaluation::plan::Plan;
+use writing::tables::clear;
+
+// How many states were met, and whether the last of them violates `keep`.
+pub struct Reach {
+    pub count: usize,
+    pub found: bool,
+}
+
+// Takes the start states into the queue in ascending order, up to the first that violates `keep`.
+fn take_in(
+    ops: &[u16; 2048],
+    plan: Plan,
+    states: usize,
+    queue: &mut [u16],
+    parent: &mut [u16],
+) -> Reach
+    requires { ⌜ (states ≡ 2 ^ plan .bits) × Sound plan × Ready (transitionsIn (now ops) plan) (now queue) 0 (now parent) ⌝ }
+    ensures { λ r. ⌜ Took (transitionsIn (now (ops .entry)) plan) (now (queue .entry)) (now (parent .entry)) (now (queue .exit)) (r .count) (now (parent .exit)) (r .found) ⌝ }
+{
+    let mut count: usize = 0;
+    let mut found = false;
+    'states: for s in 0..states {
+        if starts(ops, plan, s) {
+            parent[s] = (s + 1) as u16;
+            queue[count] = s as u16;
+            count += 1;
+            if breaks(ops, plan, s) {
+                found = true;
+                break 'states;
+            }
+        }
+    }
+    Reach {
+        count: count,
+        found: found,
+    }
+}
+
+// Goes through the queue from a place on, for so many states at most: every command under every word, 64 words at a time, from each state in turn.
+// A state that is met for the first time goes to the queue's end; the first that violates `keep` ends the search.
+fn explore(
+    ops: &[u16; 2048],
+    plan: Plan,
+    queue: &mut [u16],
+    parent: &mut [u16],
+    taken: usize,
+    start: usize,
+    most: usize,
+) -> Reach
+    requires { ⌜ Sound plan × Ready (transitionsIn (now ops) plan) (now queue) taken (now parent) ⌝ }
+    ensures { λ r. ⌜ Explored (transitionsIn (now (ops .entry)) plan) start most (now (queue .entry)) taken (now (parent .entry)) (now (queue .exit)) (r .count) (now (parent .exit)) (r .found) ⌝ }
+{
+    let commands = plan.commands;
+    let bits = plan.bits;
+    let mut count = taken;
+    let mut found = false;
+    let mut head = start;
+    let mut left = most;
+    'search: while 0 < left {
+        if count <= head {
+            break 'search;
+        }
+        let s = queue[head];
+        let state = s as u32;
+        'commands: for k in 0..commands {
+            let code = segment(plan, 4 + k);
+            let words = word_count(plan, k);
+            let mut rows = [0u64; 16];
+            'words: for w in 0..words {
+                let word = w as u32;
+                fill(&mut rows, ops, code.from, code.to, state, bits, word);
+                let t = pick(&rows, word % 64) as u16;
+                let at = t as usize;
+                if parent[at] == 0 {
+                    parent[at] = s + 1;
+                    queue[count] = t;
+                    count += 1;
+                    if breaks(ops, plan, at) {
+                        found = true;
+                        break 'search;
+                    }
+                }
+            }
+        }
+        head += 1;
+        left -= 1;
+    }
+    Reach {
+        count: count,
+        found: found,
+    }
+}
+
+// The whole search, on tables that may hold anything.
+pub fn run(
+    ops: &[u16; 2048],
+    plan: Plan,
+    states: usize,
+    queue: &mut [u16],
+    parent: &mut [u16],
+) -> Reach
+    requires { do ⌜ Sound plan × (states ≡ 2 ^ plan .bits) × (states ≤ (← ⟦queue.len()⟧)) × (states ≤ (← ⟦parent.len()⟧)) ⌝ }
+    ensures { λ r. ⌜ Ran (transitionsIn (now (ops .entry)) plan) (now (queue .entry)) (now (parent .entry)) (now (queue .exit)) (r .count) (now (parent .exit)) (r .found) ⌝ }
+{
+    clear(parent, states);
+    let x = take_in(ops, plan, states, queue, parent);
+    if x.found {
+        return x;
+    }
+    explore(ops, plan, queue, parent, x.count, 0, states)
+}
