@@ -4,6 +4,7 @@ pub mod finding;
 ghost use mathlib.Core.Path.{_≡_};
 ghost use Prim.Native.Nat.{_+_, _*_, _^_, _≤_};
 ghost use Rattle.evaluation.specs.working.CodeSystem.{Sound};
+ghost use Rattle.acceptance.specs.Sheets.{sheetRoom};
 ghost use Rattle.acceptance.specs.SheetTexts.{AreBytes};
 ghost use Rattle.acceptance.specs.working.Test.{systemIn};
 ghost use Rattle.search.specs.Left.{Leaves};
@@ -32,7 +33,7 @@ fn search_roomy(
     second: &mut [u16],
     sheet: &mut [u8],
 ) -> Finding
-    requires { do ⌜ Sound plan × (states ≡ 2 ^ plan .bits) × (states ≤ (← ⟦first.len()⟧)) × (states ≤ (← ⟦second.len()⟧)) × (7 + 10 * states ≤ (← ⟦sheet.len()⟧)) ⌝ }
+    requires { do ⌜ Sound plan × (states ≡ 2 ^ plan .bits) × (states ≤ (← ⟦first.len()⟧)) × (states ≤ (← ⟦second.len()⟧)) × (sheetRoom (systemIn (now ops) plan) ≤ (← ⟦sheet.len()⟧)) ⌝ }
     ensures { λ r. ⌜ EndsWith (foundBy (systemIn (now (ops .entry)) plan)) r first second sheet ⌝ }
 {
     put_header(sheet, plan.shared, plan.row, plan.commands);

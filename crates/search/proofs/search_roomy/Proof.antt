@@ -11,7 +11,7 @@ use Rattle.search.proofs.search_roomy.Tie as tie
 put-header-requires : tie.Need-put-header-requires
 put-header-requires c κs =
     let start : tie.Start = search in
-    header-asked _ _ _ (start .pre .0) (start .pre .1) (start .pre .4)
+    header-asked (start .args .ops .now) _ _ (start .pre .0) (start .pre .4)
 
 run-requires : tie.Need-run-requires
 run-requires c κs = search needs
