@@ -11,6 +11,7 @@ ghost use Rattle.acceptance.specs.working.Test.{systemIn, mapAnswer};
 use crate::fields::wide;
 use crate::outcome::Outcome;
 use evaluation::lanes::fill;
+use evaluation::lanes::first_rows;
 use evaluation::lanes::pick;
 use evaluation::numbers::power;
 use evaluation::one_row::breaks;
@@ -77,7 +78,7 @@ fn words_stay(
     ensures { λ r. ⌜ r ≡ every words (λ w. inMap (mapIn (now (b .entry)) p n) (afterOf (slice from to (now (ops .entry))) s bits w)) ⌝ }
 {
     let state = s as u32;
-    let mut rows = [0u64; 16];
+    let mut rows = first_rows(ops, from, to, state, bits);
     'words: for w in 0..words {
         let word = w as u32;
         fill(&mut rows, ops, from, to, state, bits, word);

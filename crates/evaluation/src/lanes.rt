@@ -1,7 +1,7 @@
 // The machine that runs code words with 64 choice words at once: each cell has 64 lanes, one for each word.
 ghost use mathlib.Core.Path.{_≡_};
 ghost use Prim.Native.Nat.{_<_, _≤_};
-ghost use lib.ListN.{length};
+ghost use lib.ListN.{length, replicate};
 ghost use lib.Seq.{slice};
 ghost use Rattle.evaluation.specs.working.Cells.{starOf, cellsOf, topsOf, runCells, noTops};
 ghost use Rattle.evaluation.specs.working.Ends.{fills, startCells, rowOf, pickOf};
@@ -203,12 +203,24 @@ fn batch_rows(
     rows_of(&cells, n, rows);
 }
 
-// The rows for the word w: filled anew where w begins a batch. Most words begin none, so the filling is a function of its own, and this one is inlined.
+// The rows of the first batch, with which a loop over words begins.
+pub fn first_rows(ops: &[u16], from: usize, to: usize, state: u32, n: usize) -> [u64; 16]
+    requires { ⌜ (from ≤ to) × (to ≤ length (now ops)) × (n ≤ 16) ⌝ }
+    ensures { λ r. ⌜ r ≡ fills (rowOf (cellsAt (slice from to (now (ops .entry))) state n 0) n) 16 (replicate 16 0) ⌝ }
+{
+    let mut rows = [0u64; 16];
+    batch_rows(&mut rows, ops, from, to, state, n, 0);
+    rows
+}
+
+// The rows for the word w: filled anew where w begins another batch. Most words begin none: no call is made for them, as this function is small enough to be inlined.
 pub fn fill(rows: &mut [u64; 16], ops: &[u16], from: usize, to: usize, state: u32, n: usize, w: u32)
     requires { ⌜ (from ≤ to) × (to ≤ length (now ops)) × (n ≤ 16) ⌝ }
     ensures { λ r. ⌜ now (rows .exit) ≡ filledOf (slice from to (now (ops .entry))) state n w (now (rows .entry)) ⌝ }
 {
     if w % 64 == 0 {
-        batch_rows(rows, ops, from, to, state, n, w / 64);
+        if 0 < w {
+            batch_rows(rows, ops, from, to, state, n, w / 64);
+        }
     }
 }

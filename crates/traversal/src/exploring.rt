@@ -6,6 +6,7 @@ ghost use Rattle.evaluation.specs.working.CodeSystem.{Sound};
 ghost use Rattle.traversal.specs.working.CodeTransitions.{transitionsIn};
 ghost use Rattle.exploration.specs.working.Tables.{Ready, Explored, Took, Ran};
 use evaluation::lanes::fill;
+use evaluation::lanes::first_rows;
 use evaluation::lanes::pick;
 use evaluation::one_row::breaks;
 use evaluation::one_row::segment;
@@ -79,7 +80,7 @@ fn explore(
         'commands: for k in 0..commands {
             let code = segment(plan, 4 + k);
             let words = word_count(plan, k);
-            let mut rows = [0u64; 16];
+            let mut rows = first_rows(ops, code.from, code.to, state, bits);
             'words: for w in 0..words {
                 let word = w as u32;
                 fill(&mut rows, ops, code.from, code.to, state, bits, word);

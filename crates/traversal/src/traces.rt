@@ -7,6 +7,7 @@ ghost use Rattle.exploration.specs.working.Transitions.{moves, moveOf};
 ghost use Rattle.exploration.specs.working.Runs.{firstMove};
 ghost use Rattle.exploration.specs.working.Written.{RecordedIn, TraceStored};
 use evaluation::lanes::fill;
+use evaluation::lanes::first_rows;
 use evaluation::lanes::pick;
 use evaluation::one_row::segment;
 use evaluation::one_row::word_count;
@@ -33,7 +34,7 @@ fn first_move(ops: &[u16; 2048], plan: Plan, s: u16, t: u16) -> Choice
     'commands: for k in 0..commands {
         let code = segment(plan, 4 + k);
         let words = word_count(plan, k);
-        let mut rows = [0u64; 16];
+        let mut rows = first_rows(ops, code.from, code.to, state, plan.bits);
         'words: for w in 0..words {
             fill(
                 &mut rows,

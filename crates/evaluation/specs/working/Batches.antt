@@ -2,8 +2,8 @@
 -- Assumes nothing.
 use Prim.Native.Nat.{ℕ, _/_, _%_, _^_}
 use mathlib.Core.List.{List}
-use mathlib.Core.Bool.{cond}
-use lib.Dec.{eqb}
+use mathlib.Core.Bool.{cond, _&&_}
+use lib.Dec.{eqb, ltb}
 use Rattle.evaluation.specs.working.CodeMachine.{runOf, startOf}
 use Rattle.evaluation.specs.working.Cells.{runCells, noTops}
 use Rattle.evaluation.specs.working.Ends.{startCells, rowOf, fills}
@@ -16,6 +16,6 @@ afterOf os s n w = runOf os w (startOf s) .state % 2 ^ n
 unfoldable pub cellsAt : List ℕ → ℕ → ℕ → ℕ → List ℕ
 cellsAt os s n b = runCells os b noTops (startCells n s)
 
--- The rows for the word w: filled anew where w begins a batch.
+-- The rows for the word w: filled anew where w begins another batch than the first.
 unfoldable pub filledOf : List ℕ → ℕ → ℕ → ℕ → List ℕ → List ℕ
-filledOf os s n w rows = cond (eqb (w % 64) 0) (fills (rowOf (cellsAt os s n (w / 64)) n) 16 rows) rows
+filledOf os s n w rows = cond (eqb (w % 64) 0 && ltb 0 w) (fills (rowOf (cellsAt os s n (w / 64)) n) 16 rows) rows

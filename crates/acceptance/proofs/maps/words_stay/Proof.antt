@@ -56,8 +56,13 @@ reached c =
 cast-state : tie.Need-cast-state Inv-words μ-words
 cast-state c = omega (arith, pow-small (c .before .args .bits) (2 ^ c .before .args .bits) (c .before .pre .2) refl)
 
+first-rows-requires : tie.Need-first-rows-requires Inv-words μ-words
+first-rows-requires c κs =
+    let start : Start = search in
+    (start .pre .3, omega arith, omega arith)
+
 words-holds : tie.Need-words-holds Inv-words μ-words
-words-holds c = (omega arith, every-none _, ready-first _ _ _)
+words-holds c = (omega arith, every-none _, ready-first _ _ _ _ (c .first-rows .ensures))
 
 cast-word : tie.Need-cast-word Inv-words μ-words
 cast-word c = omega arith
@@ -112,6 +117,7 @@ words-stay-spec =
     Inv-words
     μ-words
     cast-state
+    first-rows-requires
     words-holds
     cast-word
     fill-requires

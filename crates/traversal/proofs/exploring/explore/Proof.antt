@@ -194,10 +194,16 @@ word-count-requires c κs =
     let start : Start = search in
     (omega arith, start .pre .0)
 
+first-rows-requires : tie.Need-first-rows-requires Inv-words μ-words Inv-commands μ-commands Inv-search μ-search
+first-rows-requires c κs =
+    let after-segment : After-segment = search in
+    let start : Start = search in
+    (after-segment .segment .ensures .rising, omega (arith, after-segment .segment .ensures .short), omega (arith, start .pre .0 .fewBits))
+
 words-holds : tie.Need-words-holds Inv-words μ-words Inv-commands μ-commands Inv-search μ-search
 words-holds c =
     let at-commands : At-commands = search in
-    (omega arith, refl, words-start _ _ (at-commands .commands .inv .2 .kept .ready), B.ready-first _ _ _)
+    (omega arith, refl, words-start _ _ (at-commands .commands .inv .2 .kept .ready), B.ready-first _ _ _ _ (c .first-rows .ensures))
 
 cast-word : tie.Need-cast-word Inv-words μ-words Inv-commands μ-commands Inv-search μ-search
 cast-word c =
@@ -430,6 +436,7 @@ explore-spec =
     add-segment
     segment-requires
     word-count-requires
+    first-rows-requires
     words-holds
     cast-word
     fill-requires

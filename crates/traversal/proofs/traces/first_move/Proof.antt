@@ -100,18 +100,25 @@ word-count-requires c κs =
     let start : Start = search in
     (omega arith, start .pre .0)
 
+first-rows-requires : tie.Need-first-rows-requires Inv-words μ-words Inv-commands μ-commands
+first-rows-requires c κs =
+    let after-segment : After-segment = search in
+    let start : Start = search in
+    (after-segment .segment .ensures .rising, omega (arith, after-segment .segment .ensures .short), omega (arith, start .pre .0 .fewBits))
+
 words-holds : tie.Need-words-holds Inv-words μ-words Inv-commands μ-commands
 words-holds c =
     let start : Start = search in
     let in-commands : In-commands = search in
+    let after-word-count : After-word-count = search in
     let at-commands : At-commands = search in (
       omega arith,
       at-commands .commands .inv .1,
       at-commands .commands .inv .2,
       look-start (transitionsIn _ (start .args .plan)) _ _
-          _ _ _ (c .word-count .ensures .0) (in-commands .commands-test .taken)
+          _ _ _ (after-word-count .word-count .ensures .0) (in-commands .commands-test .taken)
           (at-commands .commands .inv .3),
-      B.ready-first _ _ _,
+      B.ready-first _ _ _ _ (c .first-rows .ensures),
     )
 
 cast-fill : tie.Need-cast-fill Inv-words μ-words Inv-commands μ-commands
@@ -195,6 +202,7 @@ first-move-spec =
     add-segment
     segment-requires
     word-count-requires
+    first-rows-requires
     words-holds
     cast-fill
     fill-requires
