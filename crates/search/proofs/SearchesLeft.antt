@@ -13,7 +13,7 @@ use borrow.Author.Tests.{le-leb, lt-leb}
 use Rattle.evaluation.proofs.Powers.{pow-small}
 use Rattle.evaluation.specs.declared.plan.Plan.{Plan}
 use Rattle.evaluation.specs.working.CodeSystem.{Sound}
-use Rattle.acceptance.specs.Sheets.{System, size, sheetRoom, little, recordBytes, headerBytes, mapLength}
+use Rattle.acceptance.specs.Sheets.{System, size, sheetRoom, little, recordBytes, headerBytes, headerLength, mapLength}
 use Rattle.acceptance.specs.working.SheetReading.{countsIn}
 use Rattle.acceptance.specs.working.Test.{systemIn}
 use Rattle.exploration.specs.working.Transitions.{Transitions, Lawful}
@@ -65,19 +65,19 @@ module _ (ops : List ℕ) (plan : Plan) (S : Sound plan) (states : ℕ) (e : sta
 
       -- Room for a map of n bytes.
       module _ (n : ℕ) (f : n ≡ mapLength states) where
-        map-room : 9 + 6 + n ≤ length o₁
+        map-room : headerLength M + 6 + n ≤ length o₁
         unfolding mapLength
         map-room =
             let s : 0 < states = rw e (pow-pos (plan .bits)) in
             let k = header-kept in
             omega arith
 
-        pub head-asked : 9 + 6 ≤ length o₁
+        pub head-asked : headerLength M + 6 ≤ length o₁
         head-asked = omega (arith, map-room)
 
-        pub map-asked : (m : ℕ) → states ≤ m → (o₂ : List ℕ) → o₂ ≡ sets o₁ 9 (headBytes n 2) → (states ≤ m) × (n ≤ 512) × (9 + 6 + n ≤ length o₂)
+        pub map-asked : (m : ℕ) → states ≤ m → (o₂ : List ℕ) → o₂ ≡ sets o₁ (headerLength M) (headBytes n 2) → (states ≤ m) × (n ≤ 512) × (headerLength M + 6 + n ≤ length o₂)
         map-asked m s o₂ g =
-            (s, length-small (plan .bits) states n (S .fewBits) e f, omega (arith, map-room, ap length g, length-sets o₁ 9 (headBytes n 2)))
+            (s, length-small (plan .bits) states n (S .fewBits) e f, omega (arith, map-room, ap length g, length-sets o₁ (headerLength M) (headBytes n 2)))
 
       module _ {q₀ p₀ q p : List ℕ} {n : ℕ} {b : Bool} (R : Ran T q₀ p₀ q n p b) where
         pub second-room : states ≤ length p
@@ -90,21 +90,22 @@ module _ (ops : List ℕ) (plan : Plan) (S : Sound plan) (states : ℕ) (e : sta
         last-within f = let a = last-some f in let d = R .kept .few in let g = R .kept .ready .queue-room in omega arith
 
         pub trace-asked : b ≡ true
-            → Sound plan × (2 ^ plan .bits ≤ length p) × RecordedTo T (take (2 ^ plan .bits) p) (getD q (n - 1) 0) × (9 + 10 * 2 ^ plan .bits ≤ length o₁ + 2)
+            → Sound plan × (2 ^ plan .bits ≤ length p) × RecordedTo T (take (2 ^ plan .bits) p) (getD q (n - 1) 0) × (headerLength M + 10 * 2 ^ plan .bits ≤ length o₁ + 2)
         trace-asked f = (S, R .kept .ready .parent-room, ran-recorded law R f, omega (arith, room, e, header-kept))
 
         sized : (l l₁ : List ℕ) → l₁ ≡ replicate states 0 ++ drop states l → l₁ ≡ replicate (2 ^ plan .bits) 0 ++ drop (2 ^ plan .bits) l
         sized l l₁ h = subst (λ (k : ℕ). l₁ ≡ replicate k 0 ++ drop k l) e h
 
         module _ {q₁ p₁ : List ℕ} (eq : q₁ ≡ replicate states 0 ++ drop states q) (ep : p₁ ≡ replicate states 0 ++ drop states p) where
-          pub unsafe-left : b ≡ true → {o : List ℕ} {len : ℕ} → TraceStored T p (getD q (n - 1) 0) 9 o₁ o len → Ends (foundBy M q₀ p₀ o₀) (Unsafe len) q₁ p₁ o
+          pub unsafe-left : b ≡ true → {o : List ℕ} {len : ℕ} → TraceStored T p (getD q (n - 1) 0) (headerLength M) o₁ o len → Ends (foundBy M q₀ p₀ o₀) (Unsafe len) q₁ p₁ o
           unfolding headerBytes recordBytes little runBytes
           unsafe-left f w =
               trace-left M o₀ header q₀ p₀ (queue-cleared law R (sized q q₁ eq)) (parent-cleared law R (sized p p₁ ep)) (ran-unsafe law R f) (w .bytes)
-              (w .ends ∙ ap (λ (k : ℕ). 9 + 8 + 10 * k) (sym (steps-count T (lastRun law R f))))
+              (w .ends ∙ ap (λ (k : ℕ). headerLength M + 8 + 10 * k) (sym (steps-count T (lastRun law R f))))
 
           pub safe-left : b ≡ false → {k : ℕ} → k ≡ mapLength states → {o₂ o : List ℕ}
-              → o₂ ≡ sets o₁ 9 (headBytes k 2) → o ≡ sets o₂ (9 + 6) (mapFrom (map (ltb 0) (take states p)) 0 k) → Ends (foundBy M q₀ p₀ o₀) (Safe (9 + 6 + k)) q₁ p₁ o
+              → o₂ ≡ sets o₁ (headerLength M) (headBytes k 2) → o ≡ sets o₂ (headerLength M + 6) (mapFrom (map (ltb 0) (take states p)) 0 k)
+              → Ends (foundBy M q₀ p₀ o₀) (Safe (headerLength M + 6 + k)) q₁ p₁ o
           unfolding headerBytes recordBytes little
           safe-left f {k} g {o₂} {o} x y =
               let d : k ≡ mapLength (2 ^ plan .bits) = g ∙ ap mapLength e in
@@ -112,8 +113,8 @@ module _ (ops : List ℕ) (plan : Plan) (S : Sound plan) (states : ℕ) (e : sta
               (d ∙ sym (map-length (map (ltb 0) (take (2 ^ plan .bits) p)) 0 (mapLength (2 ^ plan .bits))))
               x
               (y
-              ∙ ap (λ (u : ℕ). sets o₂ (9 + 6) (mapFrom (map (ltb 0) (take u p)) 0 k)) e
-              ∙ ap (λ (u : ℕ). sets o₂ (9 + 6) (mapFrom (map (ltb 0) (take (2 ^ plan .bits) p)) 0 u)) d)
+              ∙ ap (λ (u : ℕ). sets o₂ (headerLength M + 6) (mapFrom (map (ltb 0) (take u p)) 0 k)) e
+              ∙ ap (λ (u : ℕ). sets o₂ (headerLength M + 6) (mapFrom (map (ltb 0) (take (2 ^ plan .bits) p)) 0 u)) d)
 
 -- A test that fails, or that holds, first.
 and-first : (a b : Bool) → a ≡ false → a && b ≡ false
