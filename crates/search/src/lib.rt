@@ -7,7 +7,7 @@ ghost use Rattle.evaluation.specs.working.CodeSystem.{Sound};
 ghost use Rattle.acceptance.specs.SheetTexts.{AreBytes};
 ghost use Rattle.acceptance.specs.working.Test.{systemIn};
 ghost use Rattle.search.specs.Left.{Leaves};
-ghost use Rattle.search.specs.working.Searching.{foundBy, Ends, searchFor, searchOf};
+ghost use Rattle.search.specs.working.Searching.{foundBy, EndsWith, searchFor, searchOf};
 use acceptance::fields::HEADER;
 use acceptance::fields::bytes_known;
 use acceptance::fields::map_length;
@@ -33,7 +33,7 @@ fn search_roomy(
     sheet: &mut [u8],
 ) -> Finding
     requires { do ⌜ Sound plan × (states ≡ 2 ^ plan .bits) × (states ≤ (← ⟦first.len()⟧)) × (states ≤ (← ⟦second.len()⟧)) × (7 + 10 * states ≤ (← ⟦sheet.len()⟧)) ⌝ }
-    ensures { λ r. ⌜ Ends (foundBy (systemIn (now (ops .entry)) plan) (now (first .entry)) (now (second .entry)) (now (sheet .entry))) r (now (first .exit)) (now (second .exit)) (now (sheet .exit)) ⌝ }
+    ensures { λ r. ⌜ EndsWith (foundBy (systemIn (now (ops .entry)) plan)) r first second sheet ⌝ }
 {
     put_header(sheet, plan.shared, plan.row, plan.commands);
     let x = run(ops, plan, states, first, second);
@@ -63,7 +63,7 @@ fn search_code(
     sheet: &mut [u8],
 ) -> Finding
     requires { ⌜ Sound plan ⌝ }
-    ensures { λ r. ⌜ Ends (searchFor (systemIn (now (ops .entry)) plan) (now (first .entry)) (now (second .entry)) (now (sheet .entry))) r (now (first .exit)) (now (second .exit)) (now (sheet .exit)) ⌝ }
+    ensures { λ r. ⌜ EndsWith (searchFor (systemIn (now (ops .entry)) plan)) r first second sheet ⌝ }
 {
     let states = power(plan.bits);
     if first.len() < states {
@@ -80,7 +80,7 @@ fn search_code(
 
 // The search over the model that a text says, or the text's refusal.
 fn search_text(text: &[u8], first: &mut [u16], second: &mut [u16], sheet: &mut [u8]) -> Finding
-    ensures { λ r. ⌜ Ends (searchOf (now (text .entry)) (now (first .entry)) (now (second .entry)) (now (sheet .entry))) r (now (first .exit)) (now (second .exit)) (now (sheet .exit)) ⌝ }
+    ensures { λ r. ⌜ EndsWith (searchOf (now (text .entry))) r first second sheet ⌝ }
 {
     let mut names = [0u16; 56];
     let mut ops = [0u16; 2048];

@@ -1,12 +1,11 @@
 // The trace of the run that the tables record, found again from its last state back to its first.
 ghost use mathlib.Core.Path.{_≡_};
 ghost use Prim.Native.Nat.{_+_, _*_, _^_, _<_, _≤_};
-ghost use lib.ListN.{take};
 ghost use Rattle.evaluation.specs.working.CodeSystem.{Sound};
 ghost use Rattle.traversal.specs.working.CodeTransitions.{transitionsIn};
 ghost use Rattle.exploration.specs.working.Transitions.{moves, moveOf};
 ghost use Rattle.exploration.specs.working.Runs.{firstMove};
-ghost use Rattle.exploration.specs.working.Written.{RecordedTo, TraceStored};
+ghost use Rattle.exploration.specs.working.Written.{RecordedIn, TraceStored};
 use evaluation::lanes::fill;
 use evaluation::lanes::pick;
 use evaluation::one_row::segment;
@@ -67,7 +66,7 @@ pub fn write_trace(
     at: usize,
     out: &mut [u8],
 ) -> usize
-    requires { do ⌜ Sound plan × (2 ^ plan .bits ≤ (← ⟦parent.len()⟧)) × RecordedTo (transitionsIn (now ops) plan) (take (2 ^ plan .bits) (now parent)) t × (at + 10 * 2 ^ plan .bits ≤ (← ⟦out.len()⟧) + 2) ⌝ }
+    requires { do ⌜ Sound plan × (2 ^ plan .bits ≤ (← ⟦parent.len()⟧)) × RecordedIn (transitionsIn (now ops) plan) (now parent) t × (at + 10 * 2 ^ plan .bits ≤ (← ⟦out.len()⟧) + 2) ⌝ }
     ensures { λ r. ⌜ TraceStored (transitionsIn (now (ops .entry)) plan) (now (parent .entry)) t at (now (out .entry)) (now (out .exit)) r ⌝ }
 {
     let mut n: usize = 0;

@@ -40,6 +40,10 @@ pub record RecordedTo (M : Transitions) (p : List ℕ) (t : ℕ) : Type 0 where
   pub ends : final M run ≡ t
   pub short : steps run < M .size
 
+-- The front of the table p does, as far as there are states.
+abbrev pub RecordedIn : Transitions → List ℕ → ℕ → Type 0
+RecordedIn M p t = RecordedTo M (take (M .size) p) t
+
 -- The trace of the run that the table of parents p records to t stands from `at` on, up to `end`; all else is as it was.
 pub record TraceStored (M : Transitions) (p : List ℕ) (t at : ℕ) (before after : List ℕ) (end : ℕ) : Type 0 where
   pub bytes : after ≡ sets before at (runBytes M (runTo M (take (M .size) p) (M .size) t))

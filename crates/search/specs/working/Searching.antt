@@ -10,6 +10,7 @@ use lib.Seq.{sets}
 use Rattle.notation.specs.Texts.{modelOf}
 use Rattle.notation.specs.working.Machine as N
 use Rattle.notation.specs.working.Answer.{answer}
+use Rattle.reader.specs.working.Commands.{Lent}
 use Rattle.acceptance.specs.Sheets.{System, size, sheetRoom, systemOf, sheetBytes}
 use Rattle.exploration.specs.Findings.{Verdict, safeBy, unsafeBy, evidenceOf}
 use Rattle.exploration.specs.working.Found.{foundIn, transitionsOf}
@@ -43,6 +44,11 @@ leftAlone n p first second sheet = record { answer = Refused n p; first = first;
 -- A call ends with this answer and these contents.
 abbrev pub Ends : Left → Finding → List ℕ → List ℕ → List ℕ → Type 0
 Ends L r first second sheet = (r ≡ L .answer) × Leaves L first second sheet
+
+-- A call whose contract names these two tables and this buffer ends with what is left of them as they were lent.
+abbrev pub EndsWith : (List ℕ → List ℕ → List ℕ → Left) → Finding → Lent → Lent → Lent → Type 0
+EndsWith left r first second sheet =
+    Ends (left (first .entry .now) (second .entry .now) (sheet .entry .now)) r (first .exit .now) (second .exit .now) (sheet .exit .now)
 
 -- For a system, where there is room.
 abbrev pub foundBy : System → List ℕ → List ℕ → List ℕ → Left
