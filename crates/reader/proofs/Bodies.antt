@@ -8,20 +8,20 @@ use native.Mathlib.Omega.{arith}
 use lib.ListN.{length}
 use Rattle.notation.specs.Notation.{freeShared, Item}
 use Rattle.notation.specs.working.Descent.{Got, stop, thenReads, orReader}
-use Rattle.reader.specs.declared.cursor.Cursor.{Cursor}
-use Rattle.reader.specs.declared.cursor.Ledger.{Ledger}
-use Rattle.reader.specs.declared.cursor.Scope.{Scope}
-use Rattle.reader.specs.declared.cursor.Parsed.{Parsed}
-use Rattle.reader.specs.declared.cursor.Parsed.the-variants.{Ok, Refused}
+use Rattle.statements.specs.declared.cursor.Cursor.{Cursor}
+use Rattle.statements.specs.declared.cursor.Ledger.{Ledger}
+use Rattle.statements.specs.declared.cursor.Scope.{Scope}
+use Rattle.statements.specs.declared.cursor.Parsed.{Parsed}
+use Rattle.statements.specs.declared.cursor.Parsed.the-variants.{Ok, Refused}
 use Rattle.lexer.specs.working.Pieces.{listed}
-use Rattle.reader.specs.working.Cursors.{bookOf, Expected, Ready, Says}
-use Rattle.reader.specs.working.Expressions.{orAt}
-use Rattle.reader.specs.working.Items.{itemsWords}
-use Rattle.reader.specs.working.Sequences.{Tested, tested, testedWords, allItems}
+use Rattle.statements.specs.working.Cursors.{bookOf, Expected, Ready, Says}
+use Rattle.statements.specs.working.Expressions.{orAt}
+use Rattle.statements.specs.working.Items.{itemsWords}
+use Rattle.statements.specs.working.Sequences.{Tested, tested, testedWords, allItems}
 use Rattle.reader.specs.working.Commands.{bodyReader, BodySays}
-use Rattle.reader.proofs.Moves.{is-past}
-use Rattle.reader.proofs.StoredCode.{says-of}
-use Rattle.reader.proofs.Sequences.{expected-ok, expected-bad, says-from, sign-ready}
+use Rattle.statements.proofs.Moves.{is-past}
+use Rattle.statements.proofs.StoredCode.{says-of}
+use Rattle.statements.proofs.Sequences.{expected-ok, expected-bad, says-from, sign-ready}
 
 -- Where a command's test stands.
 abbrev pub inTable : Scope

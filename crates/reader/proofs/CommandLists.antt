@@ -17,17 +17,17 @@ use Rattle.notation.specs.working.Table as T
 use Rattle.notation.specs.working.Table.{find, lines, skips}
 use Rattle.notation.specs.working.Descent.{Got, got, stop, thenReads, reader, sequence}
 use Rattle.notation.proofs.Readers.{reader-token, then-then, then-ruling}
-use Rattle.reader.specs.declared.cursor.Cursor.{Cursor}
-use Rattle.reader.specs.declared.cursor.Ledger.{Ledger}
+use Rattle.statements.specs.declared.cursor.Cursor.{Cursor}
+use Rattle.statements.specs.declared.cursor.Ledger.{Ledger}
 use Rattle.reader.specs.declared.clauses.Declared.{Declared}
 use Rattle.reader.specs.declared.clauses.Declared.the-variants as D
 use Rattle.lexer.specs.working.Pieces.{listed}
-use Rattle.reader.specs.working.Names.{sharedWords, rowWords}
-use Rattle.reader.specs.working.Cursors.{bookOf}
+use Rattle.statements.specs.working.Names.{sharedWords, rowWords}
+use Rattle.statements.specs.working.Cursors.{bookOf}
 use Rattle.reader.specs.Read.{placed}
 use Rattle.reader.specs.working.Commands.{withCommands, Naming, titleAt, commandWords, starsIn, commandsAt, oneAt, Arrays, WroteArrays, WroteCommands, storedIn, Commanded, CommandsSay}
-use Rattle.reader.proofs.StoredCode.{sets-append, wrote-none, wrote-behind}
-use Rattle.reader.proofs.Symbols.{listed-sign, passed}
+use Rattle.statements.proofs.StoredCode.{sets-append, wrote-none, wrote-behind}
+use Rattle.statements.proofs.Symbols.{listed-sign, passed}
 use Rattle.reader.proofs.NameLists.{placed-append, named-same, named-behind}
 use Rattle.reader.proofs.OneCommand.{kept-shared, kept-row}
 

@@ -13,25 +13,25 @@ use Rattle.notation.specs.working.Ledger.{Book, blankBook}
 use Rattle.notation.specs.working.Table as T
 use Rattle.notation.specs.working.Descent.{Got, got, stop, thenReads, reader}
 use Rattle.lexer.specs.declared.pieces.Piece.{Piece}
-use Rattle.reader.specs.declared.cursor.Cursor.{Cursor}
-use Rattle.reader.specs.declared.cursor.Ledger.{Ledger}
-use Rattle.reader.specs.declared.cursor.Parsed.{Parsed}
-use Rattle.reader.specs.declared.cursor.Parsed.the-variants.{Ok, Refused}
+use Rattle.statements.specs.declared.cursor.Cursor.{Cursor}
+use Rattle.statements.specs.declared.cursor.Ledger.{Ledger}
+use Rattle.statements.specs.declared.cursor.Parsed.{Parsed}
+use Rattle.statements.specs.declared.cursor.Parsed.the-variants.{Ok, Refused}
 use Rattle.reader.specs.declared.clauses.Declared.{Declared}
 use Rattle.reader.specs.declared.clauses.Declared.the-variants as D
 use Rattle.lexer.specs.working.Pieces.{listed}
 use Rattle.lexer.specs.working.Names.{wordsIn}
-use Rattle.reader.specs.working.Names.{sharedWords, namesKept}
-use Rattle.reader.specs.working.Cursors.{bookOf, moved, Expected}
-use Rattle.reader.specs.working.Items.{kindOf}
+use Rattle.statements.specs.working.Names.{sharedWords, namesKept}
+use Rattle.statements.specs.working.Cursors.{bookOf, moved, Expected}
+use Rattle.statements.specs.working.Items.{kindOf}
 use Rattle.reader.specs.Read.{placed}
 use Rattle.reader.specs.working.Clauses.{grown, Listing, listAt, Noted, NamesSay}
-use Rattle.reader.specs.working.Sequences.{pairOf, pairing, signedBy}
+use Rattle.statements.specs.working.Sequences.{pairOf, pairing, signedBy}
 use Rattle.reader.specs.working.Whole.{headReader, headAt, headsAt, Heads, HeadsSay}
 use Rattle.lexer.proofs.Lexing.{Tokened}
-use Rattle.reader.proofs.StoredCode.{then-bad}
-use Rattle.reader.proofs.Moves.{Past, expected-said, is-past}
-use Rattle.reader.proofs.Sequences.{expected-ok, expected-bad}
+use Rattle.statements.proofs.StoredCode.{then-bad}
+use Rattle.statements.proofs.Moves.{Past, expected-said, is-past}
+use Rattle.statements.proofs.Sequences.{expected-ok, expected-bad}
 use Rattle.reader.proofs.NameLists.{placed-append, named-same, named-behind, grown-names, listed-ok, listed-bad}
 
 -- The cursor z with the next piece of d.

@@ -1,16 +1,4 @@
-pub mod Books
-pub mod Symbols
-pub mod StoredCode
-pub mod OperatorLoops
-pub mod Sequences
-pub mod Factors
-pub mod NameKinds
-pub mod Operands
-pub mod Moves
-pub mod ItemLoops
-pub mod ItemLists
-pub mod TwoBranches
-pub mod ItemForms
+pub mod NameRules
 pub mod DeclaredNames
 pub mod NameLists
 pub mod Segments

@@ -13,18 +13,18 @@ use Rattle.notation.specs.working.Table as T
 use Rattle.notation.specs.working.Table.{find, lines, skips}
 use Rattle.notation.specs.working.Descent.{Got, got, stop, thenReads, reader, sequence}
 use Rattle.notation.proofs.Readers.{reader-token, then-ruling}
-use Rattle.reader.specs.declared.cursor.Cursor.{Cursor}
-use Rattle.reader.specs.declared.cursor.Ledger.{Ledger}
+use Rattle.statements.specs.declared.cursor.Cursor.{Cursor}
+use Rattle.statements.specs.declared.cursor.Ledger.{Ledger}
 use Rattle.reader.specs.declared.clauses.Declared.{Declared}
 use Rattle.reader.specs.declared.clauses.Declared.the-variants as D
 use Rattle.lexer.specs.working.Pieces.{nameIn, listed}
-use Rattle.reader.specs.working.Names.{sharedWords, rowWords}
-use Rattle.reader.specs.working.Cursors.{bookOf, moved}
-use Rattle.reader.specs.working.Items.{kindOf}
+use Rattle.statements.specs.working.Names.{sharedWords, rowWords}
+use Rattle.statements.specs.working.Cursors.{bookOf, moved}
+use Rattle.statements.specs.working.Items.{kindOf}
 use Rattle.reader.specs.Read.{placed}
 use Rattle.reader.specs.working.Clauses.{grown, Listing, nameAt, listAt, Noted, WroteNames, NameSays, NamesSay}
-use Rattle.reader.proofs.Symbols.{listed-name, passed-by}
-use Rattle.reader.proofs.Moves.{Past, is-past}
+use Rattle.statements.proofs.Symbols.{listed-name, passed-by}
+use Rattle.statements.proofs.Moves.{Past, is-past}
 use Rattle.reader.proofs.DeclaredNames.{shared-more, row-more}
 
 -- ---- one name behind others: the array, the ledger and the words

@@ -11,21 +11,21 @@ use Rattle.notation.specs.Notation.{Item, Command, command′}
 use Rattle.notation.specs.Texts.{Numbered, commandOf}
 use Rattle.notation.specs.Layout.{commandCode, endsFrom, joined}
 use Rattle.notation.specs.working.Descent.{Got, got, thenReads}
-use Rattle.reader.specs.declared.cursor.Cursor.{Cursor}
-use Rattle.reader.specs.declared.cursor.Ledger.{Ledger}
-use Rattle.reader.specs.declared.cursor.Parsed.{Parsed}
-use Rattle.reader.specs.declared.cursor.Parsed.the-variants.{Ok, Refused}
+use Rattle.statements.specs.declared.cursor.Cursor.{Cursor}
+use Rattle.statements.specs.declared.cursor.Ledger.{Ledger}
+use Rattle.statements.specs.declared.cursor.Parsed.{Parsed}
+use Rattle.statements.specs.declared.cursor.Parsed.the-variants.{Ok, Refused}
 use Rattle.reader.specs.declared.clauses.Declared.{Declared}
 use Rattle.reader.specs.declared.clauses.Declared.the-variants as D
 use Rattle.lexer.specs.working.Pieces.{listed}
-use Rattle.reader.specs.working.Names.{sharedWords, rowWords}
-use Rattle.reader.specs.working.Cursors.{bookOf, Ready, Done}
-use Rattle.reader.specs.working.Expressions.{exprWords}
-use Rattle.reader.specs.working.Items.{itemsWords}
+use Rattle.statements.specs.working.Names.{sharedWords, rowWords}
+use Rattle.statements.specs.working.Cursors.{bookOf, Ready, Done}
+use Rattle.statements.specs.working.Expressions.{exprWords}
+use Rattle.statements.specs.working.Items.{itemsWords}
 use Rattle.reader.specs.Read.{placed}
-use Rattle.reader.specs.working.Sequences.{Tested, testedWords}
+use Rattle.statements.specs.working.Sequences.{Tested, testedWords}
 use Rattle.reader.specs.working.Commands.{withCommands, Naming, Titled, TitleSays, bodyReader, BodySays, commandWords, starsIn, oneAt, arrays, CommandsSay}
-use Rattle.reader.proofs.StoredCode.{wrote-none, wrote-from, said-ok, said-bad, done-ready}
+use Rattle.statements.proofs.StoredCode.{wrote-none, wrote-from, said-ok, said-bad, done-ready}
 use Rattle.reader.proofs.NameLists.{named-same}
 use Rattle.lexer.proofs.Lookup.{words-kept}
 

@@ -18,20 +18,20 @@ use Rattle.notation.specs.working.Table as T
 use Rattle.notation.specs.working.Table.{find, lines, skips}
 use Rattle.notation.specs.working.Descent.{Got, got, stop, thenReads, reader, sequence, orReader}
 use Rattle.notation.proofs.Readers.{reader-token, then-then, then-ruling}
-use Rattle.reader.specs.declared.cursor.Cursor.{Cursor}
-use Rattle.reader.specs.declared.cursor.Ledger.{Ledger}
-use Rattle.reader.specs.declared.cursor.Scope.{Scope}
-use Rattle.reader.specs.declared.cursor.Parsed.{Parsed}
-use Rattle.reader.specs.declared.cursor.Parsed.the-variants.{Ok, Refused}
+use Rattle.statements.specs.declared.cursor.Cursor.{Cursor}
+use Rattle.statements.specs.declared.cursor.Ledger.{Ledger}
+use Rattle.statements.specs.declared.cursor.Scope.{Scope}
+use Rattle.statements.specs.declared.cursor.Parsed.{Parsed}
+use Rattle.statements.specs.declared.cursor.Parsed.the-variants.{Ok, Refused}
 use Rattle.lexer.specs.working.Pieces.{listed}
-use Rattle.reader.specs.working.Cursors.{modeOf, bookOf, Expected, Ready, Done, Wrote, Says}
-use Rattle.reader.specs.working.Expressions.{exprWords, SaysExpr, orAt}
+use Rattle.statements.specs.working.Cursors.{modeOf, bookOf, Expected, Ready, Done, Wrote, Says}
+use Rattle.statements.specs.working.Expressions.{exprWords, SaysExpr, orAt}
 use Rattle.reader.specs.working.Clauses.{fixedIn, segmentAt, SegmentSays, clauseWords, clauseEnds, clauseAt, ClauseSays}
-use Rattle.reader.proofs.Symbols.{listed-sign, missing, lit-missing}
-use Rattle.reader.proofs.StoredCode.{wrote-none, wrote-same, is-read, is-refused, said-ok, said-bad, says-of, done-then, done-ready, then-bad}
-use Rattle.reader.proofs.Moves.{expected-said, is-past}
-use Rattle.reader.specs.working.Sequences.{Pair, pairOf, paired, pairing, signedBy}
-use Rattle.reader.proofs.Sequences.{expected-ok, expected-bad, pair-done, pair-bad, says-map, says-sign, says-from}
+use Rattle.statements.proofs.Symbols.{listed-sign, missing, lit-missing}
+use Rattle.statements.proofs.StoredCode.{wrote-none, wrote-same, is-read, is-refused, said-ok, said-bad, says-of, done-then, done-ready, then-bad}
+use Rattle.statements.proofs.Moves.{expected-said, is-past}
+use Rattle.statements.specs.working.Sequences.{Pair, pairOf, paired, pairing, signedBy}
+use Rattle.statements.proofs.Sequences.{expected-ok, expected-bad, pair-done, pair-bad, says-map, says-sign, says-from}
 
 -- ---- a segment
 

@@ -11,11 +11,11 @@ use Rattle.notation.specs.Regular.{Starless, Regular}
 use Rattle.notation.specs.Texts.{wordsOf, exprOf, commandOf, clauseOf, modelOf, titleOf, namesOf}
 use Rattle.notation.specs.Layout.{exprCode, commandCode, segments, joined, endsFrom, layoutOf}
 use Rattle.notation.proofs.Stars.{starless-next, command-next}
-use Rattle.reader.specs.declared.cursor.Ledger.{Ledger}
-use Rattle.reader.specs.working.Names.{sharedWords, rowWords}
-use Rattle.reader.specs.working.Expressions.{exprWords}
+use Rattle.statements.specs.declared.cursor.Ledger.{Ledger}
+use Rattle.statements.specs.working.Names.{sharedWords, rowWords}
+use Rattle.statements.specs.working.Expressions.{exprWords}
 use Rattle.reader.specs.working.Clauses.{clauseWords, clauseEnds}
-use Rattle.reader.specs.working.Sequences.{pairOf, paired}
+use Rattle.statements.specs.working.Sequences.{pairOf, paired}
 use Rattle.reader.specs.working.Commands.{commandWords, starsIn}
 use Rattle.reader.proofs.CommandLists.{joined-append, ends-append}
 

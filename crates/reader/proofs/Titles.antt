@@ -20,19 +20,19 @@ use Rattle.notation.specs.working.Table.{title, find, lines, skips}
 use Rattle.notation.specs.working.Descent.{Got, got, stop, ruling, reader, sequence}
 use Rattle.notation.proofs.Readers.{reader-token}
 use Rattle.lexer.specs.declared.pieces.Piece.{Piece}
-use Rattle.reader.specs.declared.cursor.Cursor.{Cursor}
-use Rattle.reader.specs.declared.cursor.Ledger.{Ledger}
+use Rattle.statements.specs.declared.cursor.Cursor.{Cursor}
+use Rattle.statements.specs.declared.cursor.Ledger.{Ledger}
 use Rattle.reader.specs.declared.clauses.Declared.the-variants as D
 use Rattle.lexer.specs.working.Pieces.{nameIn, listed, Fresh}
 use Rattle.lexer.specs.working.Names.{window, wordsIn}
-use Rattle.reader.specs.working.Names.{sharedWords, rowWords, commandWords, namesKept}
-use Rattle.reader.specs.working.Cursors.{bookOf}
+use Rattle.statements.specs.working.Names.{sharedWords, rowWords, commandWords, namesKept}
+use Rattle.statements.specs.working.Cursors.{bookOf}
 use Rattle.reader.specs.Read.{placed}
 use Rattle.reader.specs.working.Commands.{withCommands, titleAt, TitleSays}
-use Rattle.reader.proofs.Moves.{Past}
-use Rattle.reader.proofs.Symbols.{listed-name, missing}
+use Rattle.statements.proofs.Moves.{Past}
+use Rattle.statements.proofs.Symbols.{listed-name, missing}
 use Rattle.lexer.proofs.Lookup.{window-slice, window-length, found-among, withName, words-kept, words-declared}
-use Rattle.reader.proofs.NameKinds.{any-name}
+use Rattle.statements.proofs.NameKinds.{any-name}
 
 pub title-bad : (text names : List ℕ) (l : Ledger) (c : Cursor) (n i : ℕ) → titleAt text names l c ≡ stop n i → TitleSays text names l c names (D.Refused n i)
 unfolding TitleSays

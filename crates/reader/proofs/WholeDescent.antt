@@ -20,14 +20,14 @@ use Rattle.notation.specs.working.Descent.{Got, got, stop, thenReads, taken, re
 use Rattle.notation.proofs.Descents.{follow, atClose, descent}
 use Rattle.notation.proofs.Readers.{reader-token, reader-end, reader-byte, then-then, then-ruling}
 use Rattle.lexer.specs.declared.pieces.Piece.{Piece}
-use Rattle.reader.specs.declared.cursor.Cursor.{Cursor}
-use Rattle.reader.specs.declared.cursor.Ledger.{Ledger}
+use Rattle.statements.specs.declared.cursor.Cursor.{Cursor}
+use Rattle.statements.specs.declared.cursor.Ledger.{Ledger}
 use Rattle.lexer.specs.working.Pieces.{nameIn, tokenOf, listed, Fresh}
-use Rattle.reader.specs.working.Cursors.{bookOf}
-use Rattle.reader.specs.working.Sequences.{Pair, pairing}
+use Rattle.statements.specs.working.Cursors.{bookOf}
+use Rattle.statements.specs.working.Sequences.{Pair, pairing}
 use Rattle.reader.specs.working.Whole.{headReader, headsReader, headsAt, clausesAt}
 use Rattle.reader.specs.working.Commands.{commandsAt}
-use Rattle.reader.proofs.Symbols.{listed-sign, missing}
+use Rattle.statements.proofs.Symbols.{listed-sign, missing}
 
 -- ---- symbols that begin with a sign of their own
 

@@ -18,23 +18,23 @@ use Rattle.notation.specs.working.Machine.{read, reading}
 use Rattle.notation.specs.working.Descent.{Got, got, thenReads, reader}
 use Rattle.notation.proofs.Outcomes.{says-iff}
 use Rattle.notation.proofs.Regular.{tree-regular}
-use Rattle.reader.specs.declared.cursor.Cursor.{Cursor}
-use Rattle.reader.specs.declared.cursor.Ledger.{Ledger}
-use Rattle.reader.specs.declared.cursor.Parsed.{Parsed}
-use Rattle.reader.specs.declared.cursor.Parsed.the-variants.{Ok, Refused}
+use Rattle.statements.specs.declared.cursor.Cursor.{Cursor}
+use Rattle.statements.specs.declared.cursor.Ledger.{Ledger}
+use Rattle.statements.specs.declared.cursor.Parsed.{Parsed}
+use Rattle.statements.specs.declared.cursor.Parsed.the-variants.{Ok, Refused}
 use Rattle.reader.specs.declared.clauses.Declared.{Declared}
 use Rattle.reader.specs.declared.clauses.Declared.the-variants as D
-use Rattle.reader.specs.working.Names.{rowWords}
-use Rattle.reader.specs.working.Cursors.{bookOf, Ready}
+use Rattle.statements.specs.working.Names.{rowWords}
+use Rattle.statements.specs.working.Cursors.{bookOf, Ready}
 use Rattle.reader.specs.Read.{placed}
 use Rattle.reader.specs.working.Clauses.{WroteNames, clauseWords, clauseEnds, ClauseDone, ClauseSays}
-use Rattle.reader.specs.working.Sequences.{Pair, pairOf, paired, pairing}
+use Rattle.statements.specs.working.Sequences.{Pair, pairOf, paired, pairing}
 use Rattle.reader.specs.working.Commands.{withCommands, Naming, Arrays, arrays, WroteArrays, WroteCommands, storedIn, commandWords, starsIn, commandsAt, Commanded, CommandsSay}
 use Rattle.reader.specs.working.Whole.{Heads, HeadsSay, ClausesDone, ClausesSay, ModelSays}
-use Rattle.reader.proofs.StoredCode.{sets-append, stores, wrote-none, wrote-from, wrote-behind, done-then, done-ready}
+use Rattle.statements.proofs.StoredCode.{sets-append, stores, wrote-none, wrote-from, wrote-behind, done-then, done-ready}
 use Rattle.reader.proofs.NameLists.{placed-append, named-behind}
 use Rattle.reader.proofs.CommandLists.{arrays-same, commanded-wrote}
-use Rattle.reader.proofs.Sequences.{pair-done, pair-bad}
+use Rattle.statements.proofs.Sequences.{pair-done, pair-bad}
 use Rattle.reader.proofs.WholeDescent.{heads-bad, clauses-bad, command-missing, commands-bad, text-ends, text-goes-on}
 use Rattle.reader.proofs.StoredModel.{stars-layout, code-layout, ends-layout, names-are}
 

@@ -1,9 +1,4 @@
 -- Definitions that only describe how the code goes about its work.
-pub mod Names
-pub mod Cursors
-pub mod Expressions
-pub mod Items
-pub mod Sequences
 pub mod Clauses
 pub mod Commands
 pub mod Whole

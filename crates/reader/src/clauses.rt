@@ -2,21 +2,21 @@
 ghost use mathlib.Core.Path.{_≡_};
 ghost use Prim.Native.Nat.{_+_, _<_};
 ghost use Rattle.lexer.specs.working.Pieces.{NAME};
-ghost use Rattle.reader.specs.working.Cursors.{Ready};
+ghost use Rattle.statements.specs.working.Cursors.{Ready};
 ghost use Rattle.reader.specs.working.Clauses.{Listing, NameSays, NamesSay, listAt, SegmentSays, ClauseSays};
-use crate::cursor::Cursor;
-use crate::cursor::Ledger;
-use crate::cursor::Parsed;
-use crate::cursor::Scope;
-use crate::cursor::expect;
-use crate::cursor::past;
-use crate::expressions::MAX_DEPTH;
-use crate::expressions::or_level;
 use lexer::names::declare;
 use lexer::names::find_name;
 use lexer::pieces::DOT;
 use lexer::pieces::EACH;
 use lexer::pieces::NAME;
+use statements::cursor::Cursor;
+use statements::cursor::Ledger;
+use statements::cursor::Parsed;
+use statements::cursor::Scope;
+use statements::cursor::expect;
+use statements::cursor::past;
+use statements::expressions::MAX_DEPTH;
+use statements::expressions::or_level;
 
 const MAX_SHARED: usize = 8;
 

@@ -1,11 +1,7 @@
 // The reader of model texts: a text says a model, or has a first refusal with its place.
 mod clauses;
 mod commands;
-mod cursor;
-mod expressions;
-mod items;
 mod model;
-mod names;
 
 ghost use mathlib.Core.Path.{_≡_};
 ghost use Rattle.reader.specs.Read.{emptyCode, readingOf};

@@ -5,7 +5,7 @@ ghost use Prim.Native.Nat.{_<_, _≤_};
 ghost use lib.ListN.{length};
 ghost use Rattle.notation.specs.Texts.{longestText};
 ghost use Rattle.lexer.specs.working.Pieces.{NAME};
-ghost use Rattle.reader.specs.working.Cursors.{Ready};
+ghost use Rattle.statements.specs.working.Cursors.{Ready};
 ghost use Rattle.reader.specs.working.Clauses.{Listing, NamesSay};
 ghost use Rattle.reader.specs.working.Commands.{atEntry, atExit};
 ghost use Rattle.reader.specs.working.Whole.{headAt, HeadsSay, ClausesSay, ModelSays};
@@ -13,10 +13,6 @@ use crate::clauses::Declared;
 use crate::clauses::clause;
 use crate::clauses::name_list;
 use crate::commands::commands;
-use crate::cursor::Cursor;
-use crate::cursor::Ledger;
-use crate::cursor::Parsed;
-use crate::cursor::expect;
 use lexer::pieces::COMMAND;
 use lexer::pieces::DOT;
 use lexer::pieces::FINISH;
@@ -25,6 +21,10 @@ use lexer::pieces::ROW;
 use lexer::pieces::SHARED;
 use lexer::pieces::START;
 use lexer::pieces::piece_at;
+use statements::cursor::Cursor;
+use statements::cursor::Ledger;
+use statements::cursor::Parsed;
+use statements::cursor::expect;
 
 // A sign, names to declare, and a full stop.
 pub fn declaration(

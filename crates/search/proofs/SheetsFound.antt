@@ -6,7 +6,7 @@ use Prim.Native.Nat.{ℕ, _+_, _*_}
 use native.Mathlib.Omega.{arith}
 use lib.ListN.{length}
 use lib.Seq.{sets}
-use Rattle.reader.proofs.StoredCode.{sets-append}
+use Rattle.statements.proofs.StoredCode.{sets-append}
 use Rattle.meaning.specs.OneRow.{TraceStep}
 use Rattle.acceptance.specs.Sheets.{System, size, little, recordBytes, headerBytes, mapBytes, startBytes, stepsBytes, sheetBytes}
 use Rattle.exploration.specs.Findings.{Verdict, safeBy, unsafeBy}

@@ -14,18 +14,18 @@ use Rattle.notation.specs.working.Lexing.{tokensFrom}
 use Rattle.notation.specs.working.Ledger.{note, fault}
 use Rattle.notation.specs.working.Table as T
 use Rattle.notation.specs.working.Descent.{Got, got, stop, thenReads, ruling, reader, orReader}
-use Rattle.reader.specs.declared.cursor.Cursor.{Cursor}
-use Rattle.reader.specs.declared.cursor.Ledger.{Ledger}
-use Rattle.reader.specs.declared.cursor.Parsed.{Parsed}
-use Rattle.reader.specs.declared.cursor.Parsed.the-variants.{Ok, Refused}
+use Rattle.statements.specs.declared.cursor.Cursor.{Cursor}
+use Rattle.statements.specs.declared.cursor.Ledger.{Ledger}
+use Rattle.statements.specs.declared.cursor.Parsed.{Parsed}
+use Rattle.statements.specs.declared.cursor.Parsed.the-variants.{Ok, Refused}
 use Rattle.reader.specs.declared.clauses.Declared.{Declared}
 use Rattle.reader.specs.declared.clauses.Declared.the-variants as D
 use Rattle.reader.specs.Read.{placed}
 use Rattle.lexer.specs.working.Pieces.{nameIn, listed, Fresh, pieceAt}
-use Rattle.reader.specs.working.Names.{sharedWords, rowWords}
-use Rattle.reader.specs.working.Cursors.{bookOf, moved, Done, Wrote}
-use Rattle.reader.specs.working.Expressions.{exprWords}
-use Rattle.reader.specs.working.Items.{kindOf}
+use Rattle.statements.specs.working.Names.{sharedWords, rowWords}
+use Rattle.statements.specs.working.Cursors.{bookOf, moved, Done, Wrote}
+use Rattle.statements.specs.working.Expressions.{exprWords}
+use Rattle.statements.specs.working.Items.{kindOf}
 
 -- ---- names
 

@@ -16,18 +16,18 @@ use Rattle.notation.specs.working.Lexing.{tokensFrom}
 use Rattle.notation.specs.working.Ledger.{Book, note, fault}
 use Rattle.notation.specs.working.Table as T
 use Rattle.notation.specs.working.Descent.{Got, got, stop, thenReads, ruling, reader, orReader}
-use Rattle.reader.specs.declared.cursor.Cursor.{Cursor}
-use Rattle.reader.specs.declared.cursor.Ledger.{Ledger}
-use Rattle.reader.specs.declared.cursor.Parsed.{Parsed}
+use Rattle.statements.specs.declared.cursor.Cursor.{Cursor}
+use Rattle.statements.specs.declared.cursor.Ledger.{Ledger}
+use Rattle.statements.specs.declared.cursor.Parsed.{Parsed}
 use Rattle.reader.specs.declared.clauses.Declared.{Declared}
 use Rattle.reader.specs.declared.clauses.Declared.the-variants as D
 use Rattle.lexer.specs.working.Pieces.{listed, Fresh}
-use Rattle.reader.specs.working.Names.{sharedWords, rowWords}
-use Rattle.reader.specs.working.Cursors.{bookOf, Ready, Wrote, Says}
-use Rattle.reader.specs.working.Items.{itemsWords}
+use Rattle.statements.specs.working.Names.{sharedWords, rowWords}
+use Rattle.statements.specs.working.Cursors.{bookOf, Ready, Wrote, Says}
+use Rattle.statements.specs.working.Items.{itemsWords}
 use Rattle.reader.specs.Read.{placed}
 use Rattle.reader.specs.working.Clauses.{WroteNames}
-use Rattle.reader.specs.working.Sequences.{Tested, tested, testedWords, allItems}
+use Rattle.statements.specs.working.Sequences.{Tested, tested, testedWords, allItems}
 
 -- The ledger with k commands more.
 abbrev pub withCommands : ℕ → Ledger → Ledger

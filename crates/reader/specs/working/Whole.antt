@@ -18,19 +18,19 @@ use Rattle.notation.specs.working.Descent.{Got, got, stop, thenReads, reader}
 use Rattle.reader.specs.declared.Answer.the-variants as A
 use Rattle.reader.specs.declared.Reading.{Reading}
 use Rattle.reader.specs.declared.Summary.{Summary}
-use Rattle.reader.specs.declared.cursor.Cursor.{Cursor}
-use Rattle.reader.specs.declared.cursor.Ledger.{Ledger}
-use Rattle.reader.specs.declared.cursor.Parsed.{Parsed}
-use Rattle.reader.specs.declared.cursor.Parsed.the-variants.{Ok, Refused}
+use Rattle.statements.specs.declared.cursor.Cursor.{Cursor}
+use Rattle.statements.specs.declared.cursor.Ledger.{Ledger}
+use Rattle.statements.specs.declared.cursor.Parsed.{Parsed}
+use Rattle.statements.specs.declared.cursor.Parsed.the-variants.{Ok, Refused}
 use Rattle.reader.specs.declared.clauses.Declared.{Declared}
 use Rattle.reader.specs.declared.clauses.Declared.the-variants as D
 use Rattle.lexer.specs.working.Pieces.{listed}
-use Rattle.reader.specs.working.Names.{sharedWords, rowWords}
-use Rattle.reader.specs.working.Cursors.{bookOf, Done, Wrote}
-use Rattle.reader.specs.working.Items.{kindOf}
+use Rattle.statements.specs.working.Names.{sharedWords, rowWords}
+use Rattle.statements.specs.working.Cursors.{bookOf, Done, Wrote}
+use Rattle.statements.specs.working.Items.{kindOf}
 use Rattle.reader.specs.Read.{placed}
 use Rattle.reader.specs.working.Clauses.{WroteNames, clauseWords, clauseEnds, clauseAt}
-use Rattle.reader.specs.working.Sequences.{Pair, paired, pairing}
+use Rattle.statements.specs.working.Sequences.{Pair, paired, pairing}
 use Rattle.reader.specs.working.Commands.{Naming, Arrays, arrays, WroteArrays}
 
 -- The descent's answer at a sign, names and a full stop.

@@ -1,7 +1,7 @@
 -- `segment` meets its contract: past its sign stands an expression, whose answer is the segment's, and whose end fits where it is stored.
 -- Assumes nothing.
 use native.Mathlib.Omega.{arith}
-use Rattle.reader.proofs.Sequences.{sign-ready}
+use Rattle.statements.proofs.Sequences.{sign-ready}
 use Rattle.reader.proofs.Segments.{sign-bad, read-bad, read-small, read-ok}
 use borrow.Author.Needs.{needs}
 use Rattle.reader.proofs.clauses.segment.Statement.{statement}

@@ -2,16 +2,16 @@
 -- Assumes nothing.
 use native.Mathlib.Omega.{arith}
 use lib.ListN.{length}
-use Rattle.reader.specs.working.Items.{itemsWords}
-use Rattle.reader.specs.working.Sequences.{allItems}
-use Rattle.reader.proofs.StoredCode.{wrote-none, says-same}
-use Rattle.reader.proofs.Moves.{expected-said, ready-less}
-use Rattle.reader.proofs.TwoBranches.{test-roomed, first-bad, yes-ready, done-roomed, second-bad, no-ready}
-use Rattle.reader.proofs.TwoBranches.{rest-roomed, tested-says}
+use Rattle.statements.specs.working.Items.{itemsWords}
+use Rattle.statements.specs.working.Sequences.{allItems}
+use Rattle.statements.proofs.StoredCode.{wrote-none, says-same}
+use Rattle.statements.proofs.Moves.{expected-said, ready-less}
+use Rattle.statements.proofs.TwoBranches.{test-roomed, first-bad, yes-ready, done-roomed, second-bad, no-ready}
+use Rattle.statements.proofs.TwoBranches.{rest-roomed, tested-says}
 use Rattle.reader.proofs.Bodies.{body-bad, body-ready, body-says}
 use Rattle.notation.specs.Tokens.{IF}
-use Rattle.reader.specs.declared.cursor.Parsed.the-variants.{Ok}
-use Rattle.reader.specs.working.Cursors.{Expected, Ready}
+use Rattle.statements.specs.declared.cursor.Parsed.the-variants.{Ok}
+use Rattle.statements.specs.working.Cursors.{Expected, Ready}
 use borrow.Author.Needs.{needs}
 use Rattle.reader.proofs.commands.body.Statement.{statement}
 use Rattle.reader.proofs.commands.body.Tie as tie

@@ -3,7 +3,7 @@
 use mathlib.Core.Path.{refl}
 use native.Mathlib.Omega.{arith}
 use Rattle.reader.proofs.Titles.{title-bad, title-full, title-missing, title-twice, title-says}
-use Rattle.reader.proofs.Moves.{is-past}
+use Rattle.statements.proofs.Moves.{is-past}
 use borrow.Author.Needs.{needs}
 use Rattle.reader.proofs.commands.title.Statement.{statement}
 use Rattle.reader.proofs.commands.title.Tie as tie

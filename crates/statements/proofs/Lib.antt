@@ -1,0 +1,13 @@
+pub mod Books
+pub mod Symbols
+pub mod StoredCode
+pub mod OperatorLoops
+pub mod Sequences
+pub mod Factors
+pub mod NameKinds
+pub mod Operands
+pub mod Moves
+pub mod ItemLoops
+pub mod ItemLists
+pub mod TwoBranches
+pub mod ItemForms
