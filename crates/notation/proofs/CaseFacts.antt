@@ -1,7 +1,7 @@
 -- Each line of the tables of cases is a fact of the definitions: its text says that model, says some model, or has that first refusal.
 -- Assumes nothing.
 use mathlib.Core.Path.{_≡_, refl}
-use mathlib.Core.List.{List, [], _∷_, _++_, map, map-append}
+use mathlib.Core.List.{List, [], _∷_, map}
 use Prim.Native.Nat.{ℕ}
 use native.Mathlib.Omega.{arith}
 use Rattle.notation.specs.Tokens.{Name}
@@ -12,7 +12,7 @@ use Rattle.notation.specs.Regular.{Every}
 use Rattle.notation.specs.working.Machine.{Outcome, read, refused}
 use Rattle.notation.specs.working.Answer.{answer}
 use Rattle.notation.proofs.Texts.{says-iff-answer, refused-iff-answer}
-use Rattle.notation.proofs.Cases.{Expected, saysModel, hasNames, isRead, isRefused, Case, came, cases, all-cases, longCases, all-long-cases}
+use Rattle.notation.proofs.Cases.{Expected, saysModel, hasNames, isRead, isRefused, Case, came, cases, all-cases}
 
 abbrev pub Holds : List ℕ → Expected → Type 0
 Holds text (saysModel m) = TextSays text m
@@ -43,9 +43,9 @@ holds text isRead h = reads text (answer text) refl h
 holds text (isRefused n i) h = refuses text n i (answer text) refl h
 
 -- What is computed of a whole table holds of each of its lines.
-each-holds : (cs : List Case) → map (λ (c : Case). came (c .expected) (answer (c .text))) cs ≡ map (λ (c : Case). c .expected) cs → Every (λ (c : Case). Holds (c .text) (c .expected)) cs
+pub each-holds : (cs : List Case) → map (λ (c : Case). came (c .expected) (answer (c .text))) cs ≡ map (λ (c : Case). c .expected) cs → Every (λ (c : Case). Holds (c .text) (c .expected)) cs
 each-holds [] h = tt
 each-holds (c ∷ cs) h = (holds (c .text) (c .expected) cc, each-holds cs cc)
 
-pub all-cases-hold : Every (λ (c : Case). Holds (c .text) (c .expected)) (cases ++ longCases)
-all-cases-hold = each-holds (cases ++ longCases) (rw (map-append, map-append, all-cases, all-long-cases))
+pub all-cases-hold : Every (λ (c : Case). Holds (c .text) (c .expected)) cases
+all-cases-hold = each-holds cases all-cases
