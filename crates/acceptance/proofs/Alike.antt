@@ -9,15 +9,15 @@ use lib.Dec.{eqb}
 use Rattle.meaning.specs.OneRow.{lastOf}
 use Rattle.meaning.specs.Evidence.{inMap}
 use Rattle.meaning.specs.working.Conditions.{every, implies, wordsStay, closedAt, testA, testB, testC, testE}
-use Rattle.acceptance.specs.Sheets.{System, headerLength, mapLength}
-use Rattle.acceptance.specs.SheetTexts.{twoAt, stepIn}
-use Rattle.acceptance.specs.working.SheetReading.{mapIn, stepsIn, stepCount, sheetOf, StepsStand}
+use Rattle.sheets.specs.Sheets.{System, headerLength, mapLength}
+use Rattle.sheets.specs.SheetTexts.{twoAt, stepIn}
+use Rattle.sheets.specs.working.SheetReading.{mapIn, stepsIn, stepCount, sheetOf, StepsStand}
 use Rattle.acceptance.specs.working.Test.{mapAnswer, walk, traceAnswer, outcomeOf}
-use Rattle.acceptance.specs.working.Shapes.{shapeOf}
-use Rattle.acceptance.specs.declared.sheets.Shape.{Shape}
-use Rattle.acceptance.specs.declared.sheets.Shape.the-variants.{Bad, Map, Trace}
-use Rattle.acceptance.proofs.SheetLaws.{step-parts}
-use Rattle.acceptance.proofs.StarCounts.{sheet-alike}
+use Rattle.sheets.specs.working.Shapes.{shapeOf}
+use Rattle.sheets.specs.declared.shapes.Shape.{Shape}
+use Rattle.sheets.specs.declared.shapes.Shape.the-variants.{Bad, Map, Trace}
+use Rattle.sheets.proofs.SheetLaws.{step-parts}
+use Rattle.sheets.proofs.StarCounts.{sheet-alike}
 use Rattle.acceptance.proofs.TestWhole.{whole-refused, whole-map, whole-trace, trace-stands}
 
 every-alike : (n : ℕ) (f g : ℕ → Bool) → ((i : ℕ) → i < n → f i ≡ g i) → every n f ≡ every n g

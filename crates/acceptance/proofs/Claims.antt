@@ -15,7 +15,7 @@ use Rattle.notation.proofs.Texts.{says-answer, refused-answer}
 use Rattle.notation.proofs.Regular.{all-regular}
 use Rattle.meaning.specs.Evidence.{safe, trace}
 use Rattle.meaning.proofs.Parametric.{claim}
-use Rattle.acceptance.specs.Sheets.{systemOf}
+use Rattle.sheets.specs.Sheets.{systemOf}
 use Rattle.acceptance.specs.Outcomes.{Wording, words, letter, returned, wordingOf}
 use Rattle.acceptance.specs.Promises.{TestTells, PassTells, TextComesFirst, ClaimOfTest}
 use Rattle.acceptance.specs.working.Test.{outcomeOf, testIn, testOf}

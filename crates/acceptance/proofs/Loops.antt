@@ -19,7 +19,7 @@ use Rattle.evaluation.specs.working.CodeMachine.{runOf, startOf}
 use Rattle.evaluation.specs.working.Batches.{afterOf}
 use Rattle.evaluation.specs.working.CodeSystem.{segmentOf, nextIn, Bounds}
 use Rattle.evaluation.proofs.OneRowCode.{cut}
-use Rattle.acceptance.specs.working.SheetReading.{mapIn}
+use Rattle.sheets.specs.working.SheetReading.{mapIn}
 
 -- The bit that the code reads is that of the map.
 pub bit-in : (b : List ℕ) (p n s byte : ℕ) → s / 8 < n → byte ≡ getD b (p + s / 8) 0 → eqb (byte / 2 ^ (s % 8) % 2) 1 ≡ inMap (mapIn b p n) s

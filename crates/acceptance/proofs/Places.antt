@@ -10,14 +10,14 @@ use Rattle.notation.specs.Model.{Model}
 use Rattle.notation.specs.Texts.{TextSays, TextRefused}
 use Rattle.notation.proofs.Texts.{one-answer}
 use Rattle.notation.proofs.Places.{refusals-bounded}
-use Rattle.acceptance.specs.Sheets.{System, systemOf}
-use Rattle.acceptance.specs.SheetTexts.{longest, Stage, Clean, begin, next, SheetRefused, tooLong, misplaced, outOfRange}
+use Rattle.sheets.specs.Sheets.{System, systemOf}
+use Rattle.sheets.specs.SheetTexts.{longest, Stage, Clean, begin, next, SheetRefused, tooLong, misplaced, outOfRange}
 use Rattle.acceptance.specs.Outcomes.{wordingOf}
 use Rattle.acceptance.specs.Promises.{answerTo, Bounded, AnswersBounded}
 use Rattle.acceptance.specs.working.Test.{outcomeOf}
 use Rattle.acceptance.specs.declared.outcome.Outcome.{Outcome}
 use Rattle.acceptance.specs.declared.outcome.Outcome.the-variants.{SafeHolds, TraceHolds, FailsA, FailsB, FailsC, FailsD, FailsE, FailsF, Refused}
-use Rattle.acceptance.proofs.SheetRefusals.{within}
+use Rattle.sheets.proofs.SheetRefusals.{within}
 use Rattle.acceptance.proofs.TestMeans.{refusal-means}
 use Rattle.acceptance.proofs.Claims.{said, text-comes-first}
 

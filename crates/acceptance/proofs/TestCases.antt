@@ -19,10 +19,10 @@ use Rattle.meaning.specs.Meaning.{eval, runRow, runItem, runItems, step}
 use Rattle.meaning.specs.OneRow.{stateNumber, spread, spreadWord, starts, breaks, next, lastOf}
 use Rattle.meaning.specs.Evidence.{inMap}
 use Rattle.meaning.specs.working.Conditions.{every, implies, testA, testB, wordsStay, closedAt, testC, testE}
-use Rattle.acceptance.specs.Sheets.{mapLength}
-use Rattle.acceptance.specs.SheetTexts.{twoAt, fourAt, isRecord, sameCounts, unusedClear, stepIn, stepFits}
+use Rattle.sheets.specs.Sheets.{mapLength}
+use Rattle.sheets.specs.SheetTexts.{twoAt, fourAt, isRecord, sameCounts, unusedClear, stepIn, stepFits}
 use Rattle.acceptance.specs.Outcomes.{wordingOf}
-use Rattle.acceptance.specs.working.SheetReading.{demand, either, mapIn, mapAt, stepsIn, stepsAt, stepCount, traceAt, bodyAt, sheetIn}
+use Rattle.sheets.specs.working.SheetReading.{demand, either, mapIn, mapAt, stepsIn, stepsAt, stepCount, traceAt, bodyAt, sheetIn}
 use Rattle.acceptance.specs.working.Test.{mapAnswer, walk, traceAnswer, answerIn, judge, outcomeOf, testIn, testOf}
 use Rattle.acceptance.specs.Cases.{Case, cases, AllCases}
 

@@ -11,18 +11,18 @@ use Rattle.notation.specs.Model.{Model}
 use Rattle.notation.specs.Regular.{Regular, Every}
 use Rattle.meaning.specs.OneRow.{stateCount, starts, breaks, next, TraceStep, lastOf}
 use Rattle.meaning.specs.Evidence.{safe, trace, ConditionA, ConditionB, ConditionC, ConditionD, ConditionE, ConditionF, StepFits}
-use Rattle.acceptance.specs.Sheets.{System, size, systemOf}
-use Rattle.acceptance.specs.SheetTexts.{NumbersFit, AreBytes, SheetSays, SheetRefused}
+use Rattle.sheets.specs.Sheets.{System, size, systemOf}
+use Rattle.sheets.specs.SheetTexts.{NumbersFit, AreBytes, SheetSays, SheetRefused}
 use Rattle.acceptance.specs.Promises.{MapThat, TraceThat}
 use Rattle.meaning.specs.working.Conditions.{testA, testB, testC, testE}
-use Rattle.acceptance.specs.working.SheetReading.{Reading, refused, holds, sheetOf}
+use Rattle.sheets.specs.working.SheetReading.{Reading, refused, holds, sheetOf}
 use Rattle.acceptance.specs.working.Test.{mapAnswer, walk, traceAnswer, answerIn, judge, outcomeOf}
 use Rattle.acceptance.specs.declared.outcome.Outcome.{Outcome}
 use Rattle.acceptance.specs.declared.outcome.Outcome.the-variants.{SafeHolds, TraceHolds, FailsA, FailsB, FailsC, FailsD, FailsE, FailsF, Refused}
 use Rattle.meaning.proofs.Accept.{all-tests-tell}
 use Rattle.evaluation.proofs.Powers.{pow-small}
-use Rattle.acceptance.proofs.SheetRefusals.{refused-iff-reads}
-use Rattle.acceptance.proofs.SheetSplit.{says-iff-reads}
+use Rattle.sheets.proofs.SheetRefusals.{refused-iff-reads}
+use Rattle.sheets.proofs.SheetSplit.{says-iff-reads}
 
 -- What an outcome is about, 0 for a map, 1 for a trace, 2 for neither; and which of its three conditions failed, if one did.
 kind : Outcome → ℕ

@@ -24,8 +24,9 @@ use Rattle.reader.specs.Read.{filled, codeOf, readingIn, readingOf}
 use Rattle.evaluation.specs.Promises.{Computes}
 use Rattle.evaluation.specs.working.CodeSystem.{starsIn, Sound}
 use Rattle.evaluation.proofs.FlatForms.{flat-computes, ends-counted, mapped}
-use Rattle.acceptance.specs.Sheets.{systemOf}
-use Rattle.acceptance.specs.working.Test.{outcomeOf, testIn, testOf, planOf, systemIn}
+use Rattle.sheets.specs.Sheets.{systemOf}
+use Rattle.sheets.specs.working.FlatSystem.{systemIn}
+use Rattle.acceptance.specs.working.Test.{outcomeOf, testIn, testOf, planOf}
 use Rattle.acceptance.specs.declared.outcome.Outcome.{Outcome}
 use Rattle.acceptance.specs.declared.outcome.Outcome.the-variants.{Refused}
 use Rattle.acceptance.proofs.Alike.{outcome-alike}

@@ -5,14 +5,22 @@ use mathlib.Core.List.{List}
 use Prim.Native.Nat.{ℕ, _+_, _*_, _≤_}
 use native.Mathlib.Omega.{arith}
 use lib.ListN.{length}
-use Rattle.acceptance.specs.Sheets.{System, size, headerLength, mapLength}
-use Rattle.acceptance.specs.working.SheetReading.{mapIn, sheetOf, TraceStands}
+use Rattle.sheets.specs.Sheets.{System, size, headerLength, mapLength}
+use Rattle.meaning.specs.Evidence.{safe, trace}
+use Rattle.sheets.specs.working.SheetReading.{Reading, refused, holds, mapIn, sheetOf, TraceStands}
 use Rattle.acceptance.specs.working.Test.{mapAnswer, answerIn, judge, outcomeOf, traceFrom}
-use Rattle.acceptance.specs.working.Shapes.{shapeOf}
-use Rattle.acceptance.specs.declared.sheets.Shape.the-variants.{Bad, Map, Trace}
+use Rattle.sheets.specs.working.Shapes.{shapeOf}
+use Rattle.sheets.specs.declared.shapes.Shape.the-variants.{Bad, Map, Trace}
 use Rattle.acceptance.specs.declared.outcome.Outcome.{Outcome}
 use Rattle.acceptance.specs.declared.outcome.Outcome.the-variants.{Refused}
-use Rattle.acceptance.proofs.SheetOpened.{refused-shape, map-found, trace-found, eighths}
+use Rattle.sheets.proofs.SheetOpened.{map-found, trace-found, eighths}
+
+-- Where the shape is a refusal, so is the outcome.
+refused-shape : (M : System) (r : Reading) (n p : ℕ) → Bad n p ≡ shapeOf r → Refused n p ≡ judge M r
+unfolding shapeOf judge
+refused-shape M (refused k q) n p e = cc
+refused-shape M (holds (safe map)) n p e = let z : _≡_ {A = ℕ} 0 1 = cc in absurd (omega arith)
+refused-shape M (holds (trace s xs)) n p e = let z : _≡_ {A = ℕ} 0 1 = cc in absurd (omega arith)
 
 module _ (M : System) (b : List ℕ) where
   pub whole-refused : (n p : ℕ) → Bad n p ≡ shapeOf (sheetOf M b) → Refused n p ≡ outcomeOf M b

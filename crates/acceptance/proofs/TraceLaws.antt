@@ -9,14 +9,14 @@ use lib.ListN.{length, getD}
 use lib.Dec.{eqb}
 use borrow.Author.Tests.{eq-eqb, ne-eqb}
 use Rattle.meaning.specs.OneRow.{TraceStep, lastOf}
-use Rattle.acceptance.specs.Sheets.{System, size}
-use Rattle.acceptance.specs.SheetTexts.{twoAt, stepIn}
-use Rattle.acceptance.specs.working.SheetReading.{stepsIn, StepsStand}
+use Rattle.sheets.specs.Sheets.{System, size}
+use Rattle.sheets.specs.SheetTexts.{twoAt, stepIn}
+use Rattle.sheets.specs.working.SheetReading.{stepsIn, StepsStand}
 use Rattle.meaning.specs.working.Conditions.{testA, testB, testC, testE}
 use Rattle.acceptance.specs.working.Test.{mapAnswer, walk, traceAnswer}
 use Rattle.acceptance.specs.declared.outcome.Outcome.{Outcome}
 use Rattle.acceptance.specs.declared.outcome.Outcome.the-variants.{SafeHolds, TraceHolds, FailsA, FailsB, FailsC, FailsD, FailsE, FailsF}
-use Rattle.acceptance.proofs.SheetLaws.{record-parts, step-parts}
+use Rattle.sheets.proofs.SheetLaws.{record-parts, step-parts}
 
 -- The outcome for a map, from what was found of A, B and C.
 module _ (M : System) (map : List ℕ) where

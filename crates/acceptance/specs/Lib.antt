@@ -1,6 +1,4 @@
--- Which bytes say which sheets, and what the test answers. What has to be believed stands here; `working` holds tools.
-pub mod Sheets
-pub mod SheetTexts
+-- What the test answers. What has to be believed stands here; `working` holds tools.
 pub mod Outcomes
 pub mod Promises
 pub mod Cases

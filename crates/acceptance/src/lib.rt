@@ -1,25 +1,24 @@
 // The acceptance test: whether a sheet is evidence for the model that a text says.
-pub mod fields;
 mod maps;
 pub mod outcome;
-mod sheets;
 mod traces;
 
 ghost use mathlib.Core.Path.{_≡_};
 ghost use Rattle.evaluation.specs.working.CodeSystem.{Sound};
-ghost use Rattle.acceptance.specs.SheetTexts.{AreBytes};
-ghost use Rattle.acceptance.specs.working.Test.{systemIn, outcomeOf, testOf};
+ghost use Rattle.sheets.specs.SheetTexts.{AreBytes};
+ghost use Rattle.sheets.specs.working.FlatSystem.{systemIn};
+ghost use Rattle.acceptance.specs.working.Test.{outcomeOf, testOf};
 use evaluation::numbers::power;
 use evaluation::plan::Plan;
-use fields::HEADER;
-use fields::bytes_known;
-use fields::map_length;
 use maps::test_map;
 use outcome::Outcome;
 use reader::Answer;
 use reader::read_into;
-use sheets::Shape;
-use sheets::shape_of;
+use sheets::fields::HEADER;
+use sheets::fields::bytes_known;
+use sheets::fields::map_length;
+use sheets::shapes::Shape;
+use sheets::shapes::shape_of;
 use traces::test_trace;
 
 // The outcome for a sheet and the flat form of a model.

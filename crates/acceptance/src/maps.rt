@@ -6,9 +6,9 @@ ghost use Rattle.meaning.specs.Evidence.{inMap};
 ghost use Rattle.meaning.specs.working.Conditions.{every, testA, testB, testC, closedAt};
 ghost use Rattle.evaluation.specs.working.Batches.{afterOf};
 ghost use Rattle.evaluation.specs.working.CodeSystem.{startsIn, breaksIn, nextIn, starsIn, Sound};
-ghost use Rattle.acceptance.specs.working.SheetReading.{mapIn};
-ghost use Rattle.acceptance.specs.working.Test.{systemIn, mapAnswer};
-use crate::fields::wide;
+ghost use Rattle.sheets.specs.working.SheetReading.{mapIn};
+ghost use Rattle.sheets.specs.working.FlatSystem.{systemIn};
+ghost use Rattle.acceptance.specs.working.Test.{mapAnswer};
 use crate::outcome::Outcome;
 use evaluation::lanes::fill;
 use evaluation::lanes::first_rows;
@@ -19,6 +19,7 @@ use evaluation::one_row::segment;
 use evaluation::one_row::starts;
 use evaluation::one_row::word_count;
 use evaluation::plan::Plan;
+use sheets::fields::wide;
 
 // Whether state s is a member.
 fn in_map(b: &[u8], p: usize, n: usize, s: usize) -> bool

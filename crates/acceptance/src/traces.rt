@@ -2,16 +2,17 @@
 ghost use mathlib.Core.Path.{_≡_};
 ghost use Prim.Native.Nat.{_^_, _≤_};
 ghost use Rattle.evaluation.specs.working.CodeSystem.{starsIn, Sound};
-ghost use Rattle.acceptance.specs.working.SheetReading.{TraceStands};
-ghost use Rattle.acceptance.specs.working.Test.{systemIn, traceFrom};
-use crate::fields::step_count;
-use crate::fields::two_at;
-use crate::fields::wide;
+ghost use Rattle.sheets.specs.working.SheetReading.{TraceStands};
+ghost use Rattle.sheets.specs.working.FlatSystem.{systemIn};
+ghost use Rattle.acceptance.specs.working.Test.{traceFrom};
 use crate::outcome::Outcome;
 use evaluation::one_row::breaks;
 use evaluation::one_row::starts;
 use evaluation::one_row::step;
 use evaluation::plan::Plan;
+use sheets::fields::step_count;
+use sheets::fields::two_at;
+use sheets::fields::wide;
 
 // The outcome for a trace: the first of the three that fails, if one does.
 pub fn test_trace(b: &[u8], p: usize, ops: &[u16; 2048], plan: Plan) -> Outcome

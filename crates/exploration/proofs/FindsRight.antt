@@ -12,9 +12,9 @@ use Rattle.notation.specs.Regular.{Regular}
 use Rattle.meaning.specs.Meaning.{Safe, Unsafe}
 use Rattle.meaning.specs.OneRow.{One, stateCount, spread, TraceStep, spreadStep}
 use Rattle.meaning.specs.Evidence.{inMap, TracePasses}
-use Rattle.acceptance.specs.Sheets.{systemOf, mapLength}
-use Rattle.acceptance.specs.SheetTexts.{unusedClear}
-use Rattle.acceptance.proofs.SheetOpened.{eighths}
+use Rattle.sheets.specs.Sheets.{systemOf, mapLength}
+use Rattle.sheets.specs.SheetTexts.{unusedClear}
+use Rattle.sheets.proofs.SheetOpened.{eighths}
 use Rattle.exploration.specs.Findings.{Reaches, ExactMap, FirstBreak, Finds}
 use Rattle.exploration.specs.Promises.{FoundIsRight}
 use Rattle.exploration.specs.working.Transitions.{Transitions}

@@ -9,8 +9,8 @@ use lib.Pow.{pow-pos}
 use Rattle.notation.specs.Model.{Model}
 use Rattle.meaning.specs.OneRow.{TraceStep}
 use Rattle.meaning.specs.Evidence.{safe, trace}
-use Rattle.acceptance.specs.Sheets.{System, mapLength, little, recordBytes, headerBytes, mapBytes, startBytes, stepsBytes, sheetBytes}
-use Rattle.acceptance.proofs.SheetWritten.{steps-length}
+use Rattle.sheets.specs.Sheets.{System, mapLength, little, recordBytes, headerBytes, mapBytes, startBytes, stepsBytes, sheetBytes}
+use Rattle.sheets.proofs.SheetWritten.{steps-length}
 use Rattle.exploration.specs.Findings.{evidenceOf}
 use Rattle.exploration.specs.working.Transitions.{Transitions}
 use Rattle.exploration.specs.working.Exploring.{Progress, broke, through, search}

@@ -13,8 +13,8 @@ use Rattle.meaning.specs.Bits.{bit, first, number}
 use Rattle.meaning.specs.OneRow.{stateCount}
 use Rattle.meaning.specs.Evidence.{inMap}
 use Rattle.meaning.proofs.Number.{number-first}
-use Rattle.acceptance.specs.Sheets.{mapLength}
-use Rattle.acceptance.proofs.UnusedBits.{unused-bits}
+use Rattle.sheets.specs.Sheets.{mapLength}
+use Rattle.sheets.proofs.UnusedBits.{unused-bits}
 use Rattle.exploration.specs.Findings.{ExactMap}
 use Rattle.exploration.proofs.Order.{lt-or-ge}
 

@@ -11,8 +11,8 @@ use lib.ListN.{length, getD, List·getD-eq-default}
 use Rattle.meaning.specs.Bits.{bit, first, number}
 use Rattle.meaning.specs.Evidence.{inMap}
 use Rattle.meaning.proofs.Number.{bit-number, number-lt, first-length}
-use Rattle.acceptance.specs.SheetTexts.{AreBytes, unusedClear}
-use Rattle.acceptance.proofs.UnusedBits.{unused-bits}
+use Rattle.sheets.specs.SheetTexts.{AreBytes, unusedClear}
+use Rattle.sheets.proofs.UnusedBits.{unused-bits}
 use Rattle.exploration.specs.working.Written.{bitAt, mapByte, mapFrom}
 use Rattle.exploration.proofs.Order.{lt-or-ge}
 use Rattle.exploration.proofs.Map.{map-length}

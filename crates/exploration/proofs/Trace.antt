@@ -7,7 +7,7 @@ use mathlib.Core.List.{List, [], _∷_, _++_, append-nil}
 use native.Mathlib.Omega.{arith}
 use lib.ListN.{length, getD, set, take}
 use lib.Seq.{sets, length-sets, set-comm, getD-take}
-use Rattle.acceptance.specs.Sheets.{startBytes, stepBytes, stepsBytes}
+use Rattle.sheets.specs.Sheets.{startBytes, stepBytes, stepsBytes}
 use Rattle.exploration.specs.working.Transitions.{Transitions, Lawful, Move, moves}
 use Rattle.exploration.specs.working.Runs.{Run, startsAt, goesOn, final, MoveOf, Valid, steps, firstMove, runTo, Traced, stepOf, stepsOf}
 use Rattle.exploration.specs.working.Written.{runBytes, RecordedTo}

@@ -11,8 +11,8 @@ use borrow.Author.Tests.{eq-eqb}
 use Rattle.notation.specs.Regular.{Every}
 use Rattle.meaning.specs.OneRow.{TraceStep, lastOf}
 use Rattle.meaning.specs.working.Conditions.{testE}
-use Rattle.acceptance.specs.Sheets.{little, recordBytes, startBytes, stepBytes, stepsBytes}
-use Rattle.acceptance.proofs.SheetWritten.{steps-length}
+use Rattle.sheets.specs.Sheets.{little, recordBytes, startBytes, stepBytes, stepsBytes}
+use Rattle.sheets.proofs.SheetWritten.{steps-length}
 use Rattle.exploration.specs.working.Transitions.{Transitions, Move}
 use Rattle.exploration.specs.working.Runs.{Run, startsAt, goesOn, final, steps, startOf, stepOf, stepsOf}
 use Rattle.exploration.specs.working.Written.{runBytes}

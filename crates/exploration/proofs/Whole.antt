@@ -8,7 +8,7 @@ use native.Mathlib.Omega.{arith}
 use lib.ListN.{length, getD, take, drop, replicate, length-append, length-map}
 use lib.Seq.{length-take-le, getD-take}
 use lib.Dec.{ltb}
-use Rattle.acceptance.specs.Sheets.{mapLength}
+use Rattle.sheets.specs.Sheets.{mapLength}
 use Rattle.exploration.specs.Findings.{safeBy, unsafeBy}
 use Rattle.exploration.specs.working.Transitions.{Transitions, Lawful}
 use Rattle.exploration.specs.working.Exploring.{broke, search}

@@ -10,8 +10,8 @@ use Rattle.notation.specs.Model.{Model}
 use Rattle.meaning.specs.Meaning.{State, Move, IsRun, Breaks, last, Safe, Unsafe}
 use Rattle.meaning.specs.OneRow.{One, stateNumber, stateCount, TraceStep}
 use Rattle.meaning.specs.Evidence.{Sheet, safe, trace, inMap, TracePasses}
-use Rattle.acceptance.specs.Sheets.{mapLength}
-use Rattle.acceptance.specs.SheetTexts.{AreBytes, unusedClear}
+use Rattle.sheets.specs.Sheets.{mapLength}
+use Rattle.sheets.specs.SheetTexts.{AreBytes, unusedClear}
 use Rattle.exploration.specs.Order.{RunBefore}
 
 -- Some run of the table of one row leads to the state numbered t.

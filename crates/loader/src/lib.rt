@@ -4,7 +4,7 @@ ghost use mathlib.Core.Path.{_≡_};
 ghost use Prim.Native.Nat.{_+_, _≤_};
 ghost use Rattle.acceptance.specs.Outcomes.{wordingOf};
 ghost use Rattle.acceptance.specs.Promises.{answerTo, Bounded};
-ghost use Rattle.acceptance.specs.SheetTexts.{AreBytes};
+ghost use Rattle.sheets.specs.SheetTexts.{AreBytes};
 ghost use Rattle.loader.specs.Numbers.{testNumber, modelNumber, readNumber};
 ghost use Rattle.loader.specs.Promises.{readingTo};
 use acceptance::outcome::Outcome;

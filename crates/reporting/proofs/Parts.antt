@@ -6,7 +6,7 @@ use Prim.Native.Nat.{ℕ, _+_, _-_}
 use native.Mathlib.Omega.{arith}
 use lib.ListN.{getD, take, drop}
 use Rattle.reader.specs.declared.Code.{Code}
-use Rattle.acceptance.specs.SheetTexts.{twoAt, stepIn}
+use Rattle.sheets.specs.SheetTexts.{twoAt, stepIn}
 use Rattle.lines.specs.Puts.{Fits, Puts}
 use Rattle.lines.proofs.Stores.{behind, first-fits, rest-fits}
 use Rattle.reporting.specs.Reports.{unsafeLine, startLine, stepLine}

@@ -17,7 +17,7 @@ use Rattle.notation.proofs.Texts.{says-iff-answer}
 use Rattle.meaning.specs.OneRow.{TraceStep}
 use Rattle.meaning.specs.Evidence.{StepFits}
 use Rattle.meaning.proofs.Lists.{weaken}
-use Rattle.acceptance.specs.Sheets.{systemOf}
+use Rattle.sheets.specs.Sheets.{systemOf}
 use Rattle.exploration.specs.Findings.{Verdict, safeBy, unsafeBy}
 use Rattle.search.proofs.SheetBytes.{word-lt}
 use Rattle.io.specs.Counts.{Counts}

@@ -13,7 +13,7 @@ use Rattle.notation.proofs.Texts.{refused-answer}
 use Rattle.meaning.specs.OneRow.{TraceStep}
 use Rattle.meaning.specs.Evidence.{trace}
 use Rattle.reader.specs.Read.{readingOf}
-use Rattle.acceptance.specs.Sheets.{systemOf, sheetBytes}
+use Rattle.sheets.specs.Sheets.{systemOf, sheetBytes}
 use Rattle.exploration.specs.Findings.{Verdict, safeBy, unsafeBy}
 use Rattle.search.specs.declared.finding.Finding.the-variants.{Safe, Unsafe, Refused}
 use Rattle.search.specs.Promises.{Room}

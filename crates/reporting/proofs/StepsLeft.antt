@@ -7,8 +7,8 @@ use native.Mathlib.Omega.{arith}
 use lib.ListN.{length}
 use Rattle.notation.specs.Regular.{Every}
 use Rattle.meaning.specs.OneRow.{TraceStep}
-use Rattle.acceptance.specs.SheetTexts.{stepIn}
-use Rattle.acceptance.specs.working.SheetReading.{stepsIn}
+use Rattle.sheets.specs.SheetTexts.{stepIn}
+use Rattle.sheets.specs.working.SheetReading.{stepsIn}
 use Rattle.lines.specs.Puts.{Fits, Puts}
 use Rattle.lines.proofs.Stores.{none, behind, keeps, first-fits, rest-fits}
 use Rattle.reporting.specs.Reports.{stepLines}

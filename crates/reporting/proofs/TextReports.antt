@@ -20,11 +20,11 @@ use Rattle.meaning.proofs.Lists.{weaken}
 use Rattle.evaluation.proofs.Powers.{pow-small}
 use Rattle.reader.specs.declared.Code.{Code}
 use Rattle.reader.specs.Read.{codeOf, nameArray, readingIn, readingOf}
-use Rattle.acceptance.specs.Sheets.{System, size, systemOf, sheetBytes, headerBytes, startBytes, stepsBytes, recordBytes, little}
-use Rattle.acceptance.specs.SheetTexts.{twoAt}
-use Rattle.acceptance.specs.working.SheetReading.{stepsIn}
+use Rattle.sheets.specs.Sheets.{System, size, systemOf, sheetBytes, headerBytes, startBytes, stepsBytes, recordBytes, little}
+use Rattle.sheets.specs.SheetTexts.{twoAt}
+use Rattle.sheets.specs.working.SheetReading.{stepsIn}
 use Rattle.acceptance.proofs.TestMeans.{numbers-fit}
-use Rattle.acceptance.proofs.SheetWritten.{two-little, steps-there}
+use Rattle.sheets.proofs.SheetWritten.{two-little, steps-there}
 use Rattle.exploration.specs.Findings.{Verdict, safeBy, unsafeBy, evidenceOf, Finds}
 use Rattle.exploration.proofs.FindsRight.{finds}
 use Rattle.exploration.proofs.FoundShort.{trace-sheet-length}

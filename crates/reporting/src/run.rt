@@ -1,15 +1,15 @@
 // The run that a trace says: the verdict, the start state, and a line for each step.
-ghost use Rattle.acceptance.specs.SheetTexts.{stepIn};
+ghost use Rattle.sheets.specs.SheetTexts.{stepIn};
 ghost use Rattle.lines.specs.Puts.{Fits, Puts};
 ghost use Rattle.reporting.specs.Reports.{unsafeLine, startLine, stepLine};
 ghost use Rattle.reporting.specs.working.Writing.{nameIn, Named, recordLine, runLines, StepShown, Shown};
 use crate::names::Names;
 use crate::names::put_name;
-use acceptance::fields::HEADER;
-use acceptance::fields::two_at;
-use acceptance::fields::wide;
 use lines::put;
 use lines::put_number;
+use sheets::fields::HEADER;
+use sheets::fields::two_at;
+use sheets::fields::wide;
 
 // `unsafe` and the number of steps.
 fn put_verdict(out: &mut [u8], at: usize, steps: usize) -> usize

@@ -4,7 +4,7 @@ use Prim.Native.Nat.{ℕ, _+_, _*_, _≤_}
 use native.Mathlib.Omega.{arith}
 use lib.ListN.{length}
 use Rattle.notation.proofs.Places.{refusals-bounded}
-use Rattle.acceptance.specs.Sheets.{systemOf, sheetBytes}
+use Rattle.sheets.specs.Sheets.{systemOf, sheetBytes}
 use Rattle.search.specs.Answers.{wordingOf}
 use Rattle.search.specs.Promises.{answerOf, Bounded, AnswersBounded}
 use Rattle.exploration.specs.Findings.{Verdict, safeBy, unsafeBy, evidenceOf}

@@ -1,7 +1,7 @@
 -- The table of cases holds: the definitions compute every row of it, from the bytes of the text and of the sheet.
 -- Assumes nothing.
 use mathlib.Core.Path.{refl}
-use Rattle.acceptance.specs.Sheets.{little, recordBytes, headerBytes, mapBytes, startBytes, stepBytes, stepsBytes, sheetBytes}
+use Rattle.sheets.specs.Sheets.{little, recordBytes, headerBytes, mapBytes, startBytes, stepBytes, stepsBytes, sheetBytes}
 use Rattle.acceptance.proofs.TestCases.{answering}
 use Rattle.exploration.specs.working.Transitions.{wordsFrom, movesFrom}
 use Rattle.exploration.specs.working.Exploring.{tryMoves, explore, takeIn, search}

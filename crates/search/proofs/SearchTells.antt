@@ -19,7 +19,7 @@ use Rattle.notation.proofs.Regular.{all-regular}
 use Rattle.meaning.specs.Meaning.{Safe, Unsafe}
 use Rattle.meaning.specs.OneRow.{One, stateCount}
 use Rattle.notation.proofs.Booleans.{and-split, and-join}
-use Rattle.acceptance.specs.Sheets.{sheetRoom, systemOf, little, recordBytes, headerBytes, sheetBytes}
+use Rattle.sheets.specs.Sheets.{sheetRoom, systemOf, little, recordBytes, headerBytes, sheetBytes}
 use Rattle.exploration.specs.Findings.{Verdict, safeBy, unsafeBy, evidenceOf, Finds}
 use Rattle.search.specs.Answers.{Wording, verdict, returned, wordingOf}
 use Rattle.search.specs.Left.{Left}

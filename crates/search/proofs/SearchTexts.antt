@@ -21,8 +21,9 @@ use Rattle.reader.specs.declared.Code.{Code}
 use Rattle.reader.specs.declared.Reading.{Reading}
 use Rattle.reader.specs.Read.{filled, codeOf, readingIn, readingOf}
 use Rattle.evaluation.specs.working.CodeSystem.{Sound}
-use Rattle.acceptance.specs.Sheets.{System, size, systemOf, headerBytes, sheetBytes}
-use Rattle.acceptance.specs.working.Test.{planOf, systemIn}
+use Rattle.sheets.specs.Sheets.{System, size, systemOf, headerBytes, sheetBytes}
+use Rattle.sheets.specs.working.FlatSystem.{systemIn}
+use Rattle.acceptance.specs.working.Test.{planOf}
 use Rattle.acceptance.proofs.TestTexts.{counts, star-count, flat-code, flat}
 use Rattle.exploration.specs.Findings.{Verdict, safeBy, unsafeBy, evidenceOf}
 use Rattle.exploration.specs.working.Found.{foundIn, transitionsOf, Agrees}

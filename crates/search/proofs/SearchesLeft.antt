@@ -13,9 +13,9 @@ use borrow.Author.Tests.{le-leb, lt-leb}
 use Rattle.evaluation.proofs.Powers.{pow-small}
 use Rattle.evaluation.specs.declared.plan.Plan.{Plan}
 use Rattle.evaluation.specs.working.CodeSystem.{Sound}
-use Rattle.acceptance.specs.Sheets.{System, size, headerLength, sheetRoom, little, recordBytes, headerBytes, mapLength}
-use Rattle.acceptance.specs.working.SheetReading.{countsIn}
-use Rattle.acceptance.specs.working.Test.{systemIn}
+use Rattle.sheets.specs.Sheets.{System, size, headerLength, sheetRoom, little, recordBytes, headerBytes, mapLength}
+use Rattle.sheets.specs.working.SheetReading.{countsIn}
+use Rattle.sheets.specs.working.FlatSystem.{systemIn}
 use Rattle.exploration.specs.working.Transitions.{Transitions, Lawful}
 use Rattle.traversal.specs.working.CodeTransitions.{transitionsIn}
 use Rattle.exploration.specs.working.Tables.{Ran}

@@ -11,8 +11,8 @@ use Rattle.meaning.specs.Meaning.{idle, commandAt}
 use Rattle.meaning.specs.OneRow.{wordCount, TraceStep}
 use Rattle.meaning.specs.Evidence.{safe, trace, StepFits}
 use Rattle.meaning.proofs.Lists.{every-at}
-use Rattle.acceptance.specs.Sheets.{systemOf, little, recordBytes, headerBytes, mapBytes, startBytes, stepBytes, stepsBytes, sheetBytes}
-use Rattle.acceptance.specs.SheetTexts.{AreBytes}
+use Rattle.sheets.specs.Sheets.{systemOf, little, recordBytes, headerBytes, mapBytes, startBytes, stepBytes, stepsBytes, sheetBytes}
+use Rattle.sheets.specs.SheetTexts.{AreBytes}
 
 -- Lists of bytes.
 none : AreBytes []

@@ -8,7 +8,7 @@ use lib.ListN.{length}
 use lib.Seq.{sets}
 use Rattle.statements.proofs.StoredCode.{sets-append}
 use Rattle.meaning.specs.OneRow.{TraceStep}
-use Rattle.acceptance.specs.Sheets.{System, size, little, recordBytes, headerBytes, mapBytes, startBytes, stepsBytes, sheetBytes}
+use Rattle.sheets.specs.Sheets.{System, size, little, recordBytes, headerBytes, mapBytes, startBytes, stepsBytes, sheetBytes}
 use Rattle.exploration.specs.Findings.{Verdict, safeBy, unsafeBy}
 use Rattle.exploration.specs.working.Written.{headBytes}
 use Rattle.exploration.proofs.FoundShort.{map-sheet-length, trace-sheet-length}

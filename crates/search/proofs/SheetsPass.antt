@@ -16,8 +16,8 @@ use Rattle.meaning.specs.Evidence.{Sheet, safe, trace, MapPasses}
 use Rattle.meaning.proofs.Number.{spread-stateNumber, stateNumber-spread}
 use Rattle.meaning.proofs.OneRow.{next-stays}
 use Rattle.evaluation.proofs.Powers.{pow-small}
-use Rattle.acceptance.specs.Sheets.{systemOf, sheetRoom, sheetBytes}
-use Rattle.acceptance.specs.SheetTexts.{SheetSays}
+use Rattle.sheets.specs.Sheets.{systemOf, sheetRoom, sheetBytes}
+use Rattle.sheets.specs.SheetTexts.{SheetSays}
 use Rattle.acceptance.specs.Outcomes.{words}
 use Rattle.acceptance.specs.Promises.{answerTo}
 use Rattle.acceptance.proofs.Claims.{pass-tells}

@@ -11,8 +11,8 @@ use Rattle.notation.specs.Model.{Model}
 use Rattle.notation.specs.Texts.{longestText, TextSays, TextRefused}
 use Rattle.meaning.specs.Meaning.{Safe, Unsafe}
 use Rattle.meaning.specs.OneRow.{One, stateCount}
-use Rattle.acceptance.specs.Sheets.{systemOf, sheetRoom, sheetBytes}
-use Rattle.acceptance.specs.SheetTexts.{AreBytes}
+use Rattle.sheets.specs.Sheets.{systemOf, sheetRoom, sheetBytes}
+use Rattle.sheets.specs.SheetTexts.{AreBytes}
 use Rattle.acceptance.specs.Outcomes.{words}
 use Rattle.acceptance.specs.Promises.{answerTo, TestPromise}
 use Rattle.exploration.specs.Findings.{Verdict, evidenceOf, Finds}

@@ -1,6 +1,6 @@
 // The search for programs in C and Python: a slice is a pointer and a length there, and the answer is one number.
 ghost use mathlib.Core.Path.{_≡_};
-ghost use Rattle.acceptance.specs.SheetTexts.{AreBytes};
+ghost use Rattle.sheets.specs.SheetTexts.{AreBytes};
 ghost use Rattle.search.specs.Answers.{wordingOf};
 ghost use Rattle.search.specs.Left.{Leaves};
 ghost use Rattle.search.specs.Promises.{Bounded, answerOf};

@@ -3,7 +3,7 @@ ghost use mathlib.Core.Path.{_≡_};
 ghost use mathlib.Core.List.{[], _∷_};
 ghost use Prim.Native.Nat.{_+_, _<_, _≤_};
 ghost use lib.Seq.{sets};
-ghost use Rattle.acceptance.specs.Sheets.{recordBytes, startBytes, stepBytes};
+ghost use Rattle.sheets.specs.Sheets.{recordBytes, startBytes, stepBytes};
 ghost use Rattle.exploration.specs.working.Transitions.{moveOf};
 ghost use Rattle.exploration.specs.working.Runs.{stepOf};
 ghost use Rattle.exploration.specs.working.Written.{headBytes};

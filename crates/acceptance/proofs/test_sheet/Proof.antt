@@ -1,9 +1,9 @@
 -- `test_sheet` meets its contract: the first pass finds the sheet's kind, and its conditions decide.
 -- Assumes nothing.
 use mathlib.Core.List.{[]}
-use Rattle.acceptance.specs.working.Test.{systemIn}
+use Rattle.sheets.specs.working.FlatSystem.{systemIn}
 use mathlib.Core.Path.{sym, _∙_, ap}
-use Rattle.acceptance.specs.Sheets.{mapLength}
+use Rattle.sheets.specs.Sheets.{mapLength}
 use Rattle.acceptance.proofs.TestWhole.{whole-refused, map-room, map-bits, whole-map, trace-stands, trace-short, whole-trace}
 use borrow.Author.Needs.{needs}
 use Rattle.acceptance.proofs.test_sheet.Statement.{statement}

@@ -8,13 +8,12 @@ use Rattle.meaning.specs.Evidence.{Sheet, safe, trace}
 use Rattle.notation.specs.Texts.{modelOf}
 use Rattle.notation.specs.working.Machine as N
 use Rattle.notation.specs.working.Answer.{answer}
-use Rattle.evaluation.specs.working.CodeSystem.{startsIn, breaksIn, nextIn, starsIn}
 use Rattle.evaluation.specs.declared.plan.Plan.{Plan}
 use Rattle.reader.specs.declared.Code.{Code}
-use Rattle.acceptance.specs.Sheets.{System, size, systemOf}
+use Rattle.sheets.specs.Sheets.{System, size, systemOf}
 use Rattle.meaning.specs.working.Conditions.{testA, testB, testC, testE}
-use Rattle.acceptance.specs.working.SheetReading.{Reading, refused, holds, stepsIn, stepCount, sheetOf, countsIn}
-use Rattle.acceptance.specs.SheetTexts.{twoAt}
+use Rattle.sheets.specs.working.SheetReading.{Reading, refused, holds, stepsIn, stepCount, sheetOf}
+use Rattle.sheets.specs.SheetTexts.{twoAt}
 use Rattle.acceptance.specs.declared.outcome.Outcome.{Outcome}
 use Rattle.acceptance.specs.declared.outcome.Outcome.the-variants.{SafeHolds, TraceHolds, FailsA, FailsB, FailsC, FailsD, FailsE, FailsF, Refused}
 
@@ -59,20 +58,6 @@ testOf text sheet = testIn (answer text) sheet
 abbrev pub planOf : Code → Plan
 planOf c =
     record { ends = c .ends; stars = c .stars; shared = c .shared; row = c .row; commands = c .commands; bits = c .shared + c .row }
-
--- The system that a model's flat form gives.
-abbrev pub systemIn : List ℕ → Plan → System
-systemIn ops plan =
-    record {
-      bits = plan .bits;
-      kind = 1;
-      counts = countsIn plan;
-      commands = plan .commands;
-      stars = starsIn (plan .stars);
-      starts = startsIn ops (plan .ends);
-      breaks = breaksIn ops (plan .ends);
-      step = nextIn ops (plan .ends) (plan .bits);
-    }
 
 -- The outcome for the trace whose first record stands at p.
 abbrev pub traceFrom : System → List ℕ → ℕ → Outcome

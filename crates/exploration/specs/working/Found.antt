@@ -6,7 +6,7 @@ use lib.ListN.{length}
 use Rattle.notation.specs.Model.{Model}
 use Rattle.meaning.specs.Meaning.{commandAt}
 use Rattle.meaning.specs.OneRow.{stateCount, wordCount, starts, breaks, next}
-use Rattle.acceptance.specs.Sheets.{System, size, mapLength}
+use Rattle.sheets.specs.Sheets.{System, size, mapLength}
 use Rattle.exploration.specs.Findings.{Verdict, safeBy, unsafeBy}
 use Rattle.exploration.specs.working.Transitions.{Transitions}
 use Rattle.exploration.specs.working.Runs.{startOf, stepsOf}

@@ -6,7 +6,7 @@ use mathlib.Core.Bool.{Bool, false, cond}
 use mathlib.Core.List.{List, [], _∷_, _++_}
 use lib.ListN.{getD, take}
 use lib.Seq.{sets}
-use Rattle.acceptance.specs.Sheets.{little, startBytes, stepsBytes}
+use Rattle.sheets.specs.Sheets.{little, startBytes, stepsBytes}
 use Rattle.exploration.specs.working.Transitions.{Transitions}
 use Rattle.exploration.specs.working.Runs.{Run, final, Valid, steps, Traced, runTo, startOf, stepsOf}
 

@@ -6,7 +6,7 @@ use Rattle.notation.specs.Model.{Model}
 use Rattle.notation.specs.Texts.{modelOf}
 use Rattle.notation.specs.working.Machine.{Outcome, read, refused}
 use Rattle.notation.specs.working.Answer.{answer}
-use Rattle.acceptance.specs.Sheets.{systemOf}
+use Rattle.sheets.specs.Sheets.{systemOf}
 use Rattle.exploration.specs.Findings.{Verdict}
 use Rattle.exploration.specs.working.Found.{foundIn, transitionsOf}
 use Rattle.lines.specs.Lines.{refusalLine}

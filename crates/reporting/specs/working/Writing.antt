@@ -7,8 +7,8 @@ use Rattle.notation.specs.Tokens.{Word}
 use Rattle.notation.specs.Regular.{Every}
 use Rattle.meaning.specs.OneRow.{TraceStep}
 use Rattle.reader.specs.declared.Code.{Code}
-use Rattle.acceptance.specs.SheetTexts.{twoAt, stepIn}
-use Rattle.acceptance.specs.working.SheetReading.{stepsIn}
+use Rattle.sheets.specs.SheetTexts.{twoAt, stepIn}
+use Rattle.sheets.specs.working.SheetReading.{stepsIn}
 use Rattle.reporting.specs.Reports.{countsLine, safeLine, unsafeLine, startLine, stepLine, stepLines}
 
 -- The bytes of name i in the text.

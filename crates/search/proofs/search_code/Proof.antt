@@ -4,7 +4,7 @@ use Rattle.search.proofs.SearchesLeft.{first-short, second-short, sheet
 use Rattle.evaluation.proofs.Powers.{pow-small}
 use native.Mathlib.Omega.{arith}
 use Prim.Native.Nat.{_+_}
-use Rattle.acceptance.specs.working.Test.{systemIn}
+use Rattle.sheets.specs.working.FlatSystem.{systemIn}
 use borrow.Author.Needs.{needs}
 use Rattle.search.proofs.search_code.Statement.{statement}
 use Rattle.search.proofs.search_code.Tie as tie

@@ -11,7 +11,7 @@ use Rattle.notation.specs.Texts.{modelOf}
 use Rattle.notation.specs.working.Machine as N
 use Rattle.notation.specs.working.Answer.{answer}
 use Rattle.reader.specs.working.Commands.{Lent}
-use Rattle.acceptance.specs.Sheets.{System, size, sheetRoom, systemOf, sheetBytes}
+use Rattle.sheets.specs.Sheets.{System, size, sheetRoom, systemOf, sheetBytes}
 use Rattle.exploration.specs.Findings.{Verdict, safeBy, unsafeBy, evidenceOf}
 use Rattle.exploration.specs.working.Found.{foundIn, transitionsOf}
 use Rattle.search.specs.declared.finding.Finding.{Finding}

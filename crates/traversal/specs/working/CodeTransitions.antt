@@ -3,7 +3,7 @@
 use mathlib.Core.List.{List}
 use Prim.Native.Nat.{ℕ}
 use Rattle.evaluation.specs.declared.plan.Plan.{Plan}
-use Rattle.acceptance.specs.working.Test.{systemIn}
+use Rattle.sheets.specs.working.FlatSystem.{systemIn}
 use Rattle.exploration.specs.working.Transitions.{Transitions}
 use Rattle.exploration.specs.working.Found.{transitionsOf}
 

@@ -6,7 +6,7 @@ use mathlib.Core.Bool.{true}
 use native.Mathlib.Omega.{arith}
 use borrow.Author.Needs.{needs}
 use borrow.Author.Tests.{not-true, not-false}
-use Rattle.acceptance.specs.working.SheetReading.{mapIn}
+use Rattle.sheets.specs.working.SheetReading.{mapIn}
 use Rattle.meaning.specs.working.Conditions.{closedAt, wordsStay}
 use Rattle.evaluation.specs.working.CodeSystem.{nextIn, starsIn}
 use Rattle.acceptance.proofs.Loops.{words-told, closed-none, closed-next, closed-fail, closed-done}

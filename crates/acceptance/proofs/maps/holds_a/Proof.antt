@@ -7,7 +7,7 @@ use mathlib.Core.Bool.{true}
 use mathlib.Core.Logic.{⊎-elim}
 use native.Mathlib.Omega.{arith}
 use borrow.Author.Tests.{not-true, not-false}
-use Rattle.acceptance.specs.working.SheetReading.{mapIn}
+use Rattle.sheets.specs.working.SheetReading.{mapIn}
 use Rattle.meaning.specs.working.Conditions.{testA}
 use Rattle.evaluation.specs.working.CodeSystem.{startsIn}
 use Rattle.evaluation.proofs.Powers.{pow-small}

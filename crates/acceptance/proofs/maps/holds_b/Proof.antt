@@ -6,7 +6,7 @@ use mathlib.Core.Path.{_≡_, sym, _∙_}
 use mathlib.Core.Bool.{true}
 use mathlib.Core.Logic.{⊎-elim}
 use native.Mathlib.Omega.{arith}
-use Rattle.acceptance.specs.working.SheetReading.{mapIn}
+use Rattle.sheets.specs.working.SheetReading.{mapIn}
 use Rattle.meaning.specs.working.Conditions.{testB}
 use Rattle.evaluation.specs.working.CodeSystem.{breaksIn}
 use Rattle.evaluation.proofs.Powers.{pow-small}

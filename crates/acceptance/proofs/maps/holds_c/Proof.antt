@@ -7,7 +7,7 @@ use mathlib.Core.Logic.{⊎-elim}
 use native.Mathlib.Omega.{arith}
 use borrow.Author.Needs.{needs}
 use borrow.Author.Tests.{not-true, not-false}
-use Rattle.acceptance.specs.working.SheetReading.{mapIn}
+use Rattle.sheets.specs.working.SheetReading.{mapIn}
 use Rattle.meaning.specs.working.Conditions.{testC}
 use Rattle.evaluation.specs.working.CodeSystem.{nextIn, starsIn}
 use Rattle.acceptance.proofs.Loops.{c-none, c-other, c-closed, c-fail, c-done}

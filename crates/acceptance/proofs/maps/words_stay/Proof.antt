@@ -6,7 +6,7 @@ use mathlib.Core.Bool.{true}
 use native.Mathlib.Omega.{arith}
 use lib.Seq.{slice}
 use borrow.Author.Tests.{not-true, not-false}
-use Rattle.acceptance.specs.working.SheetReading.{mapIn}
+use Rattle.sheets.specs.working.SheetReading.{mapIn}
 use Rattle.meaning.specs.working.Conditions.{every}
 use Rattle.meaning.specs.Evidence.{inMap}
 use Rattle.evaluation.specs.working.Batches.{afterOf}

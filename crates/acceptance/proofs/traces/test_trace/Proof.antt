@@ -6,11 +6,12 @@ use mathlib.Core.Path.{_≡_, refl, sym, _∙_, subst}
 use native.Mathlib.Omega.{arith}
 use lib.ListN.{length}
 use borrow.Author.Tests.{not-true, not-false}
-use Rattle.acceptance.specs.working.Test.{systemIn, walk}
-use Rattle.acceptance.specs.working.SheetReading.{stepsIn, stepCount, StepsStand}
+use Rattle.sheets.specs.working.FlatSystem.{systemIn}
+use Rattle.acceptance.specs.working.Test.{walk}
+use Rattle.sheets.specs.working.SheetReading.{stepsIn, stepCount, StepsStand}
 use Rattle.evaluation.specs.working.CodeSystem.{starsIn}
 use Rattle.evaluation.proofs.Powers.{pow-small}
-use Rattle.acceptance.proofs.SheetLaws.{record-parts}
+use Rattle.sheets.proofs.SheetLaws.{record-parts}
 use Rattle.acceptance.proofs.TraceLaws.{stand-room, stand-command, stand-after, stand-rest, fails-d, goes}
 use Rattle.acceptance.proofs.TraceLaws.{walk-next, walk-fails, walk-breaks, walk-keeps, walk-start, stands-start}
 use Rattle.acceptance.proofs.traces.test_trace.Statement.{statement}

@@ -3,7 +3,7 @@
 use lib.ListN.{length-set}
 use native.Mathlib.Omega.{arith}
 use native.Mathlib.Numerals.{towards-suc}
-use Rattle.acceptance.specs.Sheets.{little}
+use Rattle.sheets.specs.Sheets.{little}
 use borrow.Author.Needs.{needs}
 use Rattle.writing.proofs.records.put_head.Statement.{statement}
 use Rattle.writing.proofs.records.put_head.Tie as tie

@@ -3,7 +3,7 @@
 use mathlib.Core.Path.{refl}
 use native.Mathlib.Omega.{arith}
 use lib.ListN.{length-set}
-use Rattle.acceptance.specs.Sheets.{little, recordBytes}
+use Rattle.sheets.specs.Sheets.{little, recordBytes}
 use borrow.Author.Needs.{needs}
 use Rattle.writing.proofs.records.put_header.Statement.{statement}
 use Rattle.writing.proofs.records.put_header.Tie as tie

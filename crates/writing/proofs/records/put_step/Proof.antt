@@ -3,7 +3,7 @@
 use lib.ListN.{length-set}
 use native.Mathlib.Omega.{arith}
 use native.Mathlib.Numerals.{towards-suc}
-use Rattle.acceptance.specs.Sheets.{little, recordBytes, stepBytes}
+use Rattle.sheets.specs.Sheets.{little, recordBytes, stepBytes}
 use borrow.Author.Needs.{needs}
 use Rattle.writing.proofs.records.put_step.Statement.{statement}
 use Rattle.writing.proofs.records.put_step.Tie as tie

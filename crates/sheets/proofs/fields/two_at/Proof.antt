@@ -1,0 +1,45 @@
+-- `two_at` meets its contract: the sum of the two bytes is the definition, and it cannot overflow.
+-- Assumes nothing.
+use Rattle.sheets.specs.SheetTexts.{twoAt}
+use native.Mathlib.Omega.{arith}
+use borrow.Author.Needs.{needs}
+use Rattle.sheets.proofs.fields.two_at.Statement.{statement}
+use Rattle.sheets.proofs.fields.two_at.Tie as tie
+
+shared-slice-read-wide : tie.Need-shared-slice-read-wide
+shared-slice-read-wide c = search needs
+
+wide-requires : tie.Need-wide-requires
+wide-requires c κs = search needs
+
+add-wide : tie.Need-add-wide
+add-wide c = search needs
+
+shared-slice-read-wide-2 : tie.Need-shared-slice-read-wide-2
+shared-slice-read-wide-2 c = search needs
+
+wide-requires-2 : tie.Need-wide-requires-2
+wide-requires-2 c κs = search needs
+
+mul-result : tie.Need-mul-result
+mul-result c = omega arith
+
+add-result : tie.Need-add-result
+add-result c = omega arith
+
+returns : tie.Need-returns
+unfolding twoAt
+returns c = (omega arith, omega arith)
+
+pub two-at-spec : {M : Type 1} → statement M
+two-at-spec =
+    tie.close
+    (tie.spec
+    shared-slice-read-wide
+    wide-requires
+    add-wide
+    shared-slice-read-wide-2
+    wide-requires-2
+    mul-result
+    add-result
+    returns)

@@ -1,0 +1,54 @@
+// Numbers in a sheet's bytes, and how long a map is: what the crates above need of sheets too.
+ghost use mathlib.Core.Path.{_≡_};
+ghost use Prim.Native.Nat.{_+_, _*_, _<_, _≤_};
+ghost use lib.ListN.{length};
+ghost use Rattle.sheets.specs.Sheets.{mapLength};
+ghost use Rattle.sheets.specs.SheetTexts.{twoAt, AreBytes};
+ghost use Rattle.sheets.specs.working.SheetReading.{stepCount};
+
+// How many bytes a header has: six, and three counts.
+pub const HEADER: usize = 9;
+
+// That what was handed over are bytes: to have read one of them tells it of all.
+pub fn bytes_known(b: &[u8])
+    ensures { λ _. ⌜ AreBytes (now (b .entry)) ⌝ }
+{
+    if b.len() == 0 {
+        return;
+    }
+    let first = b[0];
+}
+
+// A byte as a number.
+pub fn wide(x: u8) -> usize
+    ensures { λ r. ⌜ (r ≡ x) × (r < 256) ⌝ }
+{
+    x as usize
+}
+
+// The two-byte number at p.
+pub fn two_at(b: &[u8], p: usize) -> usize
+    requires { do ⌜ p + 2 ≤ (← ⟦b.len()⟧) ⌝ }
+    ensures { λ r. ⌜ (r ≡ twoAt (now (b .entry)) p) × (r < 65536) ⌝ }
+{
+    wide(b[p]) + 256 * wide(b[p + 1])
+}
+
+// How many bytes a map has.
+pub fn map_length(states: usize) -> usize
+    ensures { λ r. ⌜ r ≡ mapLength states ⌝ }
+{
+    let n = states / 8;
+    if n == 0 {
+        return 1;
+    }
+    n
+}
+
+// How many records of steps are begun from p on.
+pub fn step_count(b: &[u8], p: usize) -> usize
+    requires { do ⌜ (p ≤ (← ⟦b.len()⟧)) × ((← ⟦b.len()⟧) ≤ 65536) ⌝ }
+    ensures { λ r. ⌜ (r ≡ stepCount (now (b .entry)) p) × (p + 10 * r < length (now (b .entry)) + 10) ⌝ }
+{
+    (b.len() + 9 - p) / 10
+}

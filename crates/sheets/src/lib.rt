@@ -1,0 +1,3 @@
+// Sheets of evidence: numbers in their bytes, and what the first pass over them finds.
+pub mod fields;
+pub mod shapes;
