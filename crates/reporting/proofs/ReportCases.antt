@@ -1,7 +1,7 @@
 -- The table of cases holds: the definitions compute every report in it from the bytes of its text.
 -- Assumes nothing.
 use mathlib.Core.Path.{refl}
-use Rattle.search.proofs.SearchCases.{finding}
+use Rattle.verdicts.proofs.SearchCases.{finding}
 use Rattle.lines.specs.Lines.{digitsUpTo, others, line}
 use Rattle.reporting.specs.Reports.{stepLines, commandName, verdictLines, reportLines}
 use Rattle.reporting.specs.Cases.{written, cases, AllCases}

@@ -19,7 +19,7 @@ use Rattle.meaning.specs.Evidence.{StepFits}
 use Rattle.meaning.proofs.Lists.{weaken}
 use Rattle.sheets.specs.Sheets.{systemOf}
 use Rattle.exploration.specs.Findings.{Verdict, safeBy, unsafeBy}
-use Rattle.search.proofs.SheetBytes.{word-lt}
+use Rattle.verdicts.proofs.SheetBytes.{word-lt}
 use Rattle.io.specs.Counts.{Counts}
 use Rattle.lines.specs.Lines.{decimalOf, line}
 use Rattle.lines.specs.Puts.{Fits, Puts}

@@ -15,13 +15,13 @@ use Rattle.meaning.specs.Evidence.{trace}
 use Rattle.reader.specs.Read.{readingOf}
 use Rattle.sheets.specs.Sheets.{systemOf, sheetBytes}
 use Rattle.exploration.specs.Findings.{Verdict, safeBy, unsafeBy}
-use Rattle.search.specs.declared.finding.Finding.the-variants.{Safe, Unsafe, Refused}
-use Rattle.search.specs.Promises.{Room}
-use Rattle.search.specs.Left.{Left}
-use Rattle.search.specs.working.Searching.{verdictOf, leftWith, leftAlone, searchOf}
-use Rattle.search.proofs.SearchTells.{whatever-left}
-use Rattle.search.proofs.SheetsPass as P
-use Rattle.search.proofs.SheetsPass.{front}
+use Rattle.verdicts.specs.declared.finding.Finding.the-variants.{Safe, Unsafe, Refused}
+use Rattle.verdicts.specs.Promises.{Room}
+use Rattle.verdicts.specs.Left.{Left}
+use Rattle.verdicts.specs.working.Searching.{verdictOf, leftWith, leftAlone, searchOf}
+use Rattle.verdicts.proofs.SearchTells.{whatever-left}
+use Rattle.verdicts.proofs.SheetsPass as P
+use Rattle.verdicts.proofs.SheetsPass.{front}
 use Rattle.lines.specs.Lines.{refusalLine}
 use Rattle.reporting.specs.working.Reporting.{foundFor, reportOf}
 use Rattle.reporting.specs.working.Writing.{safeReport, traceReport, Printable}

@@ -28,7 +28,7 @@ use Rattle.sheets.proofs.SheetWritten.{two-little, steps-there}
 use Rattle.exploration.specs.Findings.{Verdict, safeBy, unsafeBy, evidenceOf, Finds}
 use Rattle.exploration.proofs.FindsRight.{finds}
 use Rattle.exploration.proofs.FoundShort.{trace-sheet-length}
-use Rattle.search.proofs.SearchTells as Left
+use Rattle.verdicts.proofs.SearchTells as Left
 use Rattle.reporting.specs.Reports.{countsLine, unsafeLine, startLine, stepLine, stepLines, commandName, verdictLines, reportLines}
 use Rattle.reporting.specs.working.Reporting.{foundFor, reportOf}
 use Rattle.reporting.specs.working.Writing.{nameIn, Named, headerEnd, startIn, stepsOf, traceSteps, safeReport, traceReport, Printable}

@@ -8,8 +8,8 @@ ghost use lib.Seq.{sets};
 ghost use Rattle.io.specs.Counts.{Counts};
 ghost use Rattle.lines.specs.Puts.{Fits, Puts};
 ghost use Rattle.reader.specs.Read.{readingOf};
-ghost use Rattle.search.specs.Left.{Leaves};
-ghost use Rattle.search.specs.working.Searching.{searchOf};
+ghost use Rattle.verdicts.specs.Left.{Leaves};
+ghost use Rattle.verdicts.specs.working.Searching.{searchOf};
 ghost use Rattle.reporting.specs.Reports.{countsLine};
 ghost use Rattle.reporting.specs.working.Writing.{safeReport, traceReport, Printable};
 ghost use Rattle.reporting.specs.working.Reporting.{reportOf};
@@ -18,8 +18,8 @@ use lines::put_number;
 use lines::put_refusal;
 use reader::read;
 use run::put_run;
-use search::finding::Finding;
 use search::search;
+use verdicts::finding::Finding;
 
 // Every text's search can do with a table of this size: 12 names have 4,096 states.
 pub type Table = [u16; 4096];

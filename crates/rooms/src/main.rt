@@ -6,9 +6,9 @@ ghost use Rattle.io.specs.Counts.{Counts};
 use lines::put;
 use lines::put_number;
 use lines::put_refusal;
-use search::finding::Finding;
 use search::search;
 use streams::output::write_out;
+use verdicts::finding::Finding;
 
 // Room for the longest line: a number has at most 20 digits.
 type Line = [u8; 64];

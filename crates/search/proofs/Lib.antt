@@ -1,10 +1,4 @@
--- Laws of what the search leaves and of its sheets, by subject.
+-- Laws of what the code of the search leaves, by subject.
 pub mod SheetsFound
 pub mod SearchesLeft
 pub mod SearchTexts
-pub mod SearchTells
-pub mod SheetBytes
-pub mod SheetsPass
-pub mod Places
-pub mod WholeClaim
-pub mod SearchCases

@@ -27,10 +27,11 @@ use Rattle.acceptance.specs.working.Test.{planOf}
 use Rattle.acceptance.proofs.TestTexts.{counts, star-count, flat-code, flat}
 use Rattle.exploration.specs.Findings.{Verdict, safeBy, unsafeBy, evidenceOf}
 use Rattle.exploration.specs.working.Found.{foundIn, transitionsOf, Agrees}
-use Rattle.search.specs.Left.{Left, zeroed}
-use Rattle.search.specs.working.Searching.{roomy, verdictOf, leftWith, leftAlone, Ends, searchFor, searchIn, searchOf}
-use Rattle.search.specs.declared.finding.Finding.{Finding}
-use Rattle.search.specs.declared.finding.Finding.the-variants.{Refused}
+use Rattle.verdicts.specs.Left.{Left, zeroed}
+use Rattle.verdicts.specs.working.Searching.{roomy, verdictOf, leftWith, leftAlone, searchFor, searchIn, searchOf}
+use Rattle.search.specs.working.Ends.{Ends}
+use Rattle.verdicts.specs.declared.finding.Finding.{Finding}
+use Rattle.verdicts.specs.declared.finding.Finding.the-variants.{Refused}
 use Rattle.exploration.proofs.FindsRight.{finds-right, finds}
 use Rattle.exploration.proofs.FindsOnce.{finds-once}
 

@@ -20,10 +20,11 @@ use Rattle.exploration.specs.working.Transitions.{Transitions, Lawful}
 use Rattle.traversal.specs.working.CodeTransitions.{transitionsIn}
 use Rattle.exploration.specs.working.Tables.{Ran}
 use Rattle.exploration.specs.working.Written.{headBytes, runBytes, mapFrom, RecordedTo, TraceStored}
-use Rattle.search.specs.Left.{Left}
-use Rattle.search.specs.working.Searching.{roomy, foundBy, leftAlone, Ends, searchFor}
-use Rattle.search.specs.declared.finding.Finding.{Finding}
-use Rattle.search.specs.declared.finding.Finding.the-variants.{Safe, Unsafe, Refused}
+use Rattle.verdicts.specs.Left.{Left}
+use Rattle.verdicts.specs.working.Searching.{roomy, foundBy, leftAlone, searchFor}
+use Rattle.search.specs.working.Ends.{Ends}
+use Rattle.verdicts.specs.declared.finding.Finding.{Finding}
+use Rattle.verdicts.specs.declared.finding.Finding.the-variants.{Safe, Unsafe, Refused}
 use Rattle.traversal.proofs.CodeSteps.{code-lawful}
 use Rattle.exploration.proofs.Whole.{queue-cleared, parent-cleared, ran-some, ran-recorded, lastRun, ran-unsafe, ran-safe}
 use Rattle.exploration.proofs.TraceSteps.{steps-count}

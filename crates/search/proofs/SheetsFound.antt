@@ -12,9 +12,10 @@ use Rattle.sheets.specs.Sheets.{System, size, little, recordBytes, headerBytes,
 use Rattle.exploration.specs.Findings.{Verdict, safeBy, unsafeBy}
 use Rattle.exploration.specs.working.Written.{headBytes}
 use Rattle.exploration.proofs.FoundShort.{map-sheet-length, trace-sheet-length}
-use Rattle.search.specs.Left.{zeroed}
-use Rattle.search.specs.working.Searching.{verdictOf, leftWith, Ends}
-use Rattle.search.specs.declared.finding.Finding.the-variants.{Safe, Unsafe}
+use Rattle.verdicts.specs.Left.{zeroed}
+use Rattle.verdicts.specs.working.Searching.{verdictOf, leftWith}
+use Rattle.search.specs.working.Ends.{Ends}
+use Rattle.verdicts.specs.declared.finding.Finding.the-variants.{Safe, Unsafe}
 
 module _ (M : System) (o₀ : List ℕ) {o₁ : List ℕ} (h : o₁ ≡ sets o₀ 0 (headerBytes M)) where
   -- Bytes behind the header.

@@ -1,6 +1,2 @@
--- What a call of the search leaves, and in `working` how it goes about it.
-pub mod Answers
-pub mod Left
+-- What the contracts of the search cite besides what it answers and leaves.
 pub mod working
-pub mod Promises
-pub mod Cases

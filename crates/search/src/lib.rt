@@ -1,17 +1,15 @@
 // The search: the first breaking run of a model's table of one row, or the map of the states that its runs reach.
-pub mod finding;
-
 ghost use mathlib.Core.Path.{_≡_};
 ghost use Prim.Native.Nat.{_+_, _*_, _^_, _≤_};
 ghost use Rattle.evaluation.specs.working.CodeSystem.{Sound};
 ghost use Rattle.sheets.specs.Sheets.{sheetRoom};
 ghost use Rattle.sheets.specs.SheetTexts.{AreBytes};
 ghost use Rattle.sheets.specs.working.FlatSystem.{systemIn};
-ghost use Rattle.search.specs.Left.{Leaves};
-ghost use Rattle.search.specs.working.Searching.{foundBy, EndsWith, searchFor, searchOf};
+ghost use Rattle.verdicts.specs.Left.{Leaves};
+ghost use Rattle.verdicts.specs.working.Searching.{foundBy, searchFor, searchOf};
+ghost use Rattle.search.specs.working.Ends.{EndsWith};
 use evaluation::numbers::power;
 use evaluation::plan::Plan;
-use finding::Finding;
 use reader::Answer;
 use reader::read_into;
 use sheets::fields::HEADER;
@@ -19,6 +17,7 @@ use sheets::fields::bytes_known;
 use sheets::fields::map_length;
 use traversal::exploring::run;
 use traversal::traces::write_trace;
+use verdicts::finding::Finding;
 use writing::maps::write_map;
 use writing::records::put_head;
 use writing::records::put_header;

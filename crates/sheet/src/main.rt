@@ -4,12 +4,12 @@
 use libc::STDERR_FILENO;
 use libc::STDIN_FILENO;
 use lines::put_refusal;
-use search::finding::Finding;
 use search::search;
 use streams::bounds::fitting;
 use streams::output::write_out;
 use streams::whole::Got;
 use streams::whole::read_file;
+use verdicts::finding::Finding;
 
 fn write_sheet(sheet: &[u8], n: usize) {
     let k = fitting(n, sheet);

@@ -5,12 +5,12 @@ use Prim.Native.Nat.{ℕ, _≤_}
 use native.Mathlib.Omega.{arith}
 use borrow.Author.Tests.{ne-eqb}
 use Rattle.notation.specs.Bytes.{bytes}
-use Rattle.search.specs.declared.finding.Finding.{Finding}
-use Rattle.search.specs.declared.finding.Finding.the-variants.{Safe, Unsafe, Refused}
-use Rattle.search.specs.Answers.{wordingOf}
-use Rattle.search.specs.Promises.{Bounded}
-use Rattle.search.specs.working.Searching.{searchOf}
-use Rattle.search.proofs.Places.{answers-bounded}
+use Rattle.verdicts.specs.declared.finding.Finding.{Finding}
+use Rattle.verdicts.specs.declared.finding.Finding.the-variants.{Safe, Unsafe, Refused}
+use Rattle.verdicts.specs.Answers.{wordingOf}
+use Rattle.verdicts.specs.Promises.{Bounded}
+use Rattle.verdicts.specs.working.Searching.{searchOf}
+use Rattle.verdicts.proofs.Places.{answers-bounded}
 use Rattle.packing.specs.Packed.{mostAbove}
 use Rattle.packing.proofs.Packed.{low-back, above-back}
 use Rattle.workbench.specs.Numbers.{searchNumber, wordingFor, SearchNumbersTell}

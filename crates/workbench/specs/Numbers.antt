@@ -5,9 +5,9 @@ use mathlib.Core.Bool.{cond}
 use mathlib.Core.List.{List}
 use Prim.Native.Nat.{ℕ, _/_, _%_}
 use lib.Dec.{eqb}
-use Rattle.search.specs.Answers.{Wording, verdict, returned}
-use Rattle.search.specs.Promises.{answerOf}
-use Rattle.search.specs.working.Searching.{searchOf}
+use Rattle.verdicts.specs.Answers.{Wording, verdict, returned}
+use Rattle.verdicts.specs.Promises.{answerOf}
+use Rattle.verdicts.specs.working.Searching.{searchOf}
 use Rattle.packing.specs.Packed.{packed, initial}
 
 -- An answer: the verdict's first letter with the sheet's length above, or a refusal's number with its place above.

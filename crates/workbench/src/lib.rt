@@ -1,14 +1,14 @@
 // The search for programs in C and Python: a slice is a pointer and a length there, and the answer is one number.
 ghost use mathlib.Core.Path.{_≡_};
 ghost use Rattle.sheets.specs.SheetTexts.{AreBytes};
-ghost use Rattle.search.specs.Answers.{wordingOf};
-ghost use Rattle.search.specs.Left.{Leaves};
-ghost use Rattle.search.specs.Promises.{Bounded, answerOf};
-ghost use Rattle.search.specs.working.Searching.{searchOf};
+ghost use Rattle.verdicts.specs.Answers.{wordingOf};
+ghost use Rattle.verdicts.specs.Left.{Leaves};
+ghost use Rattle.verdicts.specs.Promises.{Bounded, answerOf};
+ghost use Rattle.verdicts.specs.working.Searching.{searchOf};
 ghost use Rattle.workbench.specs.Numbers.{searchNumber};
 use packing::pack;
-use search::finding::Finding;
 use search::search;
+use verdicts::finding::Finding;
 
 // The number of an answer.
 fn finding_number(finding: Finding) -> u64

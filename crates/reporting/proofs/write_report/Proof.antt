@@ -4,7 +4,7 @@ use mathlib.Core.Path.{sym, _∙_}
 use native.Mathlib.Omega.{arith}
 use borrow.Author.Needs.{needs}
 use lib.Seq.{length-take-le}
-use Rattle.search.specs.working.Searching.{searchOf}
+use Rattle.verdicts.specs.working.Searching.{searchOf}
 use Rattle.lines.proofs.Parts.{refusal-fits}
 use Rattle.reporting.proofs.ReportShort.{report-fits, report-put}
 use Rattle.reporting.proofs.Reported.{Told, told-left}

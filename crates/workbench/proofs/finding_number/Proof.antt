@@ -2,8 +2,8 @@
 -- Assumes nothing.
 use mathlib.Core.Path.{refl}
 use Rattle.notation.specs.Bytes.{bytes}
-use Rattle.search.specs.declared.finding.Finding.the-variants.{Safe, Unsafe, Refused}
-use Rattle.search.specs.Answers.{wordingOf}
+use Rattle.verdicts.specs.declared.finding.Finding.the-variants.{Safe, Unsafe, Refused}
+use Rattle.verdicts.specs.Answers.{wordingOf}
 use Rattle.workbench.specs.Numbers.{searchNumber}
 use Rattle.workbench.proofs.Told.{safe-fits, unsafe-fits, place-fits, number-of}
 use borrow.Author.Needs.{needs}

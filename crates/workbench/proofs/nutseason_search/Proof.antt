@@ -1,10 +1,10 @@
 -- `nutseason_search` meets its contract: the number of the search's answer, and what the search leaves.
 -- Assumes nothing.
 use mathlib.Core.Path.{sym, ap, _∙_, subst}
-use Rattle.search.specs.declared.finding.Finding.{Finding}
-use Rattle.search.specs.Answers.{wordingOf}
-use Rattle.search.specs.Promises.{Bounded}
-use Rattle.search.proofs.Places.{answers-bounded}
+use Rattle.verdicts.specs.declared.finding.Finding.{Finding}
+use Rattle.verdicts.specs.Answers.{wordingOf}
+use Rattle.verdicts.specs.Promises.{Bounded}
+use Rattle.verdicts.proofs.Places.{answers-bounded}
 use Rattle.workbench.specs.Numbers.{searchNumber}
 use borrow.Author.Needs.{needs}
 use Rattle.workbench.proofs.nutseason_search.Statement.{statement}

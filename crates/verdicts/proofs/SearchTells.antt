@@ -21,11 +21,11 @@ use Rattle.meaning.specs.OneRow.{One, stateCount}
 use Rattle.notation.proofs.Booleans.{and-split, and-join}
 use Rattle.sheets.specs.Sheets.{sheetRoom, systemOf, little, recordBytes, headerBytes, sheetBytes}
 use Rattle.exploration.specs.Findings.{Verdict, safeBy, unsafeBy, evidenceOf, Finds}
-use Rattle.search.specs.Answers.{Wording, verdict, returned, wordingOf}
-use Rattle.search.specs.Left.{Left}
-use Rattle.search.specs.Promises.{LeavesTell, RoomTells, Room, SearchDone, SearchRefused, SearchTells, TextRefusedFirst}
+use Rattle.verdicts.specs.Answers.{Wording, verdict, returned, wordingOf}
+use Rattle.verdicts.specs.Left.{Left}
+use Rattle.verdicts.specs.Promises.{LeavesTell, RoomTells, Room, SearchDone, SearchRefused, SearchTells, TextRefusedFirst}
 use Rattle.exploration.specs.working.Found.{foundIn, transitionsOf}
-use Rattle.search.specs.working.Searching.{roomy, verdictOf, leftWith, leftAlone, searchFor, searchIn, searchOf}
+use Rattle.verdicts.specs.working.Searching.{roomy, verdictOf, leftWith, leftAlone, searchFor, searchIn, searchOf}
 use Rattle.exploration.proofs.FindsRight.{own, finds}
 use Rattle.exploration.proofs.FoundShort.{found-short}
 

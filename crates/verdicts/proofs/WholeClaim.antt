@@ -1,9 +1,9 @@
 -- The whole claim: what the test lets pass holds of all tables, and what the search writes passes.
 -- Assumes nothing.
 use Rattle.acceptance.proofs.Claims.{claim-of-test}
-use Rattle.search.specs.Promises.{WholeClaim}
-use Rattle.search.proofs.SearchTells.{search-tells}
-use Rattle.search.proofs.SheetsPass.{sheets-pass}
+use Rattle.verdicts.specs.Promises.{WholeClaim}
+use Rattle.verdicts.proofs.SearchTells.{search-tells}
+use Rattle.verdicts.proofs.SheetsPass.{sheets-pass}
 
 pub whole-claim : WholeClaim
 whole-claim text m says b hb n₁ n₂ h₁ h₂ =

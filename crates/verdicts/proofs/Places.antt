@@ -5,14 +5,14 @@ use native.Mathlib.Omega.{arith}
 use lib.ListN.{length}
 use Rattle.notation.proofs.Places.{refusals-bounded}
 use Rattle.sheets.specs.Sheets.{systemOf, sheetBytes}
-use Rattle.search.specs.Answers.{wordingOf}
-use Rattle.search.specs.Promises.{answerOf, Bounded, AnswersBounded}
+use Rattle.verdicts.specs.Answers.{wordingOf}
+use Rattle.verdicts.specs.Promises.{answerOf, Bounded, AnswersBounded}
 use Rattle.exploration.specs.Findings.{Verdict, safeBy, unsafeBy, evidenceOf}
 use Rattle.exploration.specs.working.Found.{foundIn, transitionsOf}
-use Rattle.search.specs.Left.{Left}
-use Rattle.search.specs.working.Searching.{verdictOf}
-use Rattle.search.proofs.SearchTells.{sheet-short, whatever-left}
-use Rattle.search.proofs.SheetsPass.{few}
+use Rattle.verdicts.specs.Left.{Left}
+use Rattle.verdicts.specs.working.Searching.{verdictOf}
+use Rattle.verdicts.proofs.SearchTells.{sheet-short, whatever-left}
+use Rattle.verdicts.proofs.SheetsPass.{few}
 
 verdict-bounded : (x : Verdict) (n : ℕ) → n ≤ 7 + 10 * 4096 → Bounded (wordingOf (verdictOf x n))
 unfolding verdictOf wordingOf

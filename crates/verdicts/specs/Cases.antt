@@ -10,9 +10,9 @@ use Rattle.notation.specs.Regular.{Every}
 use Rattle.acceptance.specs.Outcomes as A
 use Rattle.acceptance.specs.Promises.{answerTo}
 use Rattle.acceptance.specs.Cases.{g, h, gKeepsNowhere, gStartsNowhere, head, map, start, gSheet}
-use Rattle.search.specs.Answers.{verdict, returned, wordingOf}
-use Rattle.search.specs.Left.{Left}
-use Rattle.search.specs.working.Searching.{searchOf}
+use Rattle.verdicts.specs.Answers.{verdict, returned, wordingOf}
+use Rattle.verdicts.specs.Left.{Left}
+use Rattle.verdicts.specs.working.Searching.{searchOf}
 
 -- A row: a text with the verdict and the sheet that the search finds; a text with the search's refusal; a text and a sheet with what the test answers.
 pub data Case : Type 0 where

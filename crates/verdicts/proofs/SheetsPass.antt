@@ -22,16 +22,16 @@ use Rattle.acceptance.specs.Outcomes.{words}
 use Rattle.acceptance.specs.Promises.{answerTo}
 use Rattle.acceptance.proofs.Claims.{pass-tells}
 use Rattle.exploration.specs.Findings.{Verdict, safeBy, unsafeBy, evidenceOf, Reaches, ExactMap, Finds}
-use Rattle.search.specs.Answers.{Wording, verdict, returned, wordingOf}
-use Rattle.search.specs.Promises.{FrontPasses, SheetsPass}
+use Rattle.verdicts.specs.Answers.{Wording, verdict, returned, wordingOf}
+use Rattle.verdicts.specs.Promises.{FrontPasses, SheetsPass}
 use Rattle.exploration.specs.working.Transitions.{moveOf}
 use Rattle.exploration.specs.working.Runs.{goesOn}
 use Rattle.exploration.specs.working.Found.{foundIn, transitionsOf}
-use Rattle.search.specs.working.Searching.{verdictOf, leftWith, leftAlone}
+use Rattle.verdicts.specs.working.Searching.{verdictOf, leftWith, leftAlone}
 use Rattle.exploration.proofs.RunsOfModels.{run-told, run-reaches, reaches-run}
-use Rattle.search.proofs.SearchTells.{sheet-short, not-safe, not-verdict, whatever-left}
+use Rattle.verdicts.proofs.SearchTells.{sheet-short, not-safe, not-verdict, whatever-left}
 use Rattle.exploration.proofs.FindsRight.{own, finds}
-use Rattle.search.proofs.SheetBytes.{map-sheet-bytes, trace-sheet-bytes}
+use Rattle.verdicts.proofs.SheetBytes.{map-sheet-bytes, trace-sheet-bytes}
 
 -- The map of exactly the states that runs reach passes where no run goes wrong.
 module _ (m : Model) (g : Regular m) (map : List ℕ) (E : ExactMap m map) where

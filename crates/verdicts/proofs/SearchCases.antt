@@ -9,9 +9,9 @@ use Rattle.exploration.specs.working.Runs.{firstMove, runTo, stepsOf}
 use Rattle.exploration.specs.working.Results.{result}
 use Rattle.exploration.specs.working.Written.{bitAt, mapFrom}
 use Rattle.exploration.specs.working.Found.{verdictFor, foundIn}
-use Rattle.search.specs.Answers.{wordingOf}
-use Rattle.search.specs.Cases.{cases, AllCases}
-use Rattle.search.specs.working.Searching.{roomy, verdictOf, searchFor, searchIn, searchOf}
+use Rattle.verdicts.specs.Answers.{wordingOf}
+use Rattle.verdicts.specs.Cases.{cases, AllCases}
+use Rattle.verdicts.specs.working.Searching.{roomy, verdictOf, searchFor, searchIn, searchOf}
 
 -- To unfold this is to unfold all that finds a verdict on the model of a text.
 unfoldable pub finding : Unit {0}

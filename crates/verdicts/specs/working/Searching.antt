@@ -1,6 +1,5 @@
 -- What a call of the search leaves, as a computation.
 -- Assumes nothing.
-use mathlib.Core.Path.{_≡_}
 use mathlib.Core.Bool.{Bool, cond, _&&_}
 use mathlib.Core.List.{List}
 use Prim.Native.Nat.{ℕ}
@@ -10,13 +9,12 @@ use lib.Seq.{sets}
 use Rattle.notation.specs.Texts.{modelOf}
 use Rattle.notation.specs.working.Machine as N
 use Rattle.notation.specs.working.Answer.{answer}
-use Rattle.reader.specs.working.Commands.{Lent}
 use Rattle.sheets.specs.Sheets.{System, size, sheetRoom, systemOf, sheetBytes}
 use Rattle.exploration.specs.Findings.{Verdict, safeBy, unsafeBy, evidenceOf}
 use Rattle.exploration.specs.working.Found.{foundIn, transitionsOf}
-use Rattle.search.specs.declared.finding.Finding.{Finding}
-use Rattle.search.specs.declared.finding.Finding.the-variants.{Safe, Unsafe, Refused}
-use Rattle.search.specs.Left.{Left, Leaves, zeroed}
+use Rattle.verdicts.specs.declared.finding.Finding.{Finding}
+use Rattle.verdicts.specs.declared.finding.Finding.the-variants.{Safe, Unsafe, Refused}
+use Rattle.verdicts.specs.Left.{Left, zeroed}
 
 -- Whether the lent tables have an entry for each state, and the lent buffer has room for every sheet.
 unfoldable pub roomy : System → List ℕ → List ℕ → List ℕ → Bool
@@ -40,15 +38,6 @@ leftWith M x first second sheet =
 -- After a refusal every buffer is as it was.
 abbrev pub leftAlone : ℕ → ℕ → List ℕ → List ℕ → List ℕ → Left
 leftAlone n p first second sheet = record { answer = Refused n p; first = first; second = second; sheet = sheet }
-
--- A call ends with this answer and these contents.
-abbrev pub Ends : Left → Finding → List ℕ → List ℕ → List ℕ → Type 0
-Ends L r first second sheet = (r ≡ L .answer) × Leaves L first second sheet
-
--- A call whose contract names these two tables and this buffer ends with what is left of them as they were lent.
-abbrev pub EndsWith : (List ℕ → List ℕ → List ℕ → Left) → Finding → Lent → Lent → Lent → Type 0
-EndsWith left r first second sheet =
-    Ends (left (first .entry .now) (second .entry .now) (sheet .entry .now)) r (first .exit .now) (second .exit .now) (sheet .exit .now)
 
 -- For a system, where there is room.
 abbrev pub foundBy : System → List ℕ → List ℕ → List ℕ → Left

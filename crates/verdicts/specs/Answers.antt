@@ -2,8 +2,8 @@
 -- Assumes nothing.
 use Prim.Native.Nat.{ℕ}
 use Prim.Native.String.{String}
-use Rattle.search.specs.declared.finding.Finding.{Finding}
-use Rattle.search.specs.declared.finding.Finding.the-variants.{Safe, Unsafe, Refused}
+use Rattle.verdicts.specs.declared.finding.Finding.{Finding}
+use Rattle.verdicts.specs.declared.finding.Finding.the-variants.{Safe, Unsafe, Refused}
 
 -- What the search may answer: a verdict with the sheet's length, or a refusal's number with its place.
 pub data Wording : Type 0 where

@@ -16,9 +16,9 @@ use Rattle.sheets.specs.SheetTexts.{AreBytes}
 use Rattle.acceptance.specs.Outcomes.{words}
 use Rattle.acceptance.specs.Promises.{answerTo, TestPromise}
 use Rattle.exploration.specs.Findings.{Verdict, evidenceOf, Finds}
-use Rattle.search.specs.Answers.{Wording, verdict, returned, wordingOf}
-use Rattle.search.specs.Left.{Left, Leaves, zeroed}
-use Rattle.search.specs.working.Searching.{roomy, searchOf}
+use Rattle.verdicts.specs.Answers.{Wording, verdict, returned, wordingOf}
+use Rattle.verdicts.specs.Left.{Left, Leaves, zeroed}
+use Rattle.verdicts.specs.working.Searching.{roomy, searchOf}
 
 -- The two lent tables have an entry for each state, and the lent sheet buffer has room for the longest sheet: ten bytes for each state and seven more.
 abbrev pub Room : Model → List ℕ → List ℕ → List ℕ → Type 0
