@@ -1,6 +1,6 @@
 """What is measured: texts with the sheets that the search writes for them, and
-sheets that fail and texts that are refused, to be sure that those who are
-measured test them."""
+other sheets and texts that are refused, to be sure that those who are measured
+test them."""
 
 from collections import namedtuple
 
@@ -13,6 +13,7 @@ Input = namedtuple("Input", "title text sheet answer")
 G_SHEET = bytes.fromhex(
     "030000000100010201 0200000003000100 04000000040000030700")
 H_SHEET = bytes.fromhex("030000000100010201 0100000002002a")
+VOID_SHEET = bytes.fromhex("030000000100010201 01000000020000")
 
 
 def record(kind, payload):
@@ -66,6 +67,8 @@ def long_text():
 
 G = Input("G, trace of 1 step", models.G, G_SHEET, "t")
 H = Input("H, map of 3 states", models.H, H_SHEET, "s")
+VOID = Input("G without a start state, map of none", models.VOID, VOID_SHEET,
+             "v")
 DEEPEST = H._replace(title="H in parentheses", text=models.DEEPEST_H)
 WIDE = wide(models.SHORT)
 COUNT = count(models.BITS)
@@ -77,25 +80,30 @@ TO_SEARCH = [G, H, WIDE, wide(models.LONG), COUNT, starry_count(models.BITS),
              LONG_TEXT]
 
 # Those that C, one word at a time, is through with in two seconds.
-QUICK = [G, H, DEEPEST, WIDE, COUNT, STARRY, LONG_TEXT]
+QUICK = [G, H, VOID, DEEPEST, WIDE, COUNT, STARRY, LONG_TEXT]
 
 
-def failing(given, place, byte, answer):
+def changed(given, place, byte, answer):
     """With another byte at a place of the sheet, counted from its end."""
     sheet = bytearray(given.sheet)
     sheet[-place] = byte
-    return given._replace(title=f"{given.title}, made to fail",
+    return given._replace(title=f"{given.title}, changed",
                           sheet=bytes(sheet), answer=answer)
 
 
-FAILING = [failing(H, 1, 0x22, "A"), failing(H, 1, 0xff, "B"),
-           failing(H, 1, 0x0a, "C"), failing(WIDE, 1, 0x7f, "C"),
-           failing(G, 12, 0, "D"), failing(COUNT, 2, 0xfe, "E"),
-           COUNT._replace(title="trace cut short", sheet=COUNT.sheet[:-10],
-                          answer="F"),
-           # Only the last word of the last command leaves it.
-           STARRY._replace(title="map of the start state",
-                           sheet=map_sheet(1, 0), answer="C")]
+# Sheets that the search does not write, most of which fail.
+OTHERS = [changed(H, 1, 0x22, "A"), changed(H, 1, 0xff, "B"),
+          changed(H, 1, 0x0a, "C"), changed(WIDE, 1, 0x7f, "C"),
+          changed(G, 12, 0, "D"), changed(COUNT, 2, 0xfe, "E"),
+          changed(H, 1, 0, "A"), changed(VOID, 1, 0x15, "v"),
+          changed(VOID, 1, 0x40, "B"), changed(VOID, 1, 0x02, "C"),
+          G._replace(title="a trace where nothing starts", text=models.VOID,
+                     answer="D"),
+          COUNT._replace(title="trace cut short", sheet=COUNT.sheet[:-10],
+                         answer="F"),
+          # Only the last word of the last command leaves it.
+          STARRY._replace(title="map of the start state",
+                          sheet=map_sheet(1, 0), answer="C")]
 
 
 def refused(number, marked):

@@ -1,5 +1,6 @@
 /* The search in plain C: the sheet has the trace of the first breaking run, or
- * the map of the states that runs reach. */
+ * the map of the states that runs reach, of which there are none where nothing
+ * starts. */
 #include <stdio.h>
 #include <stdlib.h>
 
@@ -145,5 +146,5 @@ uint64_t twin_search(const uint8_t *bytes, size_t size,
     int written = found ? put_trace(lanes) : put_map();
     clear(queue);
     clear(parent);
-    return (found ? 'u' : 's') | (uint64_t)written << 8;
+    return (found ? 'u' : met ? 's' : 'v') | (uint64_t)written << 8;
 }

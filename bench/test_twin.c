@@ -100,9 +100,13 @@ static int leaves(uint32_t state, int command, int lanes)
 
 static char test_map(int lanes)
 {
+    int begun = 0;
     for (int s = 0; s < states; s++)
-        if (starts(s) && !member(s))
-            return 'A';
+        if (starts(s)) {
+            begun = 1;
+            if (!member(s))
+                return 'A';
+        }
     for (int s = 0; s < states; s++)
         if (member(s) && breaks(s))
             return 'B';
@@ -111,7 +115,7 @@ static char test_map(int lanes)
             for (int c = 0; c < commands; c++)
                 if (leaves(s, c, lanes))
                     return 'C';
-    return 's';
+    return begun ? 's' : 'v';
 }
 
 static char test_trace(void)

@@ -2,8 +2,8 @@
  *
  *   admit TEXT SHEET
  *
- * It writes one line, and ends with 0 where the model is safe for every table, with 1 where it is unsafe or the
- * sheet fails, and with 2 where a file can't be read or is refused. */
+ * It writes one line, and ends with 0 where the model is safe for every table, with 1 where it is unsafe or void or
+ * the sheet fails, and with 2 where a file can't be read or is refused. */
 #include <stdio.h>
 
 #include "nutseason.h"
@@ -43,6 +43,10 @@ int main(int argc, char **argv)
     case 's':
         puts("admitted: the model is safe for every table of one row or more");
         return 0;
+    case 'v':
+        /* Nothing is known of a monitor by a model that has no run. */
+        puts("not admitted: the model has no start state");
+        return 1;
     case 't':
         puts("not admitted: the sheet is a run that breaks the property");
         return 1;

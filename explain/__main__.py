@@ -5,7 +5,7 @@ python3 -B explain PROGRAM FILE [--html OUT]
 PROGRAM is the built report program, and what it says of the text in FILE is
 all that is known of the verdict. The explanation is printed; with --html its
 first line alone, and the whole is written to OUT as one page. The status is 0
-for a safe model, 1 for an unsafe one, 2 for anything else.
+for a safe model, 1 for an unsafe or void one, 2 for anything else.
 """
 
 import sys

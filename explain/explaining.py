@@ -11,9 +11,10 @@ import page
 import plain
 from refusals import LONGEST_TEXT
 from texts import model_of
-from traces import Refused, Safe, Unreadable, report_of
+from traces import Refused, Safe, Unreadable, Unsafe, Void, report_of
 
-SAFE, UNSAFE, REFUSED = 0, 1, 2
+# Where nothing starts nothing was shown: void has the status of unsafe.
+STATUS = {Safe: 0, Void: 1, Unsafe: 1, Refused: 2}
 
 
 class Stopped(Exception):
@@ -33,14 +34,8 @@ def explained_by(form, file, text, report):
     model = model_of(text)
     if report.counts != model.counts:
         raise Unreadable
-    say = form.safe if isinstance(report, Safe) else form.unsafe
-    return say(file, text, report, model)
-
-
-def status(report):
-    if isinstance(report, Refused):
-        return REFUSED
-    return SAFE if isinstance(report, Safe) else UNSAFE
+    say = {Safe: form.safe, Void: form.void, Unsafe: form.unsafe}
+    return say[type(report)](file, text, report, model)
 
 
 def read(path):
@@ -76,7 +71,7 @@ def explain(program, path, out):
     else:
         write(out, path, explained_by(page, file, text, report))
         show(lines[:1])
-    return status(report)
+    return STATUS[type(report)]
 
 
 def write(out, path, said):
@@ -108,4 +103,4 @@ def main(program, path, out=None):
         # Python's own status for this is 1, which would say unsafe.
         fault = f"explain went wrong\n{traceback.format_exc()}"
     tell(f"nutseason: {fault}")
-    return REFUSED
+    return STATUS[Refused]

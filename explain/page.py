@@ -9,6 +9,7 @@ import sentences
 from page_text import command_marks, text_section
 from refusals import explained
 from runs import judged, lines_of
+from starts import tried
 from tokens import quoted
 
 FOLDER = Path(__file__).resolve().parent
@@ -35,10 +36,25 @@ def safe(file, text, report, model):
                  sentences.SAFE, main)
 
 
+def void(file, text, report, model):
+    parts = tried(model)
+    first, *_, last = model.start.whole
+    mark = (first.place, last.end, "mark", "")
+    main = [f"<p>{escape(sentences.evidence(file))}</p>",
+            clause_section("Why nothing starts",
+                           sentences.contradiction(parts), model.start,
+                           parts, sentences.can_hold),
+            text_section(text, [mark, *command_marks(model)])]
+    return whole(sentences.verdict(file, "void", report.counts),
+                 sentences.VOID, "\n".join(main))
+
+
 def unsafe(file, text, report, model):
     lines = lines_of(report, model)
     main = [player(text, lines, model), steps_section(lines, model),
-            breaks_section(report, model),
+            clause_section("What breaks", sentences.BREAKS, model.keep,
+                           judged(report, model), sentences.held,
+                           sentences.COPIES),
             f"<script>\n{part('page.js')}</script>"]
     return whole(sentences.verdict(file, "unsafe", report.counts),
                  sentences.unsafe(report.steps), "\n".join(main))
@@ -103,11 +119,11 @@ def cell(before, after):
     return f"<td><b>{before}{CHANGE}{after}</b></td>"
 
 
-def breaks_section(report, model):
+def clause_section(heading, title, clause, sides, how, note=""):
+    """A clause of the text, and below it how each of its parts stands."""
     rows = "\n".join(
         f"<tr><th>{side.part}</th><td>{side.quote}</td>"
-        f"<td>{sentences.held(side)}</td></tr>"
-        for side in judged(report, model))
-    return Template(part("breaks.html")).substitute(
-        title=sentences.BREAKS, keep=quoted(model.keep.whole), rows=rows,
-        copies=sentences.COPIES)
+        f"<td>{how(side)}</td></tr>" for side in sides)
+    return Template(part("clause.html")).substitute(
+        heading=heading, title=coded(title), clause=quoted(clause.whole),
+        rows=rows, note=f"<p>{note}</p>" if note else "")

@@ -4,6 +4,7 @@ import sentences
 from places import position
 from refusals import explained
 from runs import judged, lines_of
+from starts import tried
 from tokens import quoted
 
 CHANGE = ">"
@@ -22,12 +23,21 @@ def safe(file, text, report, model):
             f"{sentences.SAFE} {sentences.evidence(file)}"]
 
 
+def void(file, text, report, model):
+    parts = tried(model)
+    return [f"{sentences.verdict(file, 'void', report.counts)}. "
+            f"{sentences.VOID} {sentences.evidence(file)}",
+            "", sentences.contradiction(parts),
+            *clause(model.start, parts, sentences.can_hold)]
+
+
 def unsafe(file, text, report, model):
     lines = lines_of(report, model)
     return [f"{sentences.verdict(file, 'unsafe', report.counts)}. "
             f"{sentences.unsafe(report.steps)}",
             "", *table(lines, model), *notes(text, lines, model),
-            "", sentences.BREAKS, *breaks(report, model),
+            "", sentences.BREAKS,
+            *clause(model.keep, judged(report, model), sentences.held),
             "", sentences.COPIES]
 
 
@@ -80,7 +90,8 @@ def stars(text, lines, model):
                     for star in command.stars])
 
 
-def breaks(report, model):
-    parts = [[f"  {part.part}", part.quote, sentences.held(part)]
-             for part in judged(report, model)]
-    return [f"  {quoted(model.keep.whole)}", *columns(parts)]
+def clause(said, parts, how):
+    """A clause of the text, and below it how each of its parts stands."""
+    return [f"  {quoted(said.whole)}",
+            *columns([[f"  {part.part}", part.quote, how(part)]
+                      for part in parts])]

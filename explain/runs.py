@@ -58,7 +58,7 @@ def choices(command, word):
 
 def judged(report, model):
     values = dict(zip(model.names, bits(report.states[-1], model)))
-    return [Judged(part, quoted(tokens), value(tokens, values),
+    return [Judged(part, quoted(tokens), value(tokens, values) == 1,
                    used(tokens, values))
             for part, tokens in (("shared part", model.keep.shared),
                                  ("each part", model.keep.row))]

@@ -4,6 +4,8 @@ from shlex import quote
 
 SAFE = ("No run of any length, over a table of one row or more, breaks the "
         "property.")
+VOID = ("No state satisfies `start`, so no table of one row or more has a "
+        "start state, and there is no run at all.")
 COPIES = ("The same run, with its row copied into every row and the same "
           "choices in every row, is a run over any table of one row or more.")
 BREAKS = "The last state breaks the property:"
@@ -41,6 +43,25 @@ def unsafe(steps):
         return "A start state breaks the property."
     return (f"A run of {counted(len(steps), 'step')} breaks the property, and "
             "no shorter run does.")
+
+
+def contradiction(parts):
+    """What is wrong with the parts of a `start` that nothing satisfies."""
+    shared, row = (part.can_hold for part in parts)
+    if shared and row:
+        return ("Each part of `start` can be satisfied alone, but not both "
+                "together:")
+    if shared:
+        return ("The `each` part of `start` is false in every row, whatever "
+                "the values:")
+    if row:
+        return ("The shared part of `start` is false for every setting of "
+                "the shared names:")
+    return "Both parts of `start` are false, whatever the values:"
+
+
+def can_hold(part):
+    return "can be true" if part.can_hold else "never true"
 
 
 def held(part):

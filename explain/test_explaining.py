@@ -14,6 +14,7 @@ from explaining import main, shown
 from stored import cases
 
 CASES = {case.name: case for case in cases()}
+STATUSES = (("safe", 0), ("several_steps", 1), ("void_both", 1), ("tab", 2))
 
 
 @contextlib.contextmanager
@@ -62,12 +63,12 @@ class Explaining(unittest.TestCase):
             return status, output.read().decode(), error
 
     def test_statuses(self):
-        for name, status in (("safe", 0), ("several_steps", 1), ("tab", 2)):
+        for name, status in STATUSES:
             plain = CASES[name].plain.replace("FILE", str(self.text))
             self.assertEqual(self.run_on(CASES[name]), (status, plain, ""))
 
     def test_page(self):
-        for name, status in (("safe", 0), ("several_steps", 1), ("tab", 2)):
+        for name, status in STATUSES:
             first = CASES[name].plain.replace("FILE", str(self.text))
             first = first.splitlines(keepends=True)[0]
             self.assertEqual(self.run_on(CASES[name], out=str(self.out)),
@@ -79,7 +80,9 @@ class Explaining(unittest.TestCase):
         for report in (b"", b"safe\n", b"model 1 1\nsafe\n",
                        b"model 2 2 4\nunsafe 2\nstart 0\nstep 1 lock 0 2\n",
                        b"model 2 2 4\nunsafe 1\nstart 0\nstep 1 none 0 2\n",
-                       b"model 2 1 4\nunsafe 0\nstart 0\n"):
+                       b"model 2 1 4\nunsafe 0\nstart 0\n",
+                       b"model 2 2 4\nvoid\n",
+                       b"model 2 2 4\nvoid\nstart 0\n"):
             status, said, error = self.run_on(CASES["several_steps"], report)
             self.assertEqual((status, said), (2, ""), report)
             self.assertIn("gave no report of this text", error)

@@ -122,6 +122,16 @@ class Pages(unittest.TestCase):
                 else:
                     self.assertEqual(shown, text.removesuffix("\n"))
 
+    def test_start_is_marked_where_nothing_starts(self):
+        for case in cases():
+            if b"void" in case.report:
+                said = page_of(case.text, case.report)
+                marks = re.findall("<mark>(.*)</mark>", said)
+                text = case.text.decode()
+                start = text[text.index("start"):text.index("keep")]
+                self.assertEqual(marks, start.rstrip().split("\n"),
+                                 case.name)
+
     def test_text_too_long(self):
         found = Page(page_of(b" " * 16385, b"refused 1 16384\n"))
         self.assertIn("refused 1: the text is over 16,384 bytes", found.read)

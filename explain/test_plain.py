@@ -21,8 +21,8 @@ class Stored(unittest.TestCase):
                 self.assertEqual("\n".join(lines) + "\n", case.plain)
             numbers.add(case.report.split()[1] if b"refused" in case.report
                         else case.report.split()[4])
-        self.assertEqual(numbers, {b"safe", b"unsafe", b"2", b"3", b"4", b"5",
-                                   b"6", b"7"})
+        self.assertEqual(numbers, {b"safe", b"void", b"unsafe", b"2", b"3",
+                                   b"4", b"5", b"6", b"7"})
 
     def test_text_too_long(self):
         lines = said(b" " * 16385, b"refused 1 16384\n")

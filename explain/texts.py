@@ -1,5 +1,5 @@
 """What a person wants to see of a text that says a model: its names, the
-parts of `keep`, and the commands with their stars."""
+parts of `start` and `keep`, and the commands with their stars."""
 
 from dataclasses import dataclass
 
@@ -29,7 +29,8 @@ class Command:
 
 @dataclass(frozen=True)
 class Clause:
-    """The tokens of `keep`, of its shared part and of its `each` part."""
+    """The tokens of `start` or `keep`, of its shared part and of its `each`
+    part."""
 
     whole: tuple
     shared: tuple
@@ -40,6 +41,7 @@ class Clause:
 class Model:
     shared: tuple
     row: tuple
+    start: Clause
     keep: Clause
     commands: tuple
 
@@ -55,7 +57,7 @@ class Model:
 def model_of(text):
     parts, _ = walk(cut(text))
     return Model(names_in(parts, "shared name"), names_in(parts, "row name"),
-                 keep_of(parts),
+                 clause_of(parts, "start"), clause_of(parts, "keep"),
                  tuple(map(command_of, commands_in(parts))))
 
 
@@ -63,10 +65,10 @@ def names_in(parts, role):
     return tuple(part.token.word for part in in_roles(parts, role))
 
 
-def keep_of(parts):
+def clause_of(parts, word):
     tokens = [part.token for part in parts]
     kinds = [part.kind for part in parts]
-    first = kinds.index("keep")
+    first = kinds.index(word)
     middle = kinds.index("each", first)
     last = kinds.index(".", middle)
     return Clause(tuple(tokens[first:last + 1]),

@@ -1,4 +1,4 @@
-"""The lines of a report: a refusal, a safe verdict, or a run by its states."""
+"""The lines of a report: a refusal, a verdict alone, or a run by its states."""
 
 from dataclasses import dataclass
 
@@ -15,6 +15,11 @@ class Refused:
 
 @dataclass(frozen=True)
 class Safe:
+    counts: tuple
+
+
+@dataclass(frozen=True)
+class Void:
     counts: tuple
 
 
@@ -50,6 +55,8 @@ def report_in(lines):
     counts = tuple(numbers(lines[0]))
     if lines[1] == ["safe"]:
         return Safe(counts)
+    if lines[1:] == [["void"]]:
+        return Void(counts)
     steps = tuple(Step(name, int(word), int(after))
                   for _, _, name, word, after in lines[3:])
     if numbers(lines[1]) != [len(steps)]:

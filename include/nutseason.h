@@ -56,17 +56,20 @@ static inline uint64_t nutseason_rest(uint64_t said)
  * (bits 8 to 15), row names (16 to 23) and commands (24 to 31). 1 to 7: the text's first refusal, and its place. */
 uint64_t nutseason_read(const uint8_t *text, size_t text_len);
 
-/* Tests a sheet for the model that a text says. 's': the sheet is a map, and safe holds: no run of any length, over
- * a table of any number of rows from 1, breaks the property. 't': it is a trace, and it holds: over every such table
- * it is a run that ends in a broken property. 'A' to 'F': the first condition that fails. 1 to 7: the refusal of
- * the text, which comes first; 9 and 10: that of the sheet. */
+/* Tests a sheet for the model that a text says. 's': the sheet is a map, and safe holds: over a table of any number
+ * of rows from 1 there is a start state, and no run of any length breaks the property. 'v': the sheet is a map that
+ * passes, with members or without, but the model is void: no such table has a start state, and so none has a run.
+ * 't': it is a trace, and it holds: over every such table it is a run that ends in a broken property. 'A' to 'F':
+ * the first condition that fails, also where the model is void. 1 to 7: the refusal of the text, which comes first;
+ * 9 and 10: that of the sheet. A design is to be admitted after 's' alone. */
 uint64_t nutseason_test(const uint8_t *text, size_t text_len, const uint8_t *sheet, size_t sheet_len);
 
 /* Searches the table of one row. With k names there are 2^k states: each table needs that many entries, and the
- * sheet buffer 7 + 10 * 2^k bytes. 's' or 'u': the model is safe or unsafe, the buffer begins with its sheet,
- * of the length that comes with the answer, and the first 2^k entries of both tables are 0; all else is as it was,
- * and nutseason_test then answers 's' or 't' to the same text and that sheet. 1 to 8: the call is refused, with
- * the place, and every buffer is as it was. What the buffers hold beforehand does not matter. */
+ * sheet buffer 7 + 10 * 2^k bytes. 's', 'v' or 'u': the model is safe, void or unsafe, the buffer begins with its
+ * sheet, of the length that comes with the answer, and the first 2^k entries of both tables are 0; all else is as it
+ * was, and nutseason_test then answers 's', 'v' or 't' to the same text and that sheet. A void model has no start
+ * state, and its sheet the map without members. 1 to 8: the call is refused, with the place, and every buffer is as
+ * it was. What the buffers hold beforehand does not matter. */
 uint64_t nutseason_search(const uint8_t *text, size_t text_len, uint16_t *first, size_t first_len,
                           uint16_t *second, size_t second_len, uint8_t *sheet, size_t sheet_len);
 

@@ -2,7 +2,8 @@
 
 import ctypes
 
-LETTERS = {"s": "safe holds", "t": "trace holds"}
+LETTERS = {"s": "safe holds", "v": "void", "t": "trace holds"}
+VERDICTS = {"s": "safe", "v": "void", "u": "unsafe"}
 
 
 class Library:
@@ -45,9 +46,9 @@ class Library:
         said = self._search(text, len(text), *(part for buffer in lent
                                                for part in (buffer, len(buffer))))
         first[:], second[:], sheet[:] = lent
-        verdicts = {ord("s"): "safe", ord("u"): "unsafe"}
-        if said & 255 in verdicts:
-            return f"{verdicts[said & 255]} {said >> 8}"
+        low = chr(said & 255)
+        if low in VERDICTS:
+            return f"{VERDICTS[low]} {said >> 8}"
         return refusal(said)
 
 

@@ -10,10 +10,11 @@ from corpora import pairs_readings
 from corpora import pairs_refused
 from corpora import pairs_texts
 from corpora import pairs_traces
+from corpora import pairs_void
 from inputs.feed import gathered
 
 GROUPS = (pairs_texts.GROUPS + pairs_refused.GROUPS + pairs_maps.GROUPS
-          + pairs_traces.GROUPS + pairs_readings.GROUPS
+          + pairs_traces.GROUPS + pairs_void.GROUPS + pairs_readings.GROUPS
           + pairs_random.GROUPS)
 
 

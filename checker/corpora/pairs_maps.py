@@ -1,17 +1,15 @@
 """Maps that hold or fail: each condition, their order, and their far ends."""
 
-from corpora.pairs_models import exactly, idle, sixteen, under
+from corpora.pairs_models import (exactly, idle, sixteen, subsets, tossing,
+                                  under)
 from inputs.cases import G, H, map_for
 from inputs.phrases import command, loop, model, numbered
 
 
 def worked_maps():
-    nothing = G.replace("start m each not x", "start 1 each 0")
     for byte, meant in ((0x2A, "safe holds"), (0x3F, "safe holds"),
                         (0x22, "A"), (0xFF, "B"), (0x0A, "C")):
         yield f"{byte:02X} for H -> {meant}", H, whole_byte(H, byte)
-    yield "00 without a start state -> safe holds", nothing, whole_byte(
-        nothing, 0)
     for byte in (0x00, 0x2A, 0xFF, 0xAA):
         meant = "A" if byte == 0 else "C" if byte == 0x2A else "B"
         yield f"{byte:02X} for G -> {meant}", G, whole_byte(G, byte)
@@ -43,12 +41,11 @@ def small_maps():
         last = (1 << len(names)) - 1
         top = 1 << len(names) >> 1
         but_last = ("1", f"not ({exactly(names, last) or '1'})")
-        value = ("skip" if not names else loop(yes=f"{names[-1]} := *") if row
-                 else f"{names[-1]} := *")
         for start, keep in ((("1", "1"), ("1", "1")), (("1", "0"), ("1", "1")),
                             (but_last, but_last), (("1", "1"), ("0", "1"))):
-            text = model(shared, row, start, keep, [command(yes=value)])
+            text = model(shared, row, start, keep, [tossing(shared, row)])
             needed = {("1", "1"): last, ("1", "0"): -1}.get(start, last - 1)
+            holds = "void" if needed < 0 else "safe holds"
             for members in subsets(last + 1):
                 if not members >= set(range(needed + 1)):
                     meant = "A"
@@ -56,15 +53,10 @@ def small_maps():
                     meant = "B"
                 else:
                     closed = {state ^ top for state in members} <= members
-                    meant = "safe holds" if closed else "C"
+                    meant = holds if closed else "C"
                 yield (f"{sorted(members)} of {shared!r} and {row!r}, start"
                        f" each {start[1]}, keep {keep[0]} -> {meant}",
                        text, map_for(text, members))
-
-
-def subsets(count):
-    for bits in range(1 << count):
-        yield {state for state in range(count) if bits >> state & 1}
 
 
 def letters_of_maps():
@@ -133,7 +125,7 @@ def last_word_of_last_command():
         command("z", under(255), loop(
             exactly(" ".join(names).split(), 4095), "r0 := 0"))])
     yield "from the last of 4096 states -> C", wide, map_for(wide, {0, 4095})
-    yield ("from the last of 4096 states to a member -> safe holds",
+    yield ("from the last of 4096 states to a member -> void",
            wide, map_for(wide, {0, 3839, 4095}))
 
 
@@ -181,7 +173,7 @@ def wide_maps():
                          keep=("1", f"not ({exactly(names, state)})"))
             yield (f"{split}, {state} breaks -> B",
                    text, map_for(text, every))
-            yield (f"{split}, all but {state}, which breaks -> safe holds",
+            yield (f"{split}, all but {state}, which breaks -> void",
                    text, map_for(text, but(state)))
         for state in (0, 1030, 2047):
             text = model(shares, rows, start=("1", "0"), commands=[
@@ -191,7 +183,7 @@ def wide_maps():
                     f"{names[-1]} := 1"))])
             yield (f"{split}, {state} leads out -> C",
                    text, map_for(text, but(state + 2048)))
-            yield (f"{split}, {state} leads to a member -> safe holds",
+            yield (f"{split}, {state} leads to a member -> void",
                    text, map_for(text, every))
 
 

@@ -1,6 +1,6 @@
 """Models that say exactly which state or choice word they care for."""
 
-from inputs.phrases import command, model, numbered, stars
+from inputs.phrases import command, loop, model, numbered, stars
 
 
 def exactly(names, state):
@@ -13,6 +13,20 @@ def under(word, count=8):
     """So many stars, true under that choice word alone."""
     return " and ".join("*" if word >> j & 1 else "not *"
                         for j in range(count))
+
+
+def tossing(shared, row):
+    """A command that sets the last name freely, if there is one."""
+    names = f"{shared} {row}".split()
+    if not names:
+        return command()
+    item = f"{names[-1]} := *"
+    return command(yes=loop(yes=item) if row else item)
+
+
+def subsets(count):
+    for bits in range(1 << count):
+        yield {state for state in range(count) if bits >> state & 1}
 
 
 def quiet(count):

@@ -3,6 +3,8 @@ differ from those by one change."""
 
 import random
 
+from evidence.acceptance import HOLDS
+from evidence.report import found_sheet, verdict
 from evidence.searching import search
 from evidence.sheets import map_sheet, trace_sheet
 from inputs.cases import table_of
@@ -13,13 +15,6 @@ from inputs.small_models import small_text
 SMALL_MODELS = 90
 LARGER_MODELS = 40
 MOST_STEPS = 6000
-
-
-def found_sheet(table):
-    found = search(table)
-    if isinstance(found, tuple):
-        return "trace", trace_sheet(table, *found)
-    return "map", map_sheet(table, found)
 
 
 def wandering(rng, table):
@@ -87,8 +82,10 @@ CHANGES = (bit_flipped, byte_changed, cut, extended, last_record_again,
 def sheets_of(rng, number, text):
     """A model's sheets: the one found, two of another making, changed ones."""
     table = table_of(text)
-    kind, whole = found_sheet(table)
-    meant = "trace holds" if kind == "trace" else "safe holds"
+    found = search(table)
+    kind = "trace" if isinstance(found, tuple) else "map"
+    whole = found_sheet(table, found)
+    meant = HOLDS[verdict(table, found)]
     walk = wandering(rng, table)
     yield f"{number}, {kind} found -> {meant}", text, whole
     yield f"{number}, any map", text, any_map(rng, table)

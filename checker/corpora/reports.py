@@ -8,10 +8,11 @@ from corpora import reports_order
 from corpora import reports_random
 from corpora import reports_runs
 from corpora import reports_texts
+from corpora import reports_void
 from inputs.feed import gathered
 
-GROUPS = (reports_texts.GROUPS + reports_runs.GROUPS + reports_order.GROUPS
-          + reports_random.GROUPS)
+GROUPS = (reports_texts.GROUPS + reports_runs.GROUPS + reports_void.GROUPS
+          + reports_order.GROUPS + reports_random.GROUPS)
 
 
 def corpus():

@@ -71,7 +71,7 @@ def circles():
     """The same graphs with no state that breaks, and with none to start."""
     for detail, starts, _, steps, _, _ in ORDER[::3]:
         yield f"{detail}, no break -> safe", graph(3, 2, starts, (), steps)
-        yield (f"{detail}, no start -> safe",
+        yield (f"{detail}, no start -> void",
                graph(3, 2, (), tuple(range(8)), steps))
 
 

@@ -3,7 +3,7 @@
 from corpora.pairs_models import exactly
 from corpora.pairs_readings import READINGS
 from corpora.texts import corpus as reader_texts
-from inputs.cases import G, H
+from inputs.cases import G, G_VOID, H
 from inputs.phrases import LONG, command, loop, model, nested, numbered, stars
 from reader.reading import read
 
@@ -20,8 +20,7 @@ def worked():
     yield "H -> safe", H
     yield ("G breaks at the start -> unsafe 0",
            G.replace("keep 1 each not (w and x)", "keep 0 each 1"))
-    yield ("G has no start state -> safe",
-           G.replace("start m each not x", "start 1 each 0"))
+    yield "G has no start state -> void", G_VOID
     yield "no text -> refused 3 0", ""
     yield "a newline after G -> unsafe 1", G + "\n"
 
@@ -80,7 +79,7 @@ def limits():
 
 def no_names():
     for start, keep, meant in (("1", "1", "safe"), ("1", "0", "unsafe 0"),
-                               ("0", "0", "safe"), ("0", "1", "safe")):
+                               ("0", "0", "void"), ("0", "1", "void")):
         for place in (0, 1):
             pair = [("1", "1"), ("1", "1")]
             pair[0] = (start, "1") if place else ("1", start)

@@ -5,6 +5,9 @@ from evidence.sheets import Map, contents
 from reader.model import Refusal
 from reader.reading import read
 
+# What is said of a sheet without fault, by the verdict that it is for.
+HOLDS = {"safe": "safe holds", "void": "void", "unsafe": "trace holds"}
+
 
 def map_fault(table, members):
     if any(table.starts(state) and state not in members
@@ -18,6 +21,13 @@ def map_fault(table, members):
     return None
 
 
+def map_answer(table, members):
+    """Where nothing starts there is no run to be safe, whichever members a
+    map without fault has."""
+    fault = map_fault(table, members)
+    return fault or HOLDS["safe" if table.can_start() else "void"]
+
+
 def trace_fault(table, start, steps):
     if not table.starts(start):
         return "D"
@@ -29,6 +39,10 @@ def trace_fault(table, start, steps):
     return None if table.breaks(state) else "F"
 
 
+def trace_answer(table, start, steps):
+    return trace_fault(table, start, steps) or HOLDS["unsafe"]
+
+
 def answer(text, sheet):
     model = read(text)
     if isinstance(model, Refusal):
@@ -38,5 +52,5 @@ def answer(text, sheet):
     if isinstance(held, Refusal):
         return f"refused {held.number} {held.place}"
     if isinstance(held, Map):
-        return map_fault(table, held.members) or "safe holds"
-    return trace_fault(table, held.start, held.steps) or "trace holds"
+        return map_answer(table, held.members)
+    return trace_answer(table, held.start, held.steps)

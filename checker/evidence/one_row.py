@@ -57,6 +57,9 @@ class OneRow:
     def starts(self, state):
         return self.holds(self.model.start, state)
 
+    def can_start(self):
+        return any(map(self.starts, range(self.states)))
+
     def breaks(self, state):
         return not self.holds(self.model.keep, state)
 

@@ -7,15 +7,24 @@ from reader.model import Refusal
 from reader.reading import read
 
 
+def verdict(table, found):
+    """A model is void by its start states alone, whatever its runs do."""
+    if not table.can_start():
+        return "void"
+    return "unsafe" if isinstance(found, tuple) else "safe"
+
+
 def report_lines(text):
     model = read(text)
     if isinstance(model, Refusal):
         return [f"refused {model.number} {model.place}"]
-    found = search(OneRow(model))
+    table = OneRow(model)
+    found = search(table)
+    said = verdict(table, found)
     lines = [f"model {len(model.shared)} {len(model.row)} "
              f"{len(model.commands)}"]
-    if isinstance(found, set):
-        return lines + ["safe"]
+    if said != "unsafe":
+        return lines + [said]
     start, steps = found
     lines += [f"unsafe {len(steps)}", f"start {start}"]
     for number, (command, word, after) in enumerate(steps, 1):
@@ -28,13 +37,24 @@ def report(text):
     return "".join(line + "\n" for line in report_lines(text))
 
 
-def sheet(text):
-    """The sheet's bytes, or the text's Refusal."""
+def searched(text):
+    """The verdict and the sheet's bytes, or the text's Refusal."""
     model = read(text)
     if isinstance(model, Refusal):
         return model
     table = OneRow(model)
     found = search(table)
+    return verdict(table, found), found_sheet(table, found)
+
+
+def found_sheet(table, found):
+    """The sheet of what the search found."""
     if isinstance(found, set):
         return map_sheet(table, found)
     return trace_sheet(table, *found)
+
+
+def sheet(text):
+    """The sheet's bytes, or the text's Refusal."""
+    said = searched(text)
+    return said if isinstance(said, Refusal) else said[1]

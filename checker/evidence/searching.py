@@ -9,7 +9,7 @@ and steps that lose no time, the first in the order of runs is always taken.
 
 def search(table):
     """The start state and steps of the run that comes first, or the set of
-    states that runs lead to."""
+    states that runs lead to, which is empty where nothing starts."""
     starts = [state for state in range(table.states) if table.starts(state)]
     befores = gathered(table, starts)
     left = steps_left(table, befores)

@@ -13,6 +13,9 @@ G = ("shared m. row w x.\n"
      "for 1 do w := *; x := * else skip end else skip.")
 H = G.replace("x := *", "x := not w and *")
 
+# Nothing starts; 6 and 7 break as in G.
+G_VOID = G.replace("start m each not x", "start 1 each 0")
+
 # The first breaking run of G: from state 1 by word 3 to state 7.
 G_SHEET = bytes.fromhex("030000000100010201"
                         "0200000003000100"

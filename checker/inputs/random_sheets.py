@@ -1,15 +1,13 @@
 """Random sheets for a model: found by the search, walked at random, with a
 fault in their contents, or with damaged bytes."""
 
+from evidence.report import found_sheet
 from evidence.searching import search
 from evidence.sheets import header, map_sheet, record, trace_sheet
 
 
 def found(rng, table):
-    answer = search(table)
-    if isinstance(answer, tuple):
-        return trace_sheet(table, *answer)
-    return map_sheet(table, answer)
+    return found_sheet(table, search(table))
 
 
 def some_map(rng, table):

@@ -102,6 +102,11 @@ def is_start(model, state):
             and all(truth(model.start.row, {}, shared, row) for row in rows))
 
 
+def can_start(model, rows):
+    """Whether a table of so many rows has a start state."""
+    return any(is_start(model, state) for state in states(model, rows))
+
+
 def is_broken(model, state):
     shared, rows = state
     return (not truth(model.keep.shared, {}, shared, ())

@@ -5,15 +5,17 @@ import random
 import unittest
 from collections import Counter
 
-from evidence.acceptance import answer
+from evidence.acceptance import HOLDS, answer
+from evidence.report import verdict
 from evidence.searching import search
 from evidence.sheets import (Map, Trace, contents, header, map_sheet, record,
                              step_record, trace_sheet)
-from inputs.cases import G, G_SHEET, H, map_for, table_of
+from inputs.cases import G, G_SHEET, G_VOID, H, map_for, table_of
 from inputs.phrases import model
 from inputs.small_models import small_text
+from inputs.starts import NOTHING_STARTS, ONE_STARTS
 from rows.copied_runs import copied_run_holds
-from rows.tables import goes_wrong
+from rows.tables import can_start, goes_wrong
 
 
 def by_map(text, *members):
@@ -62,9 +64,18 @@ class Cases(unittest.TestCase):
         self.assertEqual(search(table_of(text)), (1, ()))
 
     def test_no_start(self):
-        text = G.replace("start m each not x", "start 1 each 0")
-        self.assertEqual(search(table_of(text)), set())
-        self.assertEqual(by_map(text), "safe holds")
+        table = table_of(G_VOID)
+        self.assertEqual(search(table), set())
+        self.assertEqual(verdict(table, set()), "void")
+        self.assertEqual(by_map(G_VOID), "void")
+        self.assertEqual(by_map(G_VOID, 0, 2, 4), "void")
+        self.assertEqual(by_map(G_VOID, 0, 6), "B")
+        self.assertEqual(by_map(G_VOID, 0, 1), "C")
+        self.assertEqual(answer(G_VOID.encode(), G_SHEET), "D")
+
+    def test_void_of_no_other_empty_map(self):
+        for text in (G, H):
+            self.assertEqual(by_map(text), "A")
 
 
 class Sheets(unittest.TestCase):
@@ -149,22 +160,37 @@ class ManyRows(unittest.TestCase):
         met = Counter()
         for text, table in small_tables(random.Random(7), 300):
             found = search(table)
-            wrong = isinstance(found, tuple)
+            said = verdict(table, found)
             for rows in (1, 2, 3):
-                self.assertEqual(goes_wrong(table.model, rows), wrong, text)
-            if wrong:
+                self.assertEqual(goes_wrong(table.model, rows),
+                                 said == "unsafe", text)
+                self.assertEqual(can_start(table.model, rows),
+                                 said != "void", text)
+            if said == "unsafe":
                 sheet = trace_sheet(table, *found)
                 self.assertEqual(answer(text.encode(), sheet), "trace holds")
                 for rows in (1, 2, 3):
                     self.assertTrue(copied_run_holds(table, *found, rows),
                                     text)
-                met["unsafe", min(len(found[1]), 2)] += 1
+                said += f" {min(len(found[1]), 2)}"
             else:
-                self.assertEqual(by_map(text, *found), "safe holds")
-                met["safe", bool(found)] += 1
-        for kind in (("unsafe", 0), ("unsafe", 1), ("unsafe", 2),
-                     ("safe", True), ("safe", False)):
+                self.assertEqual(by_map(text, *found), HOLDS[said])
+                self.assertEqual(bool(found), said == "safe", text)
+            met[said] += 1
+        for kind in ("unsafe 0", "unsafe 1", "unsafe 2"):
             self.assertGreater(met[kind], 0, kind)
+        for kind in ("safe", "void"):
+            self.assertGreaterEqual(met[kind], 50, kind)
+
+    def test_starts_in_every_row(self):
+        """Each way to contradict, and each single start state."""
+        for starts, meant in ((NOTHING_STARTS, False), (ONE_STARTS, True)):
+            for detail, shared, row, start, *_ in starts:
+                table = table_of(model(shared, row, start))
+                self.assertEqual(table.can_start(), meant, detail)
+                for rows in (1, 2, 3):
+                    self.assertEqual(can_start(table.model, rows), meant,
+                                     detail)
 
     def test_any_passing_sheet_is_right(self):
         rng = random.Random(8)
@@ -173,19 +199,22 @@ class ManyRows(unittest.TestCase):
             members = {state for state in range(table.states)
                        if rng.random() < 0.8 and not table.breaks(state)}
             said = by_map(text, *members)
-            if said == "safe holds":
+            if said in ("safe holds", "void"):
                 for rows in (1, 2, 3):
                     self.assertFalse(goes_wrong(table.model, rows), text)
-            met[said] += 1
-        for said in ("safe holds", "A", "C"):
-            self.assertGreater(met[said], 0, said)
+                    self.assertEqual(can_start(table.model, rows),
+                                     said == "safe holds", text)
+            met[said, bool(members)] += 1
+        for said in ("safe holds", "void", "A", "C"):
+            self.assertGreaterEqual(met[said, True], 5, said)
 
     def test_no_rows(self):
         text = model("", "", ("1", "0"), ("0", "1"))
         table = table_of(text)
-        self.assertEqual(by_map(text), "safe holds")
-        self.assertFalse(goes_wrong(table.model, 1))
-        self.assertTrue(goes_wrong(table.model, 0))
+        self.assertEqual(by_map(text), "void")
+        for rows, meant in ((0, True), (1, False)):
+            self.assertEqual(can_start(table.model, rows), meant)
+            self.assertEqual(goes_wrong(table.model, rows), meant)
 
 
 if __name__ == "__main__":

@@ -9,7 +9,7 @@ from evidence.report import report
 from evidence.searching import search
 from reader.reading import read
 from rows.copied_runs import copied_run_holds
-from rows.tables import goes_wrong, walked
+from rows.tables import can_start, goes_wrong, walked
 
 MODELS = pathlib.Path(__file__).resolve().parents[2] / "models"
 MOST_WALKED = 1_000_000
@@ -24,16 +24,20 @@ class Models(unittest.TestCase):
     def stored(self, name):
         return (MODELS / f"{name}.report").read_text()
 
+    def verdict(self, name):
+        """By the stored report, without the number of steps."""
+        return self.stored(name).splitlines()[1].split()[0]
+
     def is_stored_unsafe(self, name):
-        return self.stored(name).splitlines()[1].startswith("unsafe ")
+        return self.verdict(name) == "unsafe"
 
     def test_reports(self):
         for name, text in self.texts.items():
             self.assertEqual(report(text), self.stored(name), name)
 
-    def test_both_verdicts(self):
-        self.assertEqual(set(map(self.is_stored_unsafe, self.texts)),
-                         {False, True})
+    def test_every_verdict(self):
+        self.assertEqual(set(map(self.verdict, self.texts)),
+                         {"safe", "void", "unsafe"})
 
     def test_tables_of_two_rows(self):
         count = 0
@@ -43,6 +47,8 @@ class Models(unittest.TestCase):
                 count += 1
                 self.assertEqual(goes_wrong(model, 2),
                                  self.is_stored_unsafe(name), name)
+                self.assertEqual(can_start(model, 2),
+                                 self.verdict(name) != "void", name)
         self.assertGreaterEqual(count, 9)
 
     def test_traces_in_every_row(self):

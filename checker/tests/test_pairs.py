@@ -11,15 +11,25 @@ from evidence.acceptance import answer
 from evidence.sheets import LONGEST_SHEET, contents
 from inputs.cases import G, G_SHEET, H, map_for, table_of, trace_for
 from inputs.feed import packed
+from inputs.random_pairs import random_pairs
 
 LETTERS = ("A", "B", "C", "D", "E", "F")
-HOLDING = ("safe holds", "trace holds")
+HOLDING = ("safe holds", "void", "trace holds")
 REFUSALS = tuple(f"refused {n}" for n in (1, 2, 3, 4, 5, 6, 7, 9, 10))
 
 
 def kind(said):
     """An answer line without the place of a refusal."""
     return " ".join(said.split()[:2])
+
+
+def note_void(met, text, sheet, said):
+    """Counts the answer where nothing starts in the text's model."""
+    if said.startswith("refused ") or table_of(text.decode()).can_start():
+        return
+    if said == "void":
+        said += ", members" if any(sheet[15:]) else ", empty"
+    met[said] += 1
 
 
 def meant_by(label):
@@ -68,6 +78,20 @@ class Corpus(unittest.TestCase):
             if "_random: " in label)
         for meant in LETTERS + HOLDING + ("refused 9", "refused 10"):
             self.assertGreaterEqual(met[meant], 10, meant)
+
+    def test_void_models_have_every_answer(self):
+        """By hand, in the stored random pairs, and in those of fuzz_sheets."""
+        by_hand, at_random, fuzzed = Counter(), Counter(), Counter()
+        for (label, text, sheet), said in zip(self.pairs, self.said):
+            met = at_random if "_random: " in label else by_hand
+            note_void(met, text, sheet, said)
+        for text, sheet in random_pairs(600, 5, False):
+            note_void(fuzzed, text, sheet, answer(text, sheet))
+        for met, least in ((by_hand, 30), (at_random, 5), (fuzzed, 5)):
+            for meant in ("void, empty", "void, members", "B", "C", "D"):
+                self.assertGreaterEqual(met[meant], least, meant)
+            self.assertFalse({"safe holds", "trace holds", "A", "E", "F"}
+                             & set(met))
 
     def test_places(self):
         met = set(self.said)
@@ -147,6 +171,24 @@ class WrongTests(unittest.TestCase):
                           wrong.reached_members)
         self.assert_shown("letters_of_maps", "acceptance.map_fault",
                           wrong.breaks_before_starts)
+
+    def test_void(self):
+        for part in (wrong.never_void, wrong.void_of_empty_map_alone,
+                     wrong.void_before_faults):
+            for group in ("worked_void", "maps_where_nothing_starts"):
+                self.assert_shown(group, "acceptance.map_answer", part)
+        for group in ("maps_where_one_starts", "letters_of_maps",
+                      "wide_void"):
+            self.assert_shown(group, "acceptance.map_answer",
+                              wrong.void_of_any_empty_map)
+        for group in ("worked_void", "traces_where_nothing_starts"):
+            self.assert_shown(group, "acceptance.trace_answer",
+                              wrong.void_of_traces)
+        self.assert_shown("maps_where_nothing_starts", "acceptance.OneRow",
+                          wrong.PartsOfStartApart)
+        for table in (wrong.FirstStateAlone, wrong.AllButLastState):
+            for group in ("maps_where_one_starts", "wide_void"):
+                self.assert_shown(group, "acceptance.OneRow", table)
 
     def test_traces(self):
         for group in ("one_wrong_step", "longest"):

@@ -10,17 +10,18 @@ from unittest import mock
 from tests import wrong_searches as wrong
 from corpora.reports import corpus
 from corpora.reports_order import ORDER
-from evidence.acceptance import answer
+from evidence.acceptance import HOLDS, answer
 from evidence.one_row import OneRow
-from evidence.report import report, sheet
+from evidence.report import report, searched, sheet
 from evidence.searching import search
-from inputs.cases import G, G_SHEET, H
+from inputs.cases import G, G_SHEET, G_VOID, H
 from inputs.feed import packed
 from inputs.graphs import graph
+from inputs.random_searches import random_models
 from reader.model import Refusal
 from reader.reading import read
 from rows.copied_runs import copied_run_holds
-from rows.tables import goes_wrong, walked
+from rows.tables import can_start, goes_wrong, walked
 
 MOST_WALKED = 3000
 
@@ -41,8 +42,8 @@ def verdict(lines):
 
 
 def found_in(lines, model):
-    """What a report says was found: a run, or None where it says safe."""
-    if lines[1] == "safe":
+    """What a report says was found: a run, or None where it has none."""
+    if lines[1] in ("safe", "void"):
         return None
     numbers = {command.name.word: number
                for number, command in enumerate(model.commands)}
@@ -90,7 +91,7 @@ class Reports(unittest.TestCase):
                 said = said.rsplit(" ", 1)[0]
             self.assertEqual(said, meant, label)
             met[meant.split(" ")[0]] += 1
-        for kind in ("safe", "unsafe", "refused"):
+        for kind in ("safe", "void", "unsafe", "refused"):
             self.assertGreaterEqual(met[kind], 50, kind)
 
     def test_refusals(self):
@@ -106,8 +107,37 @@ class Reports(unittest.TestCase):
             if label.split(":")[0] in ("small_random", "larger_random",
                                        "random_graphs"):
                 met[verdict(lines)] += 1
-        for kind in ("safe", "unsafe 0", "unsafe 1", "unsafe 2", "unsafe 3"):
+        for kind in ("safe", "void", "unsafe 0", "unsafe 1", "unsafe 2",
+                     "unsafe 3"):
             self.assertGreaterEqual(met[kind], 5, kind)
+
+    def test_fuzzed_models_have_every_verdict(self):
+        met = Counter(verdict(right_report(text).splitlines()).split()[0]
+                      for text in random_models(500, 3))
+        for kind in ("safe", "void", "unsafe"):
+            self.assertGreaterEqual(met[kind], 50, kind)
+
+    def test_void_in_every_row(self):
+        """No table of one, two or three rows has a start state where the
+        report says void, and each has one where it says something else."""
+        met, names = Counter(), set()
+        for (label, text), lines in zip(self.texts, self.said):
+            if lines[0].startswith("refused "):
+                continue
+            model, void = read(text), lines[1] == "void"
+            self.assertEqual(OneRow(model).can_start(), not void, label)
+            if void:
+                self.assertEqual(lines[2:], [], label)
+                self.assertFalse(any(sheet(text)[15:]), label)
+                names.add((len(model.shared), len(model.row)))
+            for rows in (1, 2, 3):
+                if walked(model, rows) <= MOST_WALKED:
+                    self.assertEqual(can_start(model, rows), not void, label)
+                    met[rows, void] += 1
+        for rows in (1, 2, 3):
+            for void in (False, True):
+                self.assertGreaterEqual(met[rows, void], 40, rows)
+        self.assertLessEqual({(0, 0), (0, 1), (1, 0), (1, 1), (8, 4)}, names)
 
     def test_what_is_met(self):
         steps, starts, words, commands, lengths = (set() for _ in range(5))
@@ -140,12 +170,17 @@ class Reports(unittest.TestCase):
         self.assertEqual(report(G.encode()),
                          "model 1 2 1\nunsafe 1\nstart 1\nstep 1 grant 3 7\n")
         self.assertEqual(report(H.encode()), "model 1 2 1\nsafe\n")
+        self.assertEqual(report(G_VOID.encode()), "model 1 2 1\nvoid\n")
         self.assertEqual(report(b""), "refused 3 0\n")
         self.assertEqual(sheet(G.encode()), G_SHEET)
-        self.assertEqual(sheet(H.encode())[9:].hex(), "010000000200" + "2a")
+        for text, said, byte in ((H, "safe", "2a"), (G_VOID, "void", "00")):
+            verdict_met, written = searched(text.encode())
+            self.assertEqual(verdict_met, said)
+            self.assertEqual(written, sheet(text.encode()))
+            self.assertEqual(written[9:].hex(), "010000000200" + byte)
         self.assertEqual(sheet(b""), Refusal(3, 0))
         tried = {text for _, text in self.texts}
-        for text in (G, H, ""):
+        for text in (G, H, G_VOID, ""):
             self.assertIn(text.encode(), tried)
 
     def test_order(self):
@@ -171,8 +206,8 @@ class Reports(unittest.TestCase):
             if table.states * sum(map(table.words, range(table.commands))
                                   ) > MOST_WALKED:
                 continue
-            meant = "safe holds" if lines[1] == "safe" else "trace holds"
-            self.assertEqual(answer(text, sheet(text)), meant, label)
+            self.assertEqual(answer(text, sheet(text)),
+                             HOLDS[lines[1].split()[0]], label)
 
     def test_copied_runs(self):
         """Each trace, copied to every row, is a breaking run there too."""
@@ -241,6 +276,20 @@ class WrongSearches(unittest.TestCase):
                           "one_start", "order")
         self.assert_shown("report.search", wrong.all_safe, "worked")
         self.assert_shown("report.search", wrong.one_step_more, "worked")
+
+    def test_void(self):
+        self.assert_shown("report.verdict", wrong.never_void, "worked",
+                          "nothing_starts", "wide_starts", "circles",
+                          "no_names", "small_random", "larger_random")
+        self.assert_shown("report.verdict", wrong.void_where_nothing_moves,
+                          "no_names", "wide_starts", "limits")
+        self.assert_shown("report.verdict", wrong.void_where_starts_break,
+                          "worked", "one_starts", "broken_start")
+        self.assert_shown("report.OneRow", wrong.PartsOfStartApart,
+                          "nothing_starts", "wide_starts")
+        for part in (wrong.FirstStateAlone, wrong.AllButLastState):
+            self.assert_shown("report.OneRow", part, "one_starts",
+                              "wide_starts")
 
 
 if __name__ == "__main__":

@@ -4,8 +4,11 @@ from the right one is too weak."""
 from collections import deque
 
 from evidence.one_row import OneRow
+from evidence.report import verdict
 from evidence.searching import search
-from tests.wrong_tables import FifteenCommands, WordsBelow64
+from tests.wrong_tables import (AllButLastState, FifteenCommands,
+                                FirstStateAlone, PartsOfStartApart,
+                                WordsBelow64)
 
 
 class LastWordFirst(OneRow):
@@ -102,3 +105,21 @@ def one_step_more(table):
     start, steps = found
     last = steps[-1][2] if steps else start
     return start, steps + (next(table.steps_from(last)),)
+
+
+def never_void(table, found):
+    """Takes a model in which nothing starts for a safe one."""
+    return "unsafe" if isinstance(found, tuple) else "safe"
+
+
+def void_where_nothing_moves(table, found):
+    """Says void of a model whose steps lead nowhere."""
+    still = isinstance(found, set) and all(map(table.starts, found))
+    return "void" if still else verdict(table, found)
+
+
+def void_where_starts_break(table, found):
+    """Looks for a start state among those that are kept."""
+    kept = any(table.starts(state) and not table.breaks(state)
+               for state in range(table.states))
+    return verdict(table, found) if kept else "void"

@@ -1,11 +1,14 @@
 """Parts of the acceptance test, each wrong in one way: a corpus that does not
 tell them from the right ones is too weak."""
 
-from evidence.acceptance import map_fault, trace_fault
+from evidence.acceptance import (map_answer, map_fault, trace_answer,
+                                 trace_fault)
 from evidence.one_row import OneRow
 from evidence.searching import search
 from evidence.sheets import contents, header, map_length
-from tests.wrong_tables import FifteenCommands, WordsBelow64
+from tests.wrong_tables import (AllButLastState, FifteenCommands,
+                                FirstStateAlone, PartsOfStartApart,
+                                WordsBelow64)
 
 MAP_KIND = b"\2\0"
 
@@ -58,6 +61,31 @@ def breaks_before_starts(table, members):
     if any(map(table.breaks, members)):
         return "B"
     return map_fault(table, members)
+
+
+def never_void(table, members):
+    """Takes a model in which nothing starts for a safe one."""
+    return map_fault(table, members) or "safe holds"
+
+
+def void_of_empty_map_alone(table, members):
+    said = map_answer(table, members)
+    return "safe holds" if said == "void" and members else said
+
+
+def void_of_any_empty_map(table, members):
+    """Does not ask which start states the empty map lacks."""
+    return map_answer(table, members) if members else "void"
+
+
+def void_before_faults(table, members):
+    """Looks at no member where nothing starts."""
+    return map_answer(table, members) if table.can_start() else "void"
+
+
+def void_of_traces(table, start, steps):
+    return (trace_answer(table, start, steps) if table.can_start()
+            else "void")
 
 
 def without_end(table, start, steps):

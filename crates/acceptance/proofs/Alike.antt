@@ -8,11 +8,11 @@ use native.Mathlib.Omega.{arith}
 use lib.Dec.{eqb}
 use Rattle.meaning.specs.OneRow.{lastOf}
 use Rattle.meaning.specs.Evidence.{inMap}
-use Rattle.meaning.specs.working.Conditions.{every, implies, wordsStay, closedAt, testA, testB, testC, testE}
+use Rattle.meaning.specs.working.Conditions.{every, implies, wordsStay, closedAt, testVoid, testA, testB, testC, testE}
 use Rattle.sheets.specs.Sheets.{System, headerLength, mapLength}
 use Rattle.sheets.specs.SheetTexts.{twoAt, stepIn}
 use Rattle.sheets.specs.working.SheetReading.{mapIn, stepsIn, stepCount, sheetOf, StepsStand}
-use Rattle.acceptance.specs.working.Test.{mapAnswer, walk, traceAnswer, outcomeOf}
+use Rattle.acceptance.specs.working.Test.{passedAnswer, mapAnswer, walk, traceAnswer, outcomeOf}
 use Rattle.sheets.specs.working.Shapes.{shapeOf}
 use Rattle.sheets.specs.declared.shapes.Shape.{Shape}
 use Rattle.sheets.specs.declared.shapes.Shape.the-variants.{Bad, Map, Trace}
@@ -39,6 +39,10 @@ module _ (bits kind : ℕ) (counts : List ℕ) (commands : ℕ) (f f′ : ℕ �
   abbrev N : System
   N = record { bits = bits; kind = kind; counts = counts; commands = commands; stars = f′; starts = p′; breaks = q′; step = n′ }
 
+  void-alike : testVoid states p ≡ testVoid states p′
+  unfolding testVoid
+  void-alike = every-alike states _ _ λ s h. ap not (starts-alike s h)
+
   a-alike : (map : List ℕ) → testA states p map ≡ testA states p′ map
   unfolding testA
   a-alike map = every-alike states _ _ λ s h. ap (λ (x : Bool). implies x (inMap map s)) (starts-alike s h)
@@ -58,8 +62,8 @@ module _ (bits kind : ℕ) (counts : List ℕ) (commands : ℕ) (f f′ : ℕ �
   c-alike map = every-alike states _ _ λ s h. ap (implies (inMap map s)) (every-alike commands _ _ λ k l. words-alike map s k h l)
 
   map-alike : (map : List ℕ) → mapAnswer M map ≡ mapAnswer N map
-  unfolding mapAnswer
-  map-alike map = rw (a-alike map, b-alike map, c-alike map) refl
+  unfolding mapAnswer passedAnswer
+  map-alike map = rw (a-alike map, b-alike map, c-alike map, void-alike) refl
 
   -- The steps of a trace that stand are in range.
   module _ (b : List ℕ) where

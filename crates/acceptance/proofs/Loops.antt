@@ -1,4 +1,4 @@
--- The conditions A, B and C, one turn of a loop at a time; and the bit of a map.
+-- The conditions A, B and C, and whether there is no start state, one turn of a loop at a time; and the bit of a map.
 -- Assumes nothing.
 use mathlib.Core.Path.{_≡_, refl, sym, ap, _∙_, subst}
 use mathlib.Core.Bool.{Bool, true, false, not, _&&_}
@@ -14,7 +14,7 @@ use lib.Dec.{eqb}
 use lib.Pow.{pow-pos}
 use Rattle.meaning.specs.Bits.{bit}
 use Rattle.meaning.specs.Evidence.{inMap}
-use Rattle.meaning.specs.working.Conditions.{every, implies, wordsStay, testA, testB, testC, closedAt}
+use Rattle.meaning.specs.working.Conditions.{every, implies, wordsStay, testVoid, testA, testB, testC, closedAt}
 use Rattle.evaluation.specs.working.CodeMachine.{runOf, startOf}
 use Rattle.evaluation.specs.working.Batches.{afterOf}
 use Rattle.evaluation.specs.working.CodeSystem.{segmentOf, nextIn, Bounds}
@@ -44,6 +44,10 @@ and-no : (a : Bool) → a && false ≡ false
 and-no true = refl
 and-no false = refl
 
+and-yes : (a : Bool) → a ≡ a && true
+and-yes true = refl
+and-yes false = refl
+
 pub every-fail : (n : ℕ) (f : ℕ → Bool) (i : ℕ) → i < n → f i ≡ false → false ≡ every n f
 unfolding every
 every-fail zero f i h e = absurd (not-suc-le-zero h)
@@ -68,6 +72,26 @@ implies-yes false b e = refl
 pub implies-bad : (a b : Bool) → a ≡ true → b ≡ false → implies a b ≡ false
 unfolding implies
 implies-bad a b e f = rw (e, f)
+
+-- Whether there is no start state, one state more at a time.
+module _ (starts : ℕ → Bool) (s : ℕ) where
+  pub void-none : true ≡ testVoid 0 starts
+  unfolding testVoid
+  void-none = sym (every-none _)
+
+  pub void-fail : (n : ℕ) → s < n → starts s ≡ true → false ≡ testVoid n starts
+  unfolding testVoid
+  void-fail n l h = every-fail _ _ _ l (ap not h)
+
+  pub void-start : starts s ≡ true → false ≡ testVoid (s + 1) starts
+  void-start h = void-fail (s + 1) (omega arith) h
+
+  pub void-other : (none : Bool) → none ≡ testVoid s starts → starts s ≡ false → none ≡ testVoid (s + 1) starts
+  unfolding testVoid every
+  void-other none e h = rw (add-one, h, e) (and-yes _)
+
+  pub void-done : (none : Bool) (n : ℕ) → s ≤ n → n ≤ s → none ≡ testVoid s starts → none ≡ testVoid n starts
+  void-done none n h k e = let q : s ≡ n = omega arith in e ∙ ap (λ (x : ℕ). testVoid x starts) q
 
 -- A, one state more at a time.
 module _ (starts : ℕ → Bool) (map : List ℕ) (s : ℕ) where

@@ -16,7 +16,7 @@ use Rattle.acceptance.specs.Outcomes.{wordingOf}
 use Rattle.acceptance.specs.Promises.{answerTo, Bounded, AnswersBounded}
 use Rattle.acceptance.specs.working.Test.{outcomeOf}
 use Rattle.acceptance.specs.declared.outcome.Outcome.{Outcome}
-use Rattle.acceptance.specs.declared.outcome.Outcome.the-variants.{SafeHolds, TraceHolds, FailsA, FailsB, FailsC, FailsD, FailsE, FailsF, Refused}
+use Rattle.acceptance.specs.declared.outcome.Outcome.the-variants.{SafeHolds, Void, TraceHolds, FailsA, FailsB, FailsC, FailsD, FailsE, FailsF, Refused}
 use Rattle.sheets.proofs.SheetRefusals.{within}
 use Rattle.acceptance.proofs.TestMeans.{refusal-means}
 use Rattle.acceptance.proofs.Claims.{said, text-comes-first}
@@ -35,6 +35,7 @@ module _ (M : System) (b : List ℕ) where
 bounded-if : (o : Outcome) → ((n p : ℕ) → o ≡ Refused n p → (1 ≤ n) × (n ≤ 10) × (p ≤ longest)) → Bounded (wordingOf o)
 unfolding wordingOf
 bounded-if SafeHolds f = tt
+bounded-if Void f = tt
 bounded-if TraceHolds f = tt
 bounded-if FailsA f = tt
 bounded-if FailsB f = tt

@@ -18,12 +18,12 @@ use Rattle.meaning.specs.Bits.{bit, number}
 use Rattle.meaning.specs.Meaning.{eval, runRow, runItem, runItems, step}
 use Rattle.meaning.specs.OneRow.{stateNumber, spread, spreadWord, starts, breaks, next, lastOf}
 use Rattle.meaning.specs.Evidence.{inMap}
-use Rattle.meaning.specs.working.Conditions.{every, implies, testA, testB, wordsStay, closedAt, testC, testE}
+use Rattle.meaning.specs.working.Conditions.{every, implies, testVoid, testA, testB, wordsStay, closedAt, testC, testE}
 use Rattle.sheets.specs.Sheets.{mapLength}
 use Rattle.sheets.specs.SheetTexts.{twoAt, fourAt, isRecord, sameCounts, unusedClear, stepIn, stepFits}
 use Rattle.acceptance.specs.Outcomes.{wordingOf}
 use Rattle.sheets.specs.working.SheetReading.{demand, either, mapIn, mapAt, stepsIn, stepsAt, stepCount, traceAt, bodyAt, sheetIn}
-use Rattle.acceptance.specs.working.Test.{mapAnswer, walk, traceAnswer, answerIn, judge, outcomeOf, testIn, testOf}
+use Rattle.acceptance.specs.working.Test.{passedAnswer, mapAnswer, walk, traceAnswer, answerIn, judge, outcomeOf, testIn, testOf}
 use Rattle.acceptance.specs.Cases.{Case, cases, AllCases}
 
 -- To unfold this is to unfold all that computes the answer to a text and a sheet.
@@ -32,10 +32,10 @@ unfolding bytes sameWord reserved wordIn wordToken sameKind allowed nameCounts v
     placeOf among nameOf exprOf rowItemOf rowItemsOf itemOf itemsOf commandOf clauseOf modelOf
     span mark front lexemes tokensFrom tally note exceeds fault lines skips find T.step ending reads answer
     bit number eval runRow runItem runItems step stateNumber spread spreadWord starts breaks next lastOf
-    inMap every implies testA testB wordsStay closedAt testC testE
+    inMap every implies testVoid testA testB wordsStay closedAt testC testE
     mapLength twoAt fourAt isRecord sameCounts unusedClear stepIn stepFits
     demand either mapIn mapAt stepsIn stepsAt stepCount traceAt bodyAt sheetIn
-    mapAnswer walk traceAnswer answerIn judge outcomeOf testIn testOf wordingOf
+    passedAnswer mapAnswer walk traceAnswer answerIn judge outcomeOf testIn testOf wordingOf
 answering = tt
 
 -- The answers to all rows, and what is expected in all rows.

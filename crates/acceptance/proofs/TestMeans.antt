@@ -1,4 +1,4 @@
--- Each outcome of the test is given exactly where its conditions say, and one of the two that hold exactly where the sheet passes.
+-- Each outcome of the test is given exactly where its conditions say.
 -- Assumes nothing.
 use mathlib.Core.Path.{_≡_, refl, sym, ap, _∙_}
 use mathlib.Core.Logic.{_↔_}
@@ -9,17 +9,18 @@ use native.Mathlib.Omega.{arith}
 use lib.ListN.{length}
 use Rattle.notation.specs.Model.{Model}
 use Rattle.notation.specs.Regular.{Regular, Every}
-use Rattle.meaning.specs.OneRow.{stateCount, starts, breaks, next, TraceStep, lastOf}
-use Rattle.meaning.specs.Evidence.{safe, trace, ConditionA, ConditionB, ConditionC, ConditionD, ConditionE, ConditionF, StepFits}
+use Rattle.meaning.specs.Meaning.{CanStart}
+use Rattle.meaning.specs.OneRow.{One, stateCount, starts, breaks, next, TraceStep, lastOf}
+use Rattle.meaning.specs.Evidence.{safe, trace, ConditionA, ConditionB, ConditionC, ConditionD, ConditionE, ConditionF, StepFits, IsVoid}
 use Rattle.sheets.specs.Sheets.{System, size, systemOf}
 use Rattle.sheets.specs.SheetTexts.{NumbersFit, AreBytes, SheetSays, SheetRefused}
 use Rattle.acceptance.specs.Promises.{MapThat, TraceThat}
-use Rattle.meaning.specs.working.Conditions.{testA, testB, testC, testE}
+use Rattle.meaning.specs.working.Conditions.{testVoid, testA, testB, testC, testE}
 use Rattle.sheets.specs.working.SheetReading.{Reading, refused, holds, sheetOf}
-use Rattle.acceptance.specs.working.Test.{mapAnswer, walk, traceAnswer, answerIn, judge, outcomeOf}
+use Rattle.acceptance.specs.working.Test.{passedAnswer, mapAnswer, walk, traceAnswer, answerIn, judge, outcomeOf}
 use Rattle.acceptance.specs.declared.outcome.Outcome.{Outcome}
-use Rattle.acceptance.specs.declared.outcome.Outcome.the-variants.{SafeHolds, TraceHolds, FailsA, FailsB, FailsC, FailsD, FailsE, FailsF, Refused}
-use Rattle.meaning.proofs.Accept.{all-tests-tell}
+use Rattle.acceptance.specs.declared.outcome.Outcome.the-variants.{SafeHolds, Void, TraceHolds, FailsA, FailsB, FailsC, FailsD, FailsE, FailsF, Refused}
+use Rattle.meaning.proofs.Accept.{all-tests-tell, can-start}
 use Rattle.evaluation.proofs.Powers.{pow-small}
 use Rattle.sheets.proofs.SheetRefusals.{refused-iff-reads}
 use Rattle.sheets.proofs.SheetSplit.{says-iff-reads}
@@ -27,6 +28,7 @@ use Rattle.sheets.proofs.SheetSplit.{says-iff-reads}
 -- What an outcome is about, 0 for a map, 1 for a trace, 2 for neither; and which of its three conditions failed, if one did.
 kind : Outcome → ℕ
 kind SafeHolds = 0
+kind Void = 0
 kind FailsA = 0
 kind FailsB = 0
 kind FailsC = 0
@@ -38,6 +40,7 @@ kind (Refused n p) = 2
 
 failed : Outcome → ℕ
 failed SafeHolds = 0
+failed Void = 0
 failed FailsA = 1
 failed FailsB = 2
 failed FailsC = 3
@@ -79,14 +82,15 @@ third-failed true true false e = (refl, refl, refl)
 third-failed true false c e = (refl, cc, cc)
 third-failed false b c e = (cc, cc, cc)
 
-map-chain : (a b c : Bool)
-    → (kind (cond a (cond b (cond c SafeHolds FailsC) FailsB) FailsA) ≡ 0)
-    × (failed (cond a (cond b (cond c SafeHolds FailsC) FailsB) FailsA) ≡ firstOf a b c)
+map-chain : (a b c v : Bool)
+    → (kind (cond a (cond b (cond c (cond v Void SafeHolds) FailsC) FailsB) FailsA) ≡ 0)
+    × (failed (cond a (cond b (cond c (cond v Void SafeHolds) FailsC) FailsB) FailsA) ≡ firstOf a b c)
 unfolding kind failed firstOf
-map-chain true true true = (refl, refl)
-map-chain true true false = (refl, refl)
-map-chain true false c = (refl, refl)
-map-chain false b c = (refl, refl)
+map-chain true true true true = (refl, refl)
+map-chain true true true false = (refl, refl)
+map-chain true true false v = (refl, refl)
+map-chain true false c v = (refl, refl)
+map-chain false b c v = (refl, refl)
 
 trace-chain : (a b c : Bool)
     → (kind (cond a (cond b (cond c TraceHolds FailsF) FailsE) FailsD) ≡ 1)
@@ -101,8 +105,10 @@ module _ (M : System) where
   map-answered : (map : List ℕ)
       → (kind (answerIn M (safe map)) ≡ 0)
       × (failed (answerIn M (safe map)) ≡ firstOf (testA (size M) (M .starts) map) (testB (size M) (M .breaks) map) (testC (size M) (M .commands) (M .stars) (M .step) map))
-  unfolding answerIn mapAnswer
-  map-answered map = map-chain (testA (size M) (M .starts) map) (testB (size M) (M .breaks) map) (testC (size M) (M .commands) (M .stars) (M .step) map)
+  unfolding answerIn mapAnswer passedAnswer
+  map-answered map =
+      map-chain (testA (size M) (M .starts) map) (testB (size M) (M .breaks) map) (testC (size M) (M .commands) (M .stars) (M .step) map)
+      (testVoid (size M) (M .starts))
 
   trace-answered : (s : ℕ) (xs : List TraceStep)
       → (kind (answerIn M (trace s xs)) ≡ 1)
@@ -189,6 +195,29 @@ module _ (m : Model) (few : NumbersFit (systemOf m)) (b : List ℕ) (bytes : Are
     λ t. trace-gives (systemOf m) b few bytes o (t .0) (t .1) (t .2) (i (t .0) (t .1) (t .2 .fits .1) .1 (t .3)),
   )
 
+-- Which of the two outcomes a map that passes has.
+not-void : (v : Bool) → cond v Void SafeHolds ≡ SafeHolds → v ≡ false
+not-void true e = cc
+not-void false e = refl
+
+is-void : (v : Bool) → cond v Void SafeHolds ≡ Void → v ≡ true
+is-void true e = refl
+is-void false e = cc
+
+passed-safe : (m : Model) → (passedAnswer (systemOf m) ≡ SafeHolds) ↔ CanStart m One
+unfolding passedAnswer
+passed-safe m = (
+  λ e. can-start m (not-void _ e),
+  λ c. rw (no-iff _ _ (all-tests-tell m .tellsVoid) .1 (λ v. v c)),
+)
+
+passed-void : (m : Model) → (passedAnswer (systemOf m) ≡ Void) ↔ IsVoid m
+unfolding passedAnswer
+passed-void m = (
+  λ e. all-tests-tell m .tellsVoid .0 (is-void _ e),
+  λ v. rw (all-tests-tell m .tellsVoid .1 v),
+)
+
 -- Which of the three failed, from the answer.
 module _ (m : Model) (map : List ℕ) where
   map-failed : (o : Outcome) → answerIn (systemOf m) (safe map) ≡ o
@@ -196,12 +225,30 @@ module _ (m : Model) (map : List ℕ) where
       ≡ failed o
   map-failed o e = sym (map-answered (systemOf m) map .1) ∙ ap failed e
 
-  safe-holds-iff : (answerIn (systemOf m) (safe map) ≡ SafeHolds) ↔ (ConditionA m map × ConditionB m map × ConditionC m map)
-  unfolding answerIn mapAnswer failed
-  safe-holds-iff = (
-    λ e. let q = none-failed _ _ _ (map-failed SafeHolds e) in (all-tests-tell m .tellsA map .0 (q .0), all-tests-tell m .tellsB map .0 (q .1), all-tests-tell m .tellsC map .0 (q .2)),
-    λ t. rw (all-tests-tell m .tellsA map .1 (t .0), all-tests-tell m .tellsB map .1 (t .1), all-tests-tell m .tellsC map .1 (t .2)),
+  -- Where none failed, the answer is that for a map that passes.
+  none-failed-answer : ConditionA m map → ConditionB m map → ConditionC m map → answerIn (systemOf m) (safe map) ≡ passedAnswer (systemOf m)
+  unfolding answerIn mapAnswer
+  none-failed-answer a b c = rw (all-tests-tell m .tellsA map .1 a, all-tests-tell m .tellsB map .1 b, all-tests-tell m .tellsC map .1 c)
+
+  passed-iff : (o : Outcome) → failed o ≡ 0 → (P : Type 0) → (passedAnswer (systemOf m) ≡ o) ↔ P
+      → (answerIn (systemOf m) (safe map) ≡ o) ↔ (ConditionA m map × ConditionB m map × ConditionC m map × P)
+  passed-iff o f P i = (
+    λ e.
+        let q = none-failed _ _ _ (map-failed o e ∙ f) in
+        let a = all-tests-tell m .tellsA map .0 (q .0) in
+        let b = all-tests-tell m .tellsB map .0 (q .1) in
+        let c = all-tests-tell m .tellsC map .0 (q .2) in
+        (a, b, c, i .0 (sym (none-failed-answer a b c) ∙ e)),
+    λ t. none-failed-answer (t .0) (t .1) (t .2) ∙ i .1 (t .3),
   )
+
+  safe-holds-iff : (answerIn (systemOf m) (safe map) ≡ SafeHolds) ↔ (ConditionA m map × ConditionB m map × ConditionC m map × CanStart m One)
+  unfolding failed
+  safe-holds-iff = passed-iff SafeHolds refl _ (passed-safe m)
+
+  void-iff : (answerIn (systemOf m) (safe map) ≡ Void) ↔ (ConditionA m map × ConditionB m map × ConditionC m map × IsVoid m)
+  unfolding failed
+  void-iff = passed-iff Void refl _ (passed-void m)
 
   fails-a-iff : (answerIn (systemOf m) (safe map) ≡ FailsA) ↔ (¬ (ConditionA m map))
   unfolding answerIn mapAnswer failed
@@ -266,7 +313,8 @@ numbers-fit m g =
 -- Each outcome for the bytes b, and exactly where it is given.
 pub record Given (m : Model) (b : List ℕ) : Type 0 where
   pub refusal : (n p : ℕ) → (outcomeOf (systemOf m) b ≡ Refused n p) ↔ SheetRefused (systemOf m) b n p
-  pub safeHolds : (outcomeOf (systemOf m) b ≡ SafeHolds) ↔ MapThat m b λ map. ConditionA m map × ConditionB m map × ConditionC m map
+  pub safeHolds : (outcomeOf (systemOf m) b ≡ SafeHolds) ↔ MapThat m b λ map. ConditionA m map × ConditionB m map × ConditionC m map × CanStart m One
+  pub void : (outcomeOf (systemOf m) b ≡ Void) ↔ MapThat m b λ map. ConditionA m map × ConditionB m map × ConditionC m map × IsVoid m
   pub failsA : (outcomeOf (systemOf m) b ≡ FailsA) ↔ MapThat m b λ map. ¬ (ConditionA m map)
   pub failsB : (outcomeOf (systemOf m) b ≡ FailsB) ↔ MapThat m b λ map. ConditionA m map × ¬ (ConditionB m map)
   pub failsC : (outcomeOf (systemOf m) b ≡ FailsC) ↔ MapThat m b λ map. ConditionA m map × ConditionB m map × ¬ (ConditionC m map)
@@ -282,6 +330,7 @@ all-given m g b bytes =
     record {
       refusal = refusal-means (systemOf m) b;
       safeHolds = map-iff m few b bytes SafeHolds refl _ (safe-holds-iff m);
+      void = map-iff m few b bytes Void refl _ (void-iff m);
       failsA = map-iff m few b bytes FailsA refl _ (fails-a-iff m);
       failsB = map-iff m few b bytes FailsB refl _ (fails-b-iff m);
       failsC = map-iff m few b bytes FailsC refl _ (fails-c-iff m);

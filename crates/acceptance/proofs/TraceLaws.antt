@@ -12,10 +12,10 @@ use Rattle.meaning.specs.OneRow.{TraceStep, lastOf}
 use Rattle.sheets.specs.Sheets.{System, size}
 use Rattle.sheets.specs.SheetTexts.{twoAt, stepIn}
 use Rattle.sheets.specs.working.SheetReading.{stepsIn, StepsStand}
-use Rattle.meaning.specs.working.Conditions.{testA, testB, testC, testE}
-use Rattle.acceptance.specs.working.Test.{mapAnswer, walk, traceAnswer}
+use Rattle.meaning.specs.working.Conditions.{testVoid, testA, testB, testC, testE}
+use Rattle.acceptance.specs.working.Test.{passedAnswer, mapAnswer, walk, traceAnswer}
 use Rattle.acceptance.specs.declared.outcome.Outcome.{Outcome}
-use Rattle.acceptance.specs.declared.outcome.Outcome.the-variants.{SafeHolds, TraceHolds, FailsA, FailsB, FailsC, FailsD, FailsE, FailsF}
+use Rattle.acceptance.specs.declared.outcome.Outcome.the-variants.{SafeHolds, Void, TraceHolds, FailsA, FailsB, FailsC, FailsD, FailsE, FailsF}
 use Rattle.sheets.proofs.SheetLaws.{record-parts, step-parts}
 
 -- The outcome for a map, from what was found of A, B and C.
@@ -34,9 +34,14 @@ module _ (M : System) (map : List ℕ) where
       unfolding mapAnswer
       fails-c c = rw (a, b, c)
 
-      pub safe-holds : testC (size M) (M .commands) (M .stars) (M .step) map ≡ true → SafeHolds ≡ mapAnswer M map
-      unfolding mapAnswer
-      safe-holds c = rw (a, b, c)
+      module _ (c : testC (size M) (M .commands) (M .stars) (M .step) map ≡ true) where
+        pub void-told : testVoid (size M) (M .starts) ≡ true → Void ≡ mapAnswer M map
+        unfolding mapAnswer passedAnswer
+        void-told v = rw (a, b, c, v)
+
+        pub safe-holds : testVoid (size M) (M .starts) ≡ false → SafeHolds ≡ mapAnswer M map
+        unfolding mapAnswer passedAnswer
+        safe-holds v = rw (a, b, c, v)
 
 -- The first of the steps that stand, and the rest.
 module _ (states commands : ℕ) (stars : ℕ → ℕ) (b : List ℕ) (at n i : ℕ) (h : i < n) (S : StepsStand states commands stars b at (n - i)) where

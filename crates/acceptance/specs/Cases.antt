@@ -62,9 +62,14 @@ cases =
     g with gSheet gives words "trace holds" ∷
     -- the least map of H
     h with head ++ map 0x2A gives words "safe holds" ∷
-    -- no step is needed where the start state breaks, and no member where there is no start state
+    -- no step is needed where the start state breaks
     gKeepsNowhere with head ++ start 1 gives words "trace holds" ∷
-    gStartsNowhere with head ++ map 0x00 gives words "safe holds" ∷
+    -- where there is no start state, every map that passes is void, and one that fails fails as before
+    gStartsNowhere with head ++ map 0x00 gives words "void" ∷
+    gStartsNowhere with head ++ map 0x15 gives words "void" ∷
+    gStartsNowhere with head ++ map 0x40 gives letter "B" ∷
+    gStartsNowhere with head ++ map 0x02 gives letter "C" ∷
+    gStartsNowhere with head ++ start 1 gives letter "D" ∷
     -- a text that is refused, whatever the sheet
     bytes "" with gSheet gives returned 3 0 ∷
     bytes "" with [] gives returned 3 0 ∷

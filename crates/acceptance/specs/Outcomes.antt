@@ -3,7 +3,7 @@
 use Prim.Native.Nat.{ℕ}
 use Prim.Native.String.{String}
 use Rattle.acceptance.specs.declared.outcome.Outcome.{Outcome}
-use Rattle.acceptance.specs.declared.outcome.Outcome.the-variants.{SafeHolds, TraceHolds, FailsA, FailsB, FailsC, FailsD, FailsE, FailsF, Refused}
+use Rattle.acceptance.specs.declared.outcome.Outcome.the-variants.{SafeHolds, Void, TraceHolds, FailsA, FailsB, FailsC, FailsD, FailsE, FailsF, Refused}
 
 -- What the test may answer: words, the letter of the first failure, or a refusal's number with its place.
 pub data Wording : Type 0 where
@@ -14,6 +14,7 @@ pub data Wording : Type 0 where
 -- What each outcome stands for.
 unfoldable pub wordingOf : Outcome → Wording
 wordingOf SafeHolds = words "safe holds"
+wordingOf Void = words "void"
 wordingOf TraceHolds = words "trace holds"
 wordingOf FailsA = letter "A"
 wordingOf FailsB = letter "B"

@@ -1,9 +1,9 @@
-// The conditions A, B and C on a map, whose n bytes stand in the sheet from p on.
+// The conditions A, B and C on a map, whose n bytes stand in the sheet from p on, and whether there is a start state.
 ghost use mathlib.Core.Path.{_≡_};
 ghost use Prim.Native.Nat.{_+_, _*_, _/_, _^_, _<_, _≤_};
 ghost use lib.Seq.{slice};
 ghost use Rattle.meaning.specs.Evidence.{inMap};
-ghost use Rattle.meaning.specs.working.Conditions.{every, testA, testB, testC, closedAt};
+ghost use Rattle.meaning.specs.working.Conditions.{every, testVoid, testA, testB, testC, closedAt};
 ghost use Rattle.evaluation.specs.working.Batches.{afterOf};
 ghost use Rattle.evaluation.specs.working.CodeSystem.{startsIn, breaksIn, nextIn, starsIn, Sound};
 ghost use Rattle.sheets.specs.working.SheetReading.{mapIn};
@@ -30,21 +30,36 @@ fn in_map(b: &[u8], p: usize, n: usize, s: usize) -> bool
     (byte >> (s % 8)) % 2 == 1
 }
 
-// A: every start state is a member.
-fn holds_a(b: &[u8], p: usize, n: usize, ops: &[u16; 2048], plan: Plan) -> bool
+// What is found of the start states: whether all are members, and whether there is none.
+struct StartStates {
+    inside: bool,
+    none: bool,
+}
+
+// A: every start state is a member. Whether there is one at all is seen in the same pass.
+fn holds_a(b: &[u8], p: usize, n: usize, ops: &[u16; 2048], plan: Plan) -> StartStates
     requires { do ⌜ (p + n ≤ (← ⟦b.len()⟧)) × (2 ^ plan .bits ≤ 8 * n) × Sound plan ⌝ }
-    ensures { λ r. ⌜ r ≡ testA (2 ^ plan .bits) (startsIn (now (ops .entry)) (plan .ends)) (mapIn (now (b .entry)) p n) ⌝ }
+    ensures { λ r. ⌜ r .inside ≡ testA (2 ^ plan .bits) (startsIn (now (ops .entry)) (plan .ends)) (mapIn (now (b .entry)) p n) ⌝ }
+    ensures void { λ r. ⌜ r .none ≡ testVoid (2 ^ plan .bits) (startsIn (now (ops .entry)) (plan .ends)) ⌝ }
 {
     let states = power(plan.bits);
+    let mut none = true;
     'states: for s in 0..states {
         if starts(ops, plan, s) {
+            none = false;
             let member = in_map(b, p, n, s);
             if !member {
-                return false;
+                return StartStates {
+                    inside: false,
+                    none: false,
+                };
             }
         }
     }
-    true
+    StartStates {
+        inside: true,
+        none: none,
+    }
 }
 
 // B: no member violates `keep`.
@@ -135,13 +150,13 @@ fn holds_c(b: &[u8], p: usize, n: usize, ops: &[u16; 2048], plan: Plan) -> bool
     true
 }
 
-// The outcome for a map: the first of the three that fails, if one does.
+// The outcome for a map: the first of the three that fails, if one does, and else void where there is no start state.
 pub fn test_map(b: &[u8], p: usize, n: usize, ops: &[u16; 2048], plan: Plan) -> Outcome
     requires { do ⌜ (p + n ≤ (← ⟦b.len()⟧)) × (2 ^ plan .bits ≤ 8 * n) × Sound plan ⌝ }
     ensures { λ r. ⌜ r ≡ mapAnswer (systemIn (now (ops .entry)) plan) (mapIn (now (b .entry)) p n) ⌝ }
 {
-    let starts_in = holds_a(b, p, n, ops, plan);
-    if !starts_in {
+    let begun = holds_a(b, p, n, ops, plan);
+    if !begun.inside {
         return Outcome::FailsA;
     }
     let kept = holds_b(b, p, n, ops, plan);
@@ -151,6 +166,9 @@ pub fn test_map(b: &[u8], p: usize, n: usize, ops: &[u16; 2048], plan: Plan) -> 
     let closed = holds_c(b, p, n, ops, plan);
     if !closed {
         return Outcome::FailsC;
+    }
+    if begun.none {
+        return Outcome::Void;
     }
     Outcome::SafeHolds
 }

@@ -1,7 +1,9 @@
 // What the test answers.
-// The sheet holds, fails by the condition of that letter, or is refused: the refusal's number and place.
+// The sheet holds, as a map of a model that can start, as a map of a void model or as a trace; it fails by the condition of that letter;
+// or it is refused: the refusal's number and place.
 pub enum Outcome {
     SafeHolds,
+    Void,
     TraceHolds,
     FailsA,
     FailsB,

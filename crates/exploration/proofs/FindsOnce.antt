@@ -1,4 +1,4 @@
--- Of each model one thing only is found: of two runs that differ one comes first, and no model has both a map and a run that goes wrong.
+-- Of each model one thing only is found: of two runs that differ one comes first, and no model has verdicts of two kinds.
 -- Assumes nothing.
 use mathlib.Core.Path.{_≡_, refl, sym, ap, _∙_, subst}
 use mathlib.Core.Logic.{_⊎_, inl, inr, ⊎-elim}
@@ -10,15 +10,20 @@ use lib.ListN.{length}
 use lib.Dec.{eqb}
 use borrow.Author.Tests.{eqb-true}
 use Rattle.notation.specs.Model.{Model}
-use Rattle.meaning.specs.OneRow.{next, TraceStep}
-use Rattle.meaning.specs.Evidence.{TracePasses}
+use Rattle.meaning.specs.Meaning.{CanStart, Unsafe}
+use Rattle.meaning.specs.OneRow.{One, next, TraceStep}
+use Rattle.meaning.specs.Evidence.{TracePasses, safeBy, voidBy, unsafeBy}
 use Rattle.meaning.specs.working.Conditions.{testE}
 use Rattle.notation.proofs.Booleans.{and-split}
 use Rattle.meaning.proofs.Accept.{all-tests-tell}
 use Rattle.exploration.specs.Order.{StepBefore, StepsBefore, RunBefore}
-use Rattle.exploration.specs.Findings.{safeBy, unsafeBy, FirstBreak, FindsOnce}
+use Rattle.exploration.specs.Findings.{FirstBreak, FindsOnce}
 use Rattle.exploration.proofs.Order.{lt-or-ge}
 use Rattle.exploration.proofs.MapsAlike.{maps-alike}
+
+-- A run that goes wrong begins at a start state.
+unsafe-starts : (m : Model) → Unsafe m One → CanStart m One
+unsafe-starts m (s, xs, r, b) = (s, r .start)
 
 trichotomy : (a b : ℕ) → (a < b) ⊎ ((a ≡ b) ⊎ (b < a))
 trichotomy a b =
@@ -122,6 +127,11 @@ module _ (m : Model) where
 
 pub finds-once : FindsOnce
 finds-once m (safeBy a) (safeBy b) p q = ap safeBy (maps-alike m a b (p .1) (q .1))
+finds-once m (safeBy a) (voidBy b) p q = absurd (q .0 (p .2))
 finds-once m (safeBy a) (unsafeBy t ys) p q = let (s, xs, r, b) = q .0 in absurd (p .0 s xs r b)
+finds-once m (voidBy a) (safeBy b) p q = absurd (p .0 (q .2))
+finds-once m (voidBy a) (voidBy b) p q = ap voidBy (p .1 ∙ sym (q .1))
+finds-once m (voidBy a) (unsafeBy t ys) p q = absurd (p .0 (unsafe-starts m (q .0)))
+finds-once m (unsafeBy s xs) (voidBy b) p q = absurd (q .0 (unsafe-starts m (p .0)))
 finds-once m (unsafeBy s xs) (safeBy b) p q = let (t, ys, r, h) = p .0 in absurd (q .0 t ys r h)
 finds-once m (unsafeBy s xs) (unsafeBy t ys) p q = first-alike m s xs t ys (p .1) (q .1)

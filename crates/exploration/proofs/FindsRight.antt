@@ -3,32 +3,33 @@
 use mathlib.Core.Path.{_≡_, refl, sym, ap, _∙_, subst}
 use mathlib.Core.Logic.{_↔_, ⊎-elim}
 use mathlib.Core.Bool.{Bool, true, false, false≢true}
-use mathlib.Core.List.{List, map}
+use mathlib.Core.List.{List, [], map}
 use Prim.Native.Nat.{ℕ, _+_, _*_, _^_, _<_, _≤_}
 use native.Mathlib.Omega.{arith}
-use lib.ListN.{getD}
+use lib.ListN.{getD, replicate}
 use Rattle.notation.specs.Model.{Model}
 use Rattle.notation.specs.Regular.{Regular}
-use Rattle.meaning.specs.Meaning.{Safe, Unsafe}
-use Rattle.meaning.specs.OneRow.{One, stateCount, spread, TraceStep, spreadStep}
-use Rattle.meaning.specs.Evidence.{inMap, TracePasses}
+use Rattle.meaning.specs.Meaning.{State, IsStart, Safe, Unsafe, CanStart}
+use Rattle.meaning.specs.OneRow.{One, stateNumber, stateCount, spread, TraceStep, spreadStep}
+use Rattle.meaning.specs.Evidence.{inMap, TracePasses, IsVoid}
+use Rattle.meaning.proofs.Number.{stateNumber-lt}
 use Rattle.sheets.specs.Sheets.{systemOf, mapLength}
 use Rattle.sheets.specs.SheetTexts.{unusedClear}
 use Rattle.sheets.proofs.SheetOpened.{eighths}
-use Rattle.exploration.specs.Findings.{Reaches, ExactMap, FirstBreak, Finds}
+use Rattle.exploration.specs.Findings.{Reaches, ExactMap, emptyMap, FirstBreak, Finds}
 use Rattle.exploration.specs.Promises.{FoundIsRight}
 use Rattle.exploration.specs.working.Transitions.{Transitions}
 use Rattle.exploration.specs.working.Runs.{Run, startsAt, First, steps, startOf, stepsOf}
 use Rattle.exploration.specs.working.Results.{Result, firstRun, reached, result, AllReached, Right}
 use Rattle.exploration.specs.working.Written.{mapFrom}
-use Rattle.exploration.specs.working.Found.{verdictFor, foundIn, transitionsOf, Agrees}
+use Rattle.exploration.specs.working.Found.{mapVerdict, anySet, verdictFor, foundIn, transitionsOf, Agrees}
 use Rattle.exploration.proofs.Right.{result-right}
 use Rattle.exploration.proofs.Map.{map-length}
 use Rattle.exploration.proofs.RunsOfModels.{onBy, lawful, trace-passes, run-reaches, trace-valid, trace-breaks, run-told, reaches-run, break-told}
 use Rattle.exploration.proofs.Order.{lt-or-ge, shorter}
 use Rattle.exploration.proofs.TracesInOrder.{run-before}
 use Rattle.exploration.proofs.TraceSteps.{steps-count}
-use Rattle.exploration.proofs.MapsFound.{map-bytes, map-has, map-clear}
+use Rattle.exploration.proofs.MapsFound.{map-bytes, map-has, map-clear, none-map, none-set, one-set}
 
 -- A trace that passes is a run of the table of one row that goes wrong.
 pub trace-unsafe : (m : Model) (s : ℕ) (xs : List TraceStep) → TracePasses m s xs → Unsafe m One
@@ -87,10 +88,33 @@ module _ (T : Transitions) (m : Model) (A : Agrees T m) where
           exact = exactly;
         }
 
+    -- A member is reached by a run, which begins at a start state.
+    member-starts : anySet b ≡ true → CanStart m One
+    member-starts e =
+        let (t, l, h) = one-set b e in
+        let q = R .exact t (subst (λ (n : ℕ). t < n) (R .sized) l) .0 h in
+        let (s, xs, r, f) = run-reaches T m A (q .run) (q .valid) in
+        (s, r .start)
+
+    -- A start state is reached by the run of no steps.
+    none-starts : anySet b ≡ false → IsVoid m
+    none-starts e (s, h) =
+        let l = stateNumber-lt m s (h .fits) in
+        let r = reaches-run T m A g (stateNumber s) (s, [], record { start = h; steps = tt }, refl) in
+        false≢true (sym (none-set b e (stateNumber s)) ∙ R .exact (stateNumber s) (subst (λ (n : ℕ). stateNumber s < n) (sym (A .size)) l) .1 r)
+
+    found-empty : anySet b ≡ false → found ≡ emptyMap m
+    unfolding found
+    found-empty e = none-map b (none-set b e) 0 (mapLength (T .size)) ∙ ap (λ (n : ℕ). replicate (mapLength n) 0) (A .size)
+
+    map-finds : (x : Bool) → anySet b ≡ x → Finds m (mapVerdict x found)
+    map-finds true e = (all-safe, exact-map, member-starts e)
+    map-finds false e = (none-starts e, found-empty e)
+
   finds-for : Regular m → (v : Result) → Right T v → Finds m (verdictFor T v)
   unfolding verdictFor found
   finds-for g (firstRun r) F = let f = first-break g r F in (trace-unsafe m (startOf r) (stepsOf T r) (f .breaks), f)
-  finds-for g (reached b) R = (all-safe g b R, exact-map g b R)
+  finds-for g (reached b) R = map-finds g b R (anySet b) refl
 
 pub finds-right : FoundIsRight
 unfolding foundIn

@@ -9,6 +9,7 @@ pub mod Map
 pub mod TraceSteps
 pub mod RunsOfModels
 pub mod MapsFound
+pub mod EmptyMaps
 pub mod TracesInOrder
 pub mod FindsRight
 pub mod MapsAlike

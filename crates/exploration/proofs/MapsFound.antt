@@ -1,19 +1,20 @@
 -- The bytes of a map that is written from a list of bits: bit t of them is entry t of the list.
 -- Assumes nothing.
 use mathlib.Core.Path.{_≡_, refl, sym, ap, _∙_, subst}
-use mathlib.Core.Bool.{Bool, true, false, cond}
+use mathlib.Core.Bool.{Bool, true, false, cond, true≢false}
 use mathlib.Core.List.{List, [], _∷_}
 use mathlib.Core.Logic.{⊎-elim}
 use Prim.Native.Nat.{ℕ, zero, suc, _+_, _*_, _/_, _%_, _^_, _<_, _≤_}
 use native.Mathlib.Omega.{arith}
 use native.Mathlib.Nat.{not-suc-le-zero, le-of-suc-le-suc}
-use lib.ListN.{length, getD, List·getD-eq-default}
+use lib.ListN.{length, getD, replicate, List·getD-eq-default}
 use Rattle.meaning.specs.Bits.{bit, first, number}
 use Rattle.meaning.specs.Evidence.{inMap}
 use Rattle.meaning.proofs.Number.{bit-number, number-lt, first-length}
 use Rattle.sheets.specs.SheetTexts.{AreBytes, unusedClear}
 use Rattle.sheets.proofs.UnusedBits.{unused-bits}
 use Rattle.exploration.specs.working.Written.{bitAt, mapByte, mapFrom}
+use Rattle.exploration.specs.working.Found.{anySet}
 use Rattle.exploration.proofs.Order.{lt-or-ge}
 use Rattle.exploration.proofs.Map.{map-length}
 
@@ -85,3 +86,28 @@ module _ (b : List Bool) (n : ℕ) where
       (λ j p q.
       let e : 8 * 0 + j ≡ j = omega arith in
       ap (λ (x : ℕ). bit x j) (at 0 h) ∙ byte-bit b 0 j q ∙ ap (λ (x : ℕ). getD b x false) e ∙ List·getD-eq-default b false {n = j} p)
+
+-- A list without an entry that is true makes the map without members.
+none-byte : (b : List Bool) → ((t : ℕ) → getD b t false ≡ false) → (i : ℕ) → mapByte b i ≡ 0
+unfolding bitAt
+none-byte b h i =
+    rw (h (8 * i), h (8 * i + 1), h (8 * i + 2), h (8 * i + 3), h (8 * i + 4), h (8 * i + 5), h (8 * i + 6), h (8 * i + 7))
+
+pub none-map : (b : List Bool) → ((t : ℕ) → getD b t false ≡ false) → (i n : ℕ) → mapFrom b i n ≡ replicate n 0
+unfolding mapFrom
+none-map b h i zero = refl
+none-map b h i (suc n) = λ t. none-byte b h i t ∷ none-map b h (i + 1) n t
+
+-- An entry is true, or none is.
+pub none-set : (b : List Bool) → anySet b ≡ false → (t : ℕ) → getD b t false ≡ false
+unfolding anySet
+none-set [] e t = refl
+none-set (true ∷ b) e t = cc
+none-set (false ∷ b) e zero = refl
+none-set (false ∷ b) e (suc t) = none-set b e t
+
+pub one-set : (b : List Bool) → anySet b ≡ true → (t : ℕ) × (t < length b) × (getD b t false ≡ true)
+unfolding anySet
+one-set [] e = absurd (true≢false (sym e))
+one-set (true ∷ b) e = (0, omega arith, refl)
+one-set (false ∷ b) e = let (t, l, h) = one-set b e in (suc t, omega arith, h)

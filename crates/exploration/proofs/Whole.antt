@@ -1,24 +1,38 @@
 -- From what the search leaves in the tables to what is found.
 -- Assumes nothing.
-use Prim.Native.Nat.{ℕ, _-_, _≤_}
-use mathlib.Core.Path.{_≡_, sym, ap, _∙_, subst}
+use Prim.Native.Nat.{ℕ, zero, suc, _-_, _<_, _≤_}
+use mathlib.Core.Path.{_≡_, refl, sym, ap, _∙_, subst}
 use mathlib.Core.Bool.{Bool, true, false}
 use mathlib.Core.List.{List, [], _∷_, _++_, map}
 use native.Mathlib.Omega.{arith}
 use lib.ListN.{length, getD, take, drop, replicate, length-append, length-map}
 use lib.Seq.{length-take-le, getD-take}
 use lib.Dec.{ltb}
+use borrow.Author.Tests.{lt-ltb}
 use Rattle.sheets.specs.Sheets.{mapLength}
-use Rattle.exploration.specs.Findings.{safeBy, unsafeBy}
+use Rattle.meaning.specs.Evidence.{safeBy, voidBy, unsafeBy}
 use Rattle.exploration.specs.working.Transitions.{Transitions, Lawful}
 use Rattle.exploration.specs.working.Exploring.{broke, search}
 use Rattle.exploration.specs.working.Runs.{Run, final, runTo, startOf, stepsOf}
-use Rattle.exploration.specs.working.Tables.{seen, Ran}
+use Rattle.exploration.specs.working.Tables.{seen, marked, Ran}
 use Rattle.exploration.specs.working.Results.{firstRun, resultOf, result}
 use Rattle.exploration.specs.working.Written.{mapFrom, RecordedTo}
-use Rattle.exploration.specs.working.Found.{verdictFor, foundIn}
+use Rattle.exploration.specs.working.Found.{mapVerdict, anySet, verdictFor, foundIn}
 use Rattle.exploration.proofs.First.{Ended, Searched, searched}
 use Rattle.exploration.proofs.Right.{queue-last}
+
+-- Entries are counted exactly where one makes a bit.
+none-marked : (l : List ℕ) → marked l ≡ 0 → anySet (map (ltb 0) l) ≡ false
+unfolding marked anySet
+none-marked [] e = refl
+none-marked (zero ∷ l) e = none-marked l e
+none-marked (suc v ∷ l) e = absurd (omega arith)
+
+some-marked : (l : List ℕ) → 0 < marked l → anySet (map (ltb 0) l) ≡ true
+unfolding marked anySet
+some-marked [] h = absurd (omega arith)
+some-marked (zero ∷ l) h = some-marked l h
+some-marked (suc v ∷ l) h = rw (lt-ltb 0 (suc v) (omega arith))
 
 module _ {M : Transitions} (law : Lawful M) {q₀ p₀ q : List ℕ} {n : ℕ} {p : List ℕ} {b : Bool} (R : Ran M q₀ p₀ q n p b) where
   queue-count : length (take n q) ≡ n
@@ -62,6 +76,20 @@ module _ {M : Transitions} (law : Lawful M) {q₀ p₀ q : List ℕ} {n : ℕ} {
     ran-unsafe =
         ap (λ o. verdictFor M (resultOf M o)) (sym what) ∙ ap (λ (t : ℕ). verdictFor M (firstRun (runTo M (take (M .size) p) (M .size) t))) last-at
 
-  pub ran-safe : b ≡ false → foundIn M ≡ safeBy (mapFrom (map (ltb 0) (take (M .size) p)) 0 (mapLength (M .size)))
-  unfolding foundIn result verdictFor
-  ran-safe f = ap (λ o. verdictFor M (resultOf M o)) (sym (rw f at (R .what)))
+  -- The bits that the table of parents makes, and their map.
+  abbrev bits : List Bool
+  bits = map (ltb 0) (take (M .size) p)
+
+  abbrev pub mapLeft : List ℕ
+  mapLeft = mapFrom (map (ltb 0) (take (M .size) p)) 0 (mapLength (M .size))
+
+  module _ (f : b ≡ false) where
+    ran-through : foundIn M ≡ mapVerdict (anySet bits) mapLeft
+    unfolding foundIn result verdictFor
+    ran-through = ap (λ o. verdictFor M (resultOf M o)) (sym (rw f at (R .what)))
+
+    pub ran-void : n ≡ 0 → foundIn M ≡ voidBy mapLeft
+    ran-void e = ran-through ∙ ap (λ (x : Bool). mapVerdict x mapLeft) (none-marked (take (M .size) p) (sym (R .kept .ready .counted) ∙ e))
+
+    pub ran-safe : 0 < n → foundIn M ≡ safeBy mapLeft
+    ran-safe h = ran-through ∙ ap (λ (x : Bool). mapVerdict x mapLeft) (some-marked (take (M .size) p) (rw (R .kept .ready .counted) at h))

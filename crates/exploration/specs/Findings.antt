@@ -1,15 +1,15 @@
--- What the search finds of a model: its first breaking run, or the map of exactly the states that runs reach.
+-- What the search finds of a model: its first breaking run, the map of exactly the states that runs reach, or that it is void.
 -- Assumes nothing.
 use mathlib.Core.Path.{_≡_}
 use mathlib.Core.Logic.{_↔_}
 use mathlib.Core.Bool.{true}
 use mathlib.Core.List.{List}
 use Prim.Native.Nat.{ℕ, _<_, _≤_}
-use lib.ListN.{length, getD}
+use lib.ListN.{length, getD, replicate}
 use Rattle.notation.specs.Model.{Model}
-use Rattle.meaning.specs.Meaning.{State, Move, IsRun, Breaks, last, Safe, Unsafe}
+use Rattle.meaning.specs.Meaning.{State, Move, IsRun, Breaks, last, Safe, Unsafe, CanStart}
 use Rattle.meaning.specs.OneRow.{One, stateNumber, stateCount, TraceStep}
-use Rattle.meaning.specs.Evidence.{Sheet, safe, trace, inMap, TracePasses}
+use Rattle.meaning.specs.Evidence.{inMap, TracePasses, IsVoid, Verdict, safeBy, voidBy, unsafeBy}
 use Rattle.sheets.specs.Sheets.{mapLength}
 use Rattle.sheets.specs.SheetTexts.{AreBytes, unusedClear}
 use Rattle.exploration.specs.Order.{RunBefore}
@@ -31,19 +31,15 @@ pub record FirstBreak (m : Model) (s : ℕ) (xs : List TraceStep) : Type 0 where
   pub first : (t : ℕ) (ys : List TraceStep) → TracePasses m t ys → ¬ (RunBefore t ys s xs)
   pub shortest : (q : State One) (ys : List (Move One)) → IsRun m q ys → Breaks m (last q ys) → length xs ≤ length ys
 
--- A verdict with its evidence: the model is safe by a map, or unsafe by a trace.
-pub data Verdict : Type 0 where
-  safeBy : List ℕ → Verdict
-  unsafeBy : ℕ → List TraceStep → Verdict
+-- The map without members.
+abbrev pub emptyMap : Model → List ℕ
+emptyMap m = replicate (mapLength (stateCount m)) 0
 
--- The evidence as a sheet.
-abbrev pub evidenceOf : Verdict → Sheet
-evidenceOf (safeBy map) = safe map
-evidenceOf (unsafeBy s xs) = trace s xs
-
--- What the search finds: safe, and the map, where no run goes wrong; unsafe, and the first run that goes wrong, where one does.
+-- What the search finds. Safe, and the map of the states reached: where there is a start state and no run goes wrong.
+-- Void, and the empty map: where there is no start state. Unsafe, and the first run that goes wrong: where one does.
 abbrev pub Finds : Model → Verdict → Type 0
-Finds m (safeBy map) = Safe m One × ExactMap m map
+Finds m (safeBy map) = Safe m One × ExactMap m map × CanStart m One
+Finds m (voidBy map) = IsVoid m × (map ≡ emptyMap m)
 Finds m (unsafeBy s xs) = Unsafe m One × FirstBreak m s xs
 
 -- It finds one thing only.

@@ -34,6 +34,7 @@ use Rattle.loader.specs.Promises.{TestNumbersTell, readingTo, ReadNumber
 told : (o : Outcome) → Bounded (wordingOf o) → wordingFor (testNumber (wordingOf o)) ≡ wordingOf o
 unfolding wordingOf testNumber bytes
 told O.SafeHolds b = refl
+told O.Void b = refl
 told O.TraceHolds b = refl
 told O.FailsA b = refl
 told O.FailsB b = refl
@@ -47,6 +48,7 @@ told (O.Refused n p) b =
       low-back n p (omega arith),
       above-back n p (omega arith),
       ne-eqb n 115 (omega arith),
+      ne-eqb n 118 (omega arith),
       ne-eqb n 116 (omega arith),
       ne-eqb n 65 (omega arith),
       ne-eqb n 66 (omega arith),

@@ -27,6 +27,7 @@ abbrev pub wordingFor : ℕ → Wording
 wordingFor x =
     let low = x % 256 in
     cond (eqb low 115) (words "safe holds")
+    (cond (eqb low 118) (words "void")
     (cond (eqb low 116) (words "trace holds")
     (cond (eqb low 65) (letter "A")
     (cond (eqb low 66) (letter "B")
@@ -34,7 +35,7 @@ wordingFor x =
     (cond (eqb low 68) (letter "D")
     (cond (eqb low 69) (letter "E")
     (cond (eqb low 70) (letter "F")
-    (returned low (x / 256)))))))))
+    (returned low (x / 256))))))))))
 
 -- The answer of the reader that a number stands for.
 abbrev pub readingFor : ℕ → R.Wording

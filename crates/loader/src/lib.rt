@@ -20,6 +20,7 @@ fn outcome_number(outcome: Outcome) -> u64
 {
     match outcome {
         Outcome::SafeHolds => pack(b's', 0),
+        Outcome::Void => pack(b'v', 0),
         Outcome::TraceHolds => pack(b't', 0),
         Outcome::FailsA => pack(b'A', 0),
         Outcome::FailsB => pack(b'B', 0),

@@ -2,7 +2,7 @@
 -- Assumes nothing.
 use mathlib.Core.Path.{_≡_, refl, sym, ap, _∙_, subst}
 use mathlib.Core.Logic.{_↔_, _⊎_, inl, inr}
-use mathlib.Core.Bool.{Bool, true, false, not, true≢false}
+use mathlib.Core.Bool.{Bool, true, false, not, _&&_, true≢false}
 use mathlib.Core.List.{List, [], _∷_}
 use Prim.Native.Nat.{ℕ, zero, suc, _<_}
 use native.Mathlib.Nat.{not-suc-le-zero, le-of-suc-le-suc, eq-or-lt-of-le}
@@ -11,11 +11,11 @@ use lib.ListN.{length}
 use borrow.Author.Tests.{eqb-true, eq-eqb}
 use Rattle.notation.specs.Model.{Model, stars}
 use Rattle.notation.specs.Regular.{Every}
-use Rattle.meaning.specs.Meaning.{Breaks, commandAt}
+use Rattle.meaning.specs.Meaning.{Breaks, CanStart, commandAt}
 use Rattle.meaning.specs.OneRow.{One, stateNumber, stateCount, wordCount, spread, starts, breaks, next, TraceStep, spreadStep, lastOf}
-use Rattle.meaning.specs.Evidence.{inMap, ConditionA, ConditionB, ConditionC, ConditionE, ConditionF, StepFits}
-use Rattle.meaning.specs.working.Conditions.{every, implies, testA, testB, wordsStay, closedAt, testC, testE, AllTestsTell}
-use Rattle.meaning.proofs.Number.{stateNumber-spread}
+use Rattle.meaning.specs.Evidence.{inMap, ConditionA, ConditionB, ConditionC, ConditionE, ConditionF, StepFits, IsVoid}
+use Rattle.meaning.specs.working.Conditions.{every, implies, testVoid, testA, testB, wordsStay, closedAt, testC, testE, AllTestsTell}
+use Rattle.meaning.proofs.Number.{stateNumber-lt, stateNumber-spread, spread-stateNumber}
 use Rattle.notation.proofs.Booleans.{and-split, and-join}
 use Rattle.meaning.proofs.OneRow.{starts-tell, breaks-tell, next-tells, last-is}
 
@@ -50,7 +50,39 @@ not-is : (a : Bool) → ¬ (a ≡ true) → not a ≡ true
 not-is true h = absurd (h refl)
 not-is false h = refl
 
+-- Where not all are true, one is false.
+one-below : (n : ℕ) (f : ℕ → Bool) → every n f ≡ false → (i : ℕ) × (i < n) × (f i ≡ false)
+unfolding every
+one-below zero f e = absurd (true≢false e)
+one-below (suc n) f e = go (every n f) (f n) refl refl e (one-below n f)
+  where
+    go : (a b : Bool) → every n f ≡ a → f n ≡ b → a && b ≡ false → (every n f ≡ false → (i : ℕ) × (i < n) × (f i ≡ false))
+        → (i : ℕ) × (i < suc n) × (f i ≡ false)
+    go true true p q h lower = absurd (true≢false h)
+    go true false p q h lower = (n, omega arith, q)
+    go false b p q h lower = let (i, l, g) = lower p in (i, omega arith, g)
+
+is-true : (a : Bool) → not a ≡ false → a ≡ true
+is-true true e = refl
+is-true false e = absurd (true≢false e)
+
 module _ (m : Model) where
+  pub tells-void : (testVoid (stateCount m) (starts m) ≡ true) ↔ IsVoid m
+  unfolding testVoid
+  tells-void = (
+    λ e q.
+        let f = q .1 .fits in
+        let n = stateNumber (q .0) in
+        is-not (starts m n) (below (stateCount m) _ e n (stateNumber-lt m (q .0) f)) (starts-tell m n .1 (rw (spread-stateNumber m (q .0) f) (q .1))),
+    λ v. all-below _ _ λ s h. not-is (starts m s) λ g. v (spread m One s, starts-tell m s .0 g),
+  )
+
+  pub can-start : testVoid (stateCount m) (starts m) ≡ false → CanStart m One
+  unfolding testVoid
+  can-start e =
+      let (s, l, g) = one-below (stateCount m) (λ x. not (starts m x)) e in
+      (spread m One s, starts-tell m s .0 (is-true (starts m s) g))
+
   tells-A : (bytes : List ℕ) → (testA (stateCount m) (starts m) bytes ≡ true) ↔ ConditionA m bytes
   unfolding testA
   tells-A bytes = (
@@ -97,6 +129,7 @@ module _ (m : Model) where
 pub all-tests-tell : AllTestsTell
 all-tests-tell m =
     record {
+      tellsVoid = tells-void m;
       tellsA = tells-A m;
       tellsB = tells-B m;
       tellsC = tells-C m;

@@ -1,23 +1,25 @@
 -- One row stands for all: what a passing sheet says of one row it says of every table from one row up.
 -- Assumes nothing.
 use mathlib.Core.Path.{_≡_, refl, sym, ap, _∙_, subst}
-use mathlib.Core.Logic.{inl, inr}
-use mathlib.Core.Bool.{true}
+use mathlib.Core.Logic.{_⊎_, inl, inr, ⊎-elim}
+use mathlib.Core.Bool.{Bool, true, false}
 use mathlib.Core.List.{List, [], _∷_, map}
 use Prim.Native.Nat.{ℕ, _<_}
 use lib.ListN.{length}
 use Rattle.notation.specs.Model.{Model, stars}
 use Rattle.notation.specs.Regular.{NumberedFrom, Regular}
 use Rattle.notation.proofs.Regular.{all-regular}
-use Rattle.meaning.specs.Meaning.{Row, State, Choice, Move, step, idle, commandAt, Fits, Breaks, AreSteps, IsRun, last, Safe, Unsafe}
-use Rattle.meaning.specs.OneRow.{One, theRow, stateNumber, spread, spreadWord, next, TraceStep, spreadStep}
-use Rattle.meaning.specs.Evidence.{Sheet, safe, trace, isSafe, inMap, MapPasses, TracePasses, TraceHolds, Passes, Holds, Claim}
-use Rattle.meaning.specs.Rows.{Projection, MapsHold, TracesHold, OneKind, Together}
-use Rattle.meaning.proofs.View.{view, viewChoice, viewMove, view-step, view-run, view-last, seen-from}
+use Rattle.meaning.specs.Meaning.{Row, State, Choice, Move, step, idle, commandAt, Fits, Breaks, AreSteps, IsRun, last, Safe, Unsafe, CanStart}
+use Rattle.meaning.specs.OneRow.{One, theRow, stateNumber, stateCount, spread, spreadWord, starts, next, TraceStep, spreadStep}
+use Rattle.meaning.specs.Evidence.{Verdict, safeBy, voidBy, unsafeBy, kindOf, inMap, MapPasses, TracePasses, TraceHolds, IsVoid, Passes, Holds, Claim}
+use Rattle.meaning.specs.Rows.{Projection, MapsHold, TracesHold, OneKind, Together, VoidEverywhere, StartsEverywhere, SafeOrVoid}
+use Rattle.meaning.specs.working.Conditions.{testVoid}
+use Rattle.meaning.proofs.View.{view, viewChoice, viewMove, view-step, view-start, view-run, view-last, seen-from}
 use Rattle.meaning.proofs.Number.{one-is, stateNumber-lt, spread-stateNumber}
 use Rattle.meaning.proofs.Words.{wordOf, wordOf-lt, step-word}
 use Rattle.meaning.proofs.Lists.{every-at}
 use Rattle.meaning.proofs.Fits.{step-fits}
+use Rattle.meaning.proofs.Accept.{tells-void, can-start}
 
 -- 1. A step seen in row i is the one-row step of the state seen there, under the choice word of the choices seen there.
 numbered-at : {m : Model} → Regular m → (k : ℕ) → k < length (m .commands) → NumberedFrom 0 (stars (commandAt m k))
@@ -110,16 +112,46 @@ traces-hold m s xs p n h = trace-holds m s xs (trace-one p) (Row n) (0, h)
 pub one-kind : OneKind
 one-kind m g bytes s xs p q = let t = trace-one q in one-safe m g bytes p (spread m One s) (map (spreadStep m One) xs) (t .run) (t .breaks)
 
--- 5. The claim.
-holds : (m : Model) → Regular m → (x : Sheet) → Passes m x → (n : ℕ) → 0 < n → Holds m (Row n) x
-holds m g (safe bytes) p n h = maps-hold m g bytes p n h
-holds m g (trace s xs) p n h = traces-hold m s xs p n h
+-- 5. Tables of all sizes can start, or none can: every row of one does what a row of the other does.
+start-elsewhere : {I J : Type 0} (m : Model) → I → CanStart m I → CanStart m J
+start-elsewhere {I} {J} m o (s, h) = let f : J → I = λ x. o in (view f s, view-start f m s h)
 
-same-kind : (m : Model) → Regular m → (x y : Sheet) → Passes m x → Passes m y → isSafe y ≡ isSafe x
-same-kind m g (safe a) (safe b) p q = refl
-same-kind m g (safe a) (trace s xs) p q = absurd (one-kind m g a s xs p q)
-same-kind m g (trace s xs) (safe a) p q = absurd (one-kind m g a s xs q p)
-same-kind m g (trace s xs) (trace t ys) p q = refl
+start-together : (m : Model) (n₁ n₂ : ℕ) → 0 < n₁ → CanStart m (Row n₁) → CanStart m (Row n₂)
+start-together m n₁ n₂ h c = start-elsewhere m (0, h) c
+
+pub void-everywhere : VoidEverywhere
+void-everywhere m v n h c = v (start-together m n 1 h c)
+
+-- One row has a start state or none: there are finitely many states to look at.
+start-or-void : (m : Model) → CanStart m One ⊎ IsVoid m
+start-or-void m = go (testVoid (stateCount m) (starts m)) refl
+  where
+    go : (b : Bool) → testVoid (stateCount m) (starts m) ≡ b → CanStart m One ⊎ IsVoid m
+    go true e = inr (tells-void m .0 e)
+    go false e = inl (can-start m e)
+
+pub starts-everywhere : StartsEverywhere
+starts-everywhere m h n l = ⊎-elim (λ c. start-elsewhere m theRow c) (λ v. absurd (h v)) (start-or-void m)
+
+pub safe-or-void : SafeOrVoid
+safe-or-void m map p = ⊎-elim (λ c. inl (p, c)) (λ v. inr (p, v)) (start-or-void m)
+
+-- 6. The claim.
+holds : (m : Model) → Regular m → (x : Verdict) → Passes m x → (n : ℕ) → 0 < n → Holds m (Row n) x
+holds m g (safeBy map) p n h = (start-elsewhere m theRow (p .1), maps-hold m g map (p .0) n h)
+holds m g (voidBy map) p n h = (void-everywhere m (p .1) n h, maps-hold m g map (p .0) n h)
+holds m g (unsafeBy s xs) p n h = traces-hold m s xs p n h
+
+same-kind : (m : Model) → Regular m → (x y : Verdict) → Passes m x → Passes m y → kindOf y ≡ kindOf x
+same-kind m g (safeBy a) (safeBy b) p q = refl
+same-kind m g (safeBy a) (voidBy b) p q = absurd (q .1 (p .1))
+same-kind m g (safeBy a) (unsafeBy s xs) p q = absurd (one-kind m g a s xs (p .0) q)
+same-kind m g (voidBy a) (safeBy b) p q = absurd (p .1 (q .1))
+same-kind m g (voidBy a) (voidBy b) p q = refl
+same-kind m g (voidBy a) (unsafeBy s xs) p q = absurd (one-kind m g a s xs (p .0) q)
+same-kind m g (unsafeBy s xs) (safeBy a) p q = absurd (one-kind m g a s xs (q .0) p)
+same-kind m g (unsafeBy s xs) (voidBy a) p q = absurd (one-kind m g a s xs (q .0) p)
+same-kind m g (unsafeBy s xs) (unsafeBy t ys) p q = refl
 
 pub claim : Claim
 claim text m says x p n₁ n₂ h₁ h₂ =
@@ -128,5 +160,6 @@ claim text m says x p n₁ n₂ h₁ h₂ =
       here = holds m g x p n₁ h₁;
       there = holds m g x p n₂ h₂;
       alike = (together m n₁ n₂ h₁ h₂, together m n₂ n₁ h₂ h₁);
+      startAlike = (start-together m n₁ n₂ h₁, start-together m n₂ n₁ h₂);
       agree = λ y q. same-kind m g x y p q;
     }

@@ -16,9 +16,9 @@ use Rattle.notation.specs.Rules as R
 use Rattle.notation.specs.Model.{starsExpr, starsItems, stars}
 use Rattle.notation.specs.Texts.{TextSays, exprOf, rowItemOf, rowItemsOf, itemOf, itemsOf, commandOf, clauseOf, modelOf, placeOf, among, nameOf}
 use Rattle.meaning.specs.Bits.{bit, number}
-use Rattle.meaning.specs.Meaning.{Row, State, Move, eval, runRow, runItem, runItems, step, commandAt, eachOf, Breaks, AreSteps, last, Choice}
+use Rattle.meaning.specs.Meaning.{Row, State, Move, eval, runRow, runItem, runItems, step, commandAt, eachOf, IsStart, Breaks, AreSteps, last, Choice}
 use Rattle.meaning.specs.OneRow.{One, theRow, stateNumber, spread, spreadWord, starts, breaks, next, lastOf}
-use Rattle.meaning.specs.Evidence.{inMap, safe, NotFromZero}
+use Rattle.meaning.specs.Evidence.{inMap, voidBy, NotFromZero}
 use Rattle.meaning.specs.Readings.{StarByRow, ConditionByRow, ItemsInOrder, RowsByThemselves, parting, unlike, parts, upper, BreakAtStart, cured, UnreachedMember, still, ZeroRows, barred, barredText}
 use Rattle.meaning.specs.working.Conditions.{every, implies, testA, testB, wordsStay, closedAt, testC}
 use Rattle.meaning.proofs.Accept.{all-tests-tell}
@@ -133,26 +133,33 @@ unfolding bytes sameWord reserved wordIn wordToken sameKind allowed nameCounts R
     commandOf clauseOf modelOf span mark front lexemes tokensFrom tally note exceeds fault lines skips find L.step ending reads answer
 barred-says = record { tree = _; says = says-iff-answer barredText _ .1 refl; meant = refl }
 
+-- Without rows nothing has to hold in each of them.
+rowless : State (Row 0)
+rowless = record { shared = []; rows = λ i. [] }
+
+rowless-starts : IsStart barred rowless
+unfolding eval rowless
+rowless-starts =
+    record { fits = record { sharedBits = refl; rowBits = λ i. refl }; whole = refl; each = λ i. absurd (not-suc-le-zero (i .1)) }
+
 pub zero-rows : ZeroRows
 unfolding testA testB testC closedAt wordsStay every implies starts breaks next inMap bit number spread spreadWord stateNumber step runItems runItem eval stars starsItems starsExpr
 zero-rows = record {
   says = barred-says;
-  passes = record {
-    starts = all-tests-tell barred .tellsA (0 ∷ []) .0 refl;
-    keeps = all-tests-tell barred .tellsB (0 ∷ []) .0 refl;
-    closed = all-tests-tell barred .tellsC (0 ∷ []) .0 refl;
-  };
-  none = λ s h. true≢false (sym (h .each theRow));
-  wrong = (
-    record { shared = []; rows = λ i. [] },
-    [],
-    record { start = record { fits = record { sharedBits = refl; rowBits = λ i. refl }; whole = refl; each = λ i. absurd (not-suc-le-zero (i .1)) }; steps = tt },
-    inl refl,
+  passes = (
+    record {
+      starts = all-tests-tell barred .tellsA (0 ∷ []) .0 refl;
+      keeps = all-tests-tell barred .tellsB (0 ∷ []) .0 refl;
+      closed = all-tests-tell barred .tellsC (0 ∷ []) .0 refl;
+    },
+    λ q. true≢false (sym (q .1 .each theRow)),
   );
+  starts = (rowless, rowless-starts);
+  wrong = (rowless, [], record { start = rowless-starts; steps = tt }, inl refl);
 }
 
+-- Void is said of a table without rows that can start.
 pub not-from-zero : NotFromZero
 not-from-zero c =
     let z = zero-rows in
-    let (s, xs, r, b) = z .wrong in
-    c barredText barred (z .says) (safe (0 ∷ [])) (z .passes) 0 0 zero-le zero-le .here s xs r b
+    c barredText barred (z .says) (voidBy (0 ∷ [])) (z .passes) 0 0 zero-le zero-le .here .0 (z .starts)

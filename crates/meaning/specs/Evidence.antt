@@ -2,7 +2,7 @@
 -- Assumes nothing.
 use mathlib.Core.Path.{_≡_}
 use mathlib.Core.Logic.{_↔_}
-use mathlib.Core.Bool.{Bool, true, false}
+use mathlib.Core.Bool.{Bool, true}
 use mathlib.Core.List.{List, map}
 use Prim.Native.Nat.{ℕ, _/_, _%_, _≤_, _<_}
 use lib.ListN.{length, getD}
@@ -10,18 +10,13 @@ use Rattle.notation.specs.Model.{Model}
 use Rattle.notation.specs.Regular.{Every}
 use Rattle.notation.specs.Texts.{TextSays}
 use Rattle.meaning.specs.Bits.{bit}
-use Rattle.meaning.specs.Meaning.{Row, commandAt, IsStart, Breaks, AreSteps, IsRun, last, Safe, Unsafe}
+use Rattle.meaning.specs.Meaning.{Row, commandAt, IsStart, Breaks, AreSteps, IsRun, last, Safe, Unsafe, CanStart}
 use Rattle.meaning.specs.OneRow.{One, spread, stateCount, wordCount, next, TraceStep, spreadStep}
 
 -- What a sheet holds: the bytes of a map, or the first state of a trace and its steps.
 pub data Sheet : Type 0 where
   safe : List ℕ → Sheet
   trace : ℕ → List TraceStep → Sheet
-
--- Whether it holds a map.
-abbrev pub isSafe : Sheet → Bool
-isSafe (safe bytes) = true
-isSafe (trace s xs) = false
 
 -- Whether state s is a member of the map: eight states to a byte, the lowest bit first.
 unfoldable pub inMap : List ℕ → ℕ → Bool
@@ -82,27 +77,56 @@ pub record TraceHolds (m : Model) (I : Type 0) (s : ℕ) (xs : List TraceStep) :
   pub run : IsRun m (spread m I s) (map (spreadStep m I) xs)
   pub breaks : Breaks m (last (spread m I s) (map (spreadStep m I) xs))
 
--- A sheet passes.
-abbrev pub Passes : Model → Sheet → Type 0
-Passes m (safe bytes) = MapPasses m bytes
-Passes m (trace s xs) = TracePasses m s xs
+-- Void: no state of one row satisfies `start`.
+abbrev pub IsVoid : Model → Type 0
+IsVoid m = ¬ (CanStart m One)
 
--- What a sheet says of a table with the rows I: a map, that no run there goes wrong; a trace, that its copy is a run there that does.
-abbrev pub Holds : Model → Type 0 → Sheet → Type 0
-Holds m I (safe bytes) = Safe m I
-Holds m I (trace s xs) = TraceHolds m I s xs
+-- A verdict on a model with its evidence: safe by a map, void by a map, or unsafe by a trace.
+pub data Verdict : Type 0 where
+  safeBy : List ℕ → Verdict
+  voidBy : List ℕ → Verdict
+  unsafeBy : ℕ → List TraceStep → Verdict
 
--- What is promised of two tables at once, of n₁ and of n₂ rows, where a sheet passes: what it says holds of both,
--- one of them can go wrong only if the other can, and no sheet of the other kind passes for the model.
-pub record Promise (m : Model) (x : Sheet) (n₁ n₂ : ℕ) : Type 0 where
+-- The evidence as a sheet.
+abbrev pub evidenceOf : Verdict → Sheet
+evidenceOf (safeBy map) = safe map
+evidenceOf (voidBy map) = safe map
+evidenceOf (unsafeBy s xs) = trace s xs
+
+-- The verdict without its evidence.
+pub data Kind : Type 0 where
+  safely voidly unsafely : Kind
+
+abbrev pub kindOf : Verdict → Kind
+kindOf (safeBy map) = safely
+kindOf (voidBy map) = voidly
+kindOf (unsafeBy s xs) = unsafely
+
+-- A sheet passes, and with which verdict: a map shows that the model is safe where one row has a start state, and that it is void where it has none.
+abbrev pub Passes : Model → Verdict → Type 0
+Passes m (safeBy map) = MapPasses m map × CanStart m One
+Passes m (voidBy map) = MapPasses m map × IsVoid m
+Passes m (unsafeBy s xs) = TracePasses m s xs
+
+-- What a verdict says of a table with the rows I. Safe: it has a start state, and no run there goes wrong. Void: it has no start state,
+-- and so no run there goes wrong. Unsafe: the copy of the trace is a run there that does.
+abbrev pub Holds : Model → Type 0 → Verdict → Type 0
+Holds m I (safeBy map) = CanStart m I × Safe m I
+Holds m I (voidBy map) = (¬ (CanStart m I)) × Safe m I
+Holds m I (unsafeBy s xs) = TraceHolds m I s xs
+
+-- What is promised of two tables at once, of n₁ and of n₂ rows, where a sheet passes with a verdict: what it says holds of both,
+-- one of them can go wrong, or can start, only if the other can, and no sheet passes for the model with a verdict of another kind.
+pub record Promise (m : Model) (x : Verdict) (n₁ n₂ : ℕ) : Type 0 where
   pub here : Holds m (Row n₁) x
   pub there : Holds m (Row n₂) x
   pub alike : Unsafe m (Row n₁) ↔ Unsafe m (Row n₂)
-  pub agree : (y : Sheet) → Passes m y → isSafe y ≡ isSafe x
+  pub startAlike : CanStart m (Row n₁) ↔ CanStart m (Row n₂)
+  pub agree : (y : Verdict) → Passes m y → kindOf y ≡ kindOf x
 
 -- The promise for every model that a text says, every sheet that passes for it, and all pairs of tables that have at least so many rows.
 abbrev pub ClaimFrom : ℕ → Type 0
-ClaimFrom least = (text : List ℕ) (m : Model) → TextSays text m → (x : Sheet) → Passes m x → (n₁ n₂ : ℕ) → least ≤ n₁ → least ≤ n₂ → Promise m x n₁ n₂
+ClaimFrom least = (text : List ℕ) (m : Model) → TextSays text m → (x : Verdict) → Passes m x → (n₁ n₂ : ℕ) → least ≤ n₁ → least ≤ n₂ → Promise m x n₁ n₂
 
 -- THE CLAIM: it is kept from one row up.
 abbrev pub Claim : Type 0

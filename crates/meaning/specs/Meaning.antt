@@ -135,3 +135,7 @@ Safe m I = (s : State I) (xs : List (Move I)) → IsRun m s xs → ¬ (Breaks m 
 -- Some run over the rows I leads to one.
 abbrev pub Unsafe : Model → Type 0 → Type 0
 Unsafe m I = (s : State I) × (xs : List (Move I)) × IsRun m s xs × Breaks m (last s xs)
+
+-- Some state over the rows I satisfies `start`.
+abbrev pub CanStart : Model → Type 0 → Type 0
+CanStart m I = (s : State I) × IsStart m s

@@ -7,9 +7,9 @@ use Prim.Native.Nat.{ℕ, zero, suc, zero-le, suc-le-suc}
 use Rattle.notation.specs.Bytes.{bytes}
 use Rattle.notation.specs.Model.{Expr, lit, star, shared, row, neg, skipRow, putRow, Item, skip, put, for, Command, Clause, Model}
 use Rattle.notation.specs.Texts.{TextSays}
-use Rattle.meaning.specs.Meaning.{Row, State, Choice, Move, step, eachOf, IsStart, Breaks, IsRun, last, Unsafe}
+use Rattle.meaning.specs.Meaning.{Row, State, Choice, Move, step, eachOf, Breaks, IsRun, last, Unsafe, CanStart}
 use Rattle.meaning.specs.OneRow.{One, stateNumber}
-use Rattle.meaning.specs.Evidence.{safe, trace, ConditionA, ConditionB, ConditionC, Passes}
+use Rattle.meaning.specs.Evidence.{voidBy, unsafeBy, ConditionA, ConditionB, ConditionC, Passes}
 
 -- The two rows of a table of two, and a state of it by its shared bits and the bits of either row.
 abbrev pub upper : Row 2
@@ -87,7 +87,7 @@ cured = small (shared 0) (neg (shared 0)) (put 0 (lit false))
 
 abbrev pub BreakAtStart : Type 0
 BreakAtStart =
-    Passes cured (trace 1 [])
+    Passes cured (unsafeBy 1 [])
     × ((n : ℕ) (s : State (Row n)) (x : Move (Row n)) (xs : List (Move (Row n))) → IsRun cured s (x ∷ xs) → ¬ (Breaks cured (last s (x ∷ xs))))
 
 -- Astray: `keep` is only asked of members that a run reaches. Here the map of the states 0 and 1 fails by B, though no run reaches 1.
@@ -101,7 +101,7 @@ UnreachedMember =
     × ConditionC still (3 ∷ [])
     × (¬ (ConditionB still (3 ∷ [])))
 
--- Astray: a table without rows is a table like others. Here a map passes, one row has no start state, and a table without rows goes wrong.
+-- Astray: a table without rows is a table like others. Here a map passes for a void model, and a table without rows can start and goes wrong at once.
 abbrev pub barredText : List ℕ
 barredText = bytes "shared. row. start 1 each 0. keep 0 each 1. command c if 1 do skip else skip."
 
@@ -117,6 +117,6 @@ barred =
 
 pub record ZeroRows : Type 0 where
   pub says : TextSays barredText barred
-  pub passes : Passes barred (safe (0 ∷ []))
-  pub none : (s : State One) → ¬ (IsStart barred s)
+  pub passes : Passes barred (voidBy (0 ∷ []))
+  pub starts : CanStart barred (Row 0)
   pub wrong : Unsafe barred (Row 0)

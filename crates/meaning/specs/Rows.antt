@@ -1,14 +1,15 @@
 -- What one row tells of many: promises about single steps and single sheets, from which the claim is put together.
 -- Assumes nothing.
 use mathlib.Core.Path.{_≡_}
+use mathlib.Core.Logic.{_⊎_}
 use mathlib.Core.List.{List}
 use Prim.Native.Nat.{ℕ, _<_}
 use lib.ListN.{length}
 use Rattle.notation.specs.Model.{Model}
 use Rattle.notation.specs.Regular.{Regular}
-use Rattle.meaning.specs.Meaning.{Row, State, Choice, Move, step, commandAt, Fits, IsRun, last, Safe, Unsafe}
+use Rattle.meaning.specs.Meaning.{Row, State, Choice, Move, step, commandAt, Fits, IsRun, last, Safe, Unsafe, CanStart}
 use Rattle.meaning.specs.OneRow.{One, spreadWord, wordCount, TraceStep}
-use Rattle.meaning.specs.Evidence.{MapPasses, TracePasses, TraceHolds}
+use Rattle.meaning.specs.Evidence.{MapPasses, TracePasses, TraceHolds, IsVoid, safeBy, voidBy, Passes}
 
 -- The state of one row that is left where all rows but row i are taken away.
 abbrev pub only : {I : Type 0} → I → State I → State One
@@ -41,3 +42,15 @@ OneKind = (m : Model) → Regular m → (bytes : List ℕ) (s : ℕ) (xs : List 
 -- Tables of two sizes can go wrong only together.
 abbrev pub Together : Type 0
 Together = (m : Model) (n₁ n₂ : ℕ) → 0 < n₁ → 0 < n₂ → Unsafe m (Row n₁) → Unsafe m (Row n₂)
+
+-- A void model has no start state in tables of any size.
+abbrev pub VoidEverywhere : Type 0
+VoidEverywhere = (m : Model) → IsVoid m → (n : ℕ) → 0 < n → ¬ (CanStart m (Row n))
+
+-- A model that is not void has one in tables of every size.
+abbrev pub StartsEverywhere : Type 0
+StartsEverywhere = (m : Model) → ¬ (IsVoid m) → (n : ℕ) → 0 < n → CanStart m (Row n)
+
+-- A map that passes shows one of the two: that the model is safe, or that it is void.
+abbrev pub SafeOrVoid : Type 0
+SafeOrVoid = (m : Model) (map : List ℕ) → MapPasses m map → Passes m (safeBy map) ⊎ Passes m (voidBy map)

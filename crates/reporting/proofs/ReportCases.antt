@@ -9,4 +9,4 @@ use Rattle.reporting.specs.working.Reporting.{reportIn}
 
 pub all-cases : AllCases
 unfolding finding digitsUpTo others line stepLines commandName verdictLines reportLines reportIn written cases
-all-cases = (refl, (refl, (refl, (refl, tt))))
+all-cases = (refl, (refl, (refl, (refl, (refl, tt)))))

@@ -15,10 +15,9 @@ use Rattle.notation.specs.working.Machine as N
 use Rattle.notation.specs.working.Answer.{answer}
 use Rattle.notation.proofs.Texts.{says-iff-answer}
 use Rattle.meaning.specs.OneRow.{TraceStep}
-use Rattle.meaning.specs.Evidence.{StepFits}
+use Rattle.meaning.specs.Evidence.{StepFits, Verdict, safeBy, voidBy, unsafeBy}
 use Rattle.meaning.proofs.Lists.{weaken}
 use Rattle.sheets.specs.Sheets.{systemOf}
-use Rattle.exploration.specs.Findings.{Verdict, safeBy, unsafeBy}
 use Rattle.verdicts.proofs.SheetBytes.{word-lt}
 use Rattle.io.specs.Counts.{Counts}
 use Rattle.lines.specs.Lines.{decimalOf, line}
@@ -26,7 +25,7 @@ use Rattle.lines.specs.Puts.{Fits, Puts}
 use Rattle.lines.proofs.Stores.{front-counts}
 use Rattle.lines.proofs.Digits.{digits-below}
 use Rattle.lines.proofs.Parts.{line-length, others-length, end-length, refusal-short}
-use Rattle.reporting.specs.Reports.{countsLine, safeLine, unsafeLine, startLine, stepLine, stepLines, commandName, verdictLines, reportLines, longestReport}
+use Rattle.reporting.specs.Reports.{countsLine, safeLine, voidLine, unsafeLine, startLine, stepLine, stepLines, commandName, verdictLines, reportLines, longestReport}
 use Rattle.reporting.specs.Promises.{ReportsFit}
 use Rattle.reporting.specs.working.Reporting.{foundFor, reportOf}
 use Rattle.reporting.proofs.NameArrays.{told}
@@ -60,6 +59,10 @@ counts-short a b c h k l =
 safe-short : length safeLine ≤ 5
 unfolding bytes
 safe-short = omega (arith, one-word (bytes "safe"))
+
+void-short : length voidLine ≤ 5
+unfolding bytes
+void-short = omega (arith, one-word (bytes "void"))
 
 unsafe-short : (n : ℕ) → n < 10000 → length (unsafeLine n) ≤ 12
 unfolding bytes
@@ -102,18 +105,22 @@ module _ (text : List ℕ) (x : Tree) (says : TextSaysTree text x) where
         after = omega (arith, f .after, few text x says);
       }
 
-  found-short : (v : Verdict) → foundFor (modelOf x) ≡ v → length (reportLines x v) ≤ longestReport
-  unfolding reportLines verdictLines
-  found-short (safeBy map) e =
+  -- The counts with a line of one word.
+  word-short : (l : List ℕ) → length l ≤ 5 → length (countsLine (modelOf x .sharedNames) (modelOf x .rowNames) (length (modelOf x .commands)) ++ l) ≤ longestReport
+  word-short l h =
       let g = regular text x says in
       omega (
         arith,
-        length-append (countsLine (modelOf x .sharedNames) (modelOf x .rowNames) (length (modelOf x .commands))) safeLine,
+        length-append (countsLine (modelOf x .sharedNames) (modelOf x .rowNames) (length (modelOf x .commands))) l,
         counts-short
             (modelOf x .sharedNames) (modelOf x .rowNames) (length (modelOf x .commands)) (omega (arith, g .fewShared)) (omega (arith, g .fewRow))
             (omega (arith, g .fewCommands)),
-        safe-short,
       )
+
+  found-short : (v : Verdict) → foundFor (modelOf x) ≡ v → length (reportLines x v) ≤ longestReport
+  unfolding reportLines verdictLines
+  found-short (safeBy map) e = word-short safeLine safe-short
+  found-short (voidBy map) e = word-short voidLine void-short
   found-short (unsafeBy s xs) e =
       let g = regular text x says in
       let p = passes text x says s xs e in

@@ -9,7 +9,8 @@ use Rattle.notation.specs.working.Machine.{refused}
 use Rattle.notation.specs.working.Answer.{answer}
 use Rattle.notation.proofs.Texts.{says-answer, refused-answer}
 use Rattle.notation.proofs.Regular.{all-regular}
-use Rattle.exploration.specs.Findings.{Verdict, Finds}
+use Rattle.meaning.specs.Evidence.{Verdict}
+use Rattle.exploration.specs.Findings.{Finds}
 use Rattle.exploration.proofs.FindsRight.{finds}
 use Rattle.exploration.proofs.FindsOnce.{finds-once}
 use Rattle.lines.specs.Lines.{refusalLine}

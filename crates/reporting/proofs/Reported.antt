@@ -1,21 +1,24 @@
 -- The report over what the search answered and left is the report of the text.
 -- Assumes nothing.
 use mathlib.Core.Path.{_≡_, refl, sym, ap, _∙_, subst}
+use mathlib.Core.Bool.{false, true≢false}
 use mathlib.Core.List.{List}
 use Prim.Native.Nat.{ℕ, _≤_}
 use native.Mathlib.Omega.{arith}
 use lib.ListN.{length, take}
 use lib.Seq.{sets, length-sets}
+use lib.Dec.{eqb}
+use borrow.Author.Tests.{eq-eqb}
 use Rattle.notation.specs.Notation.{Tree}
 use Rattle.notation.specs.Model.{Model}
 use Rattle.notation.specs.Texts.{TextSays, TextSaysTree, TextRefused, modelOf}
 use Rattle.notation.proofs.Texts.{refused-answer}
 use Rattle.meaning.specs.OneRow.{TraceStep}
-use Rattle.meaning.specs.Evidence.{trace}
+use Rattle.meaning.specs.Evidence.{trace, Verdict, safeBy, voidBy, unsafeBy}
 use Rattle.reader.specs.Read.{readingOf}
 use Rattle.sheets.specs.Sheets.{systemOf, sheetBytes}
-use Rattle.exploration.specs.Findings.{Verdict, safeBy, unsafeBy}
-use Rattle.verdicts.specs.declared.finding.Finding.the-variants.{Safe, Unsafe, Refused}
+use Rattle.verdicts.specs.declared.finding.Finding.{Finding}
+use Rattle.verdicts.specs.declared.finding.Finding.the-variants.{Safe, Void, Unsafe, Refused}
 use Rattle.verdicts.specs.Promises.{Room}
 use Rattle.verdicts.specs.Left.{Left}
 use Rattle.verdicts.specs.working.Searching.{verdictOf, leftWith, leftAlone, searchOf}
@@ -24,9 +27,9 @@ use Rattle.verdicts.proofs.SheetsPass as P
 use Rattle.verdicts.proofs.SheetsPass.{front}
 use Rattle.lines.specs.Lines.{refusalLine}
 use Rattle.reporting.specs.working.Reporting.{foundFor, reportOf}
-use Rattle.reporting.specs.working.Writing.{safeReport, traceReport, Printable}
+use Rattle.reporting.specs.working.Writing.{safeReport, voidReport, traceReport, Printable}
 use Rattle.reporting.proofs.ReportTells.{refused-lines}
-use Rattle.reporting.proofs.TextReports.{few, safe-said, sheet-short, trace-shown, trace-said}
+use Rattle.reporting.proofs.TextReports.{few, safe-said, void-said, sheet-short, trace-shown, trace-said}
 
 -- A trace of n bytes is at the front of the sheet.
 pub record TraceTold (text : List ℕ) (n : ℕ) (sheet : List ℕ) : Type 0 where
@@ -38,18 +41,18 @@ pub record TraceTold (text : List ℕ) (n : ℕ) (sheet : List ℕ) : Type 0 whe
 pub record Told (text : List ℕ) (left : Left) : Type 0 where
   pub refusal : (n p : ℕ) → Refused n p ≡ left .answer → refusalLine n p ≡ reportOf text
   pub safely : (n : ℕ) → Safe n ≡ left .answer → safeReport (readingOf text .code) ≡ reportOf text
+  pub voidly : (n : ℕ) → Void n ≡ left .answer → voidReport (readingOf text .code) ≡ reportOf text
   pub unsafely : (n : ℕ) (d : List ℕ) → Unsafe n ≡ left .answer → d ≡ left .sheet → TraceTold text n d
 
 -- Answers of two kinds are not the same.
-module _ {A : Type 0} (n p k : ℕ) where
-  refused-safe : Refused n p ≡ Safe k → A
-  refused-safe e = let z : _≡_ {A = ℕ} 0 1 = cc in absurd (omega arith)
+abbrev kind : Finding → ℕ
+kind (Refused n p) = 0
+kind (Safe n) = 1
+kind (Void n) = 2
+kind (Unsafe n) = 3
 
-  refused-unsafe : Refused n p ≡ Unsafe k → A
-  refused-unsafe e = let z : _≡_ {A = ℕ} 0 1 = cc in absurd (omega arith)
-
-safe-unsafe : {A : Type 0} (n k : ℕ) → Safe n ≡ Unsafe k → A
-safe-unsafe n k e = let z : _≡_ {A = ℕ} 0 1 = cc in absurd (omega arith)
+differ : {A : Type 0} (f g : Finding) → f ≡ g → eqb (kind f) (kind g) ≡ false → A
+differ f g e h = absurd (true≢false (sym (eq-eqb (kind f) (kind g) (ap kind e)) ∙ h))
 
 same-length : (n k : ℕ) → Unsafe n ≡ Unsafe k → n ≡ k
 same-length n k e = cc
@@ -60,8 +63,9 @@ module _ (text a b c : List ℕ) (la : 4096 ≤ length a) (lb : 4096 ≤ length 
   told-refused n i r =
       record {
         refusal = λ k p e. let y : refusalLine k p ≡ refusalLine n i = cc in y ∙ sym (refused-lines text n i (refused-answer r));
-        safely = λ k e. refused-safe n i k (sym e);
-        unsafely = λ k d e h. refused-unsafe n i k (sym e);
+        safely = λ k e. differ (Safe k) (Refused n i) e refl;
+        voidly = λ k e. differ (Void k) (Refused n i) e refl;
+        unsafely = λ k d e h. differ (Unsafe k) (Refused n i) e refl;
       }
 
   module _ (x : Tree) (says : TextSaysTree text x) where
@@ -81,14 +85,23 @@ module _ (text a b c : List ℕ) (la : 4096 ≤ length a) (lb : 4096 ≤ length 
     unfolding verdictOf
     told-found (safeBy map) f =
         record {
-          refusal = λ n p e. refused-safe n p _ e;
+          refusal = λ n p e. differ (Refused n p) (Safe _) e refl;
           safely = λ n e. safe-said text x says map f;
-          unsafely = λ n d e k. safe-unsafe _ n (sym e);
+          voidly = λ n e. differ (Void n) (Safe _) e refl;
+          unsafely = λ n d e k. differ (Unsafe n) (Safe _) e refl;
+        }
+    told-found (voidBy map) f =
+        record {
+          refusal = λ n p e. differ (Refused n p) (Void _) e refl;
+          safely = λ n e. differ (Safe n) (Void _) e refl;
+          voidly = λ n e. void-said text x says map f;
+          unsafely = λ n d e k. differ (Unsafe n) (Void _) e refl;
         }
     told-found (unsafeBy s xs) f =
         record {
-          refusal = λ n p e. refused-unsafe n p _ e;
-          safely = λ n e. safe-unsafe n _ e;
+          refusal = λ n p e. differ (Refused n p) (Unsafe _) e refl;
+          safely = λ n e. differ (Safe n) (Unsafe _) e refl;
+          voidly = λ n e. differ (Void n) (Unsafe _) e refl;
           unsafely = λ n d e k. told-trace s xs f n d (same-length n _ e) k;
         }
 

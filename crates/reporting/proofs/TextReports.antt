@@ -15,7 +15,7 @@ use Rattle.notation.specs.working.Machine as N
 use Rattle.notation.proofs.Texts.{says-answer}
 use Rattle.notation.proofs.Regular.{all-regular}
 use Rattle.meaning.specs.OneRow.{stateCount, TraceStep}
-use Rattle.meaning.specs.Evidence.{trace, StepFits, TracePasses}
+use Rattle.meaning.specs.Evidence.{trace, StepFits, TracePasses, Verdict, safeBy, voidBy, unsafeBy, evidenceOf}
 use Rattle.meaning.proofs.Lists.{weaken}
 use Rattle.evaluation.proofs.Powers.{pow-small}
 use Rattle.reader.specs.declared.Code.{Code}
@@ -25,13 +25,13 @@ use Rattle.sheets.specs.SheetTexts.{twoAt}
 use Rattle.sheets.specs.working.SheetReading.{stepsIn}
 use Rattle.acceptance.proofs.TestMeans.{numbers-fit}
 use Rattle.sheets.proofs.SheetWritten.{two-little, steps-there}
-use Rattle.exploration.specs.Findings.{Verdict, safeBy, unsafeBy, evidenceOf, Finds}
+use Rattle.exploration.specs.Findings.{Finds}
 use Rattle.exploration.proofs.FindsRight.{finds}
 use Rattle.exploration.proofs.FoundShort.{trace-sheet-length}
 use Rattle.verdicts.proofs.SearchTells as Left
 use Rattle.reporting.specs.Reports.{countsLine, unsafeLine, startLine, stepLine, stepLines, commandName, verdictLines, reportLines}
 use Rattle.reporting.specs.working.Reporting.{foundFor, reportOf}
-use Rattle.reporting.specs.working.Writing.{nameIn, Named, headerEnd, startIn, stepsOf, traceSteps, safeReport, traceReport, Printable}
+use Rattle.reporting.specs.working.Writing.{nameIn, Named, headerEnd, startIn, stepsOf, traceSteps, safeReport, voidReport, traceReport, Printable}
 use Rattle.reporting.proofs.NameArrays.{told}
 use Rattle.reporting.proofs.ReportTells.{found-lines}
 
@@ -100,8 +100,15 @@ module _ (text : List ℕ) (x : Tree) (says : TextSaysTree text x) where
   unfolding reportLines verdictLines codeOf layoutOf
   safe-lines map = refl
 
+  void-lines : (map : List ℕ) → voidReport code ≡ reportLines x (voidBy map)
+  unfolding reportLines verdictLines codeOf layoutOf
+  void-lines map = refl
+
   pub safe-said : (map : List ℕ) → S ≡ safeBy map → safeReport (readingOf text .code) ≡ reportOf text
   safe-said map e = ap safeReport code-read ∙ safe-lines map ∙ sym (found-lines text x says ∙ ap (reportLines x) e)
+
+  pub void-said : (map : List ℕ) → S ≡ voidBy map → voidReport (readingOf text .code) ≡ reportOf text
+  void-said map e = ap voidReport code-read ∙ void-lines map ∙ sym (found-lines text x says ∙ ap (reportLines x) e)
 
   -- Where a trace is found.
   module _ (s : ℕ) (xs : List TraceStep) (e : S ≡ unsafeBy s xs) where

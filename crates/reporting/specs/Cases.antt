@@ -6,7 +6,7 @@ use Prim.Native.Nat.{ℕ}
 use Prim.Native.String.{String}
 use Rattle.notation.specs.Bytes.{bytes}
 use Rattle.notation.specs.Regular.{Every}
-use Rattle.acceptance.specs.Cases.{g, h, gKeepsNowhere}
+use Rattle.acceptance.specs.Cases.{g, h, gKeepsNowhere, gStartsNowhere}
 use Rattle.reporting.specs.working.Reporting.{reportOf}
 
 -- Lines that are written out, each with its newline.
@@ -26,6 +26,8 @@ cases =
     record { text = h; report = "model 1 2 1" ∷ "safe" ∷ [] } ∷
     -- no step is needed where the start state breaks
     record { text = gKeepsNowhere; report = "model 1 2 1" ∷ "unsafe 0" ∷ "start 1" ∷ [] } ∷
+    -- nothing is said of runs where none can begin
+    record { text = gStartsNowhere; report = "model 1 2 1" ∷ "void" ∷ [] } ∷
     -- the empty text
     record { text = bytes ""; report = "refused 3 0" ∷ [] } ∷
     []

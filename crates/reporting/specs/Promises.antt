@@ -6,7 +6,8 @@ use Prim.Native.Nat.{ℕ, _≤_}
 use lib.ListN.{length}
 use Rattle.notation.specs.Notation.{Tree}
 use Rattle.notation.specs.Texts.{TextSaysTree, TextRefused, modelOf}
-use Rattle.exploration.specs.Findings.{Verdict, Finds}
+use Rattle.meaning.specs.Evidence.{Verdict}
+use Rattle.exploration.specs.Findings.{Finds}
 use Rattle.lines.specs.Lines.{refusalLine}
 use Rattle.reporting.specs.Reports.{reportLines, longestReport}
 use Rattle.reporting.specs.working.Reporting.{reportOf}

@@ -8,7 +8,7 @@ use Rattle.notation.specs.Tokens.{Word}
 use Rattle.notation.specs.Notation.{Tree, tree′}
 use Rattle.notation.specs.Texts.{modelOf, wordsOf, titleOf}
 use Rattle.meaning.specs.OneRow.{TraceStep}
-use Rattle.exploration.specs.Findings.{Verdict, safeBy, unsafeBy}
+use Rattle.meaning.specs.Evidence.{Verdict, safeBy, voidBy, unsafeBy}
 use Rattle.lines.specs.Lines.{decimalOf, line}
 
 -- How many shared names, row names and commands the model has.
@@ -18,6 +18,10 @@ countsLine shared row commands = line (bytes "model" ∷ decimalOf shared ∷ de
 -- The verdict where no run goes wrong.
 abbrev pub safeLine : List ℕ
 safeLine = line (bytes "safe" ∷ [])
+
+-- The verdict where none can begin.
+abbrev pub voidLine : List ℕ
+voidLine = line (bytes "void" ∷ [])
 
 -- The verdict where one does, with the number of its steps.
 abbrev pub unsafeLine : ℕ → List ℕ
@@ -43,6 +47,7 @@ commandName (tree′ ws vs s k cs) i = getD (wordsOf (map titleOf cs)) i []
 -- The lines of a verdict: after `unsafe` follows the run, its steps numbered from 1.
 unfoldable pub verdictLines : (ℕ → Word) → Verdict → List ℕ
 verdictLines called (safeBy map) = safeLine
+verdictLines called (voidBy map) = voidLine
 verdictLines called (unsafeBy s xs) = unsafeLine (length xs) ++ (startLine s ++ stepLines called 1 xs)
 
 -- THE REPORT of the model that a tree says, where this is found.

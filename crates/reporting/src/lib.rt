@@ -11,7 +11,7 @@ ghost use Rattle.reader.specs.Read.{readingOf};
 ghost use Rattle.verdicts.specs.Left.{Leaves};
 ghost use Rattle.verdicts.specs.working.Searching.{searchOf};
 ghost use Rattle.reporting.specs.Reports.{countsLine};
-ghost use Rattle.reporting.specs.working.Writing.{safeReport, traceReport, Printable};
+ghost use Rattle.reporting.specs.working.Writing.{safeReport, voidReport, traceReport, Printable};
 ghost use Rattle.reporting.specs.working.Reporting.{reportOf};
 use lines::put;
 use lines::put_number;
@@ -53,6 +53,16 @@ fn put_safe(out: &mut [u8], text: &[u8]) -> usize
     put(out, counted, b"safe\n")
 }
 
+// The report of a void model.
+fn put_void(out: &mut [u8], text: &[u8]) -> usize
+    requires { ⌜ Fits (now out) 0 (voidReport (readingOf (now text) .code)) ⌝ }
+    ensures { λ r. ⌜ Puts (now (out .entry)) 0 (voidReport (readingOf (now (text .entry)) .code)) (now (out .exit)) r ⌝ }
+{
+    let code = read(text).code;
+    let counted = put_counts(out, 0, code.shared, code.row, code.commands);
+    put(out, counted, b"void\n")
+}
+
 // The report of an unsafe model, whose trace is the sheet.
 fn put_unsafe(out: &mut [u8], text: &[u8], sheet: &[u8]) -> usize
     requires { ⌜ Printable (now text) (readingOf (now text) .code) (now sheet) × Fits (now out) 0 (traceReport (now text) (readingOf (now text) .code) (now sheet)) ⌝ }
@@ -86,6 +96,7 @@ pub fn write_report(
             put_refusal(out, 0, n, place)
         }
         Finding::Safe(_) => put_safe(out, text),
+        Finding::Void(_) => put_void(out, text),
         Finding::Unsafe(n) => {
             let bytes: &[u8] = sheet;
             put_unsafe(out, text, &bytes[..n])

@@ -1,4 +1,4 @@
-// Searches a model of eight states with buffers that have just enough room, and then with one entry or one byte less in each of them in turn.
+// Searches models of eight states, an unsafe and a void one, with buffers that have just enough room, and then with one entry or one byte less in each of them in turn.
 // It writes a line for each answer.
 ghost use Prim.Native.Nat.{_≤_};
 ghost use lib.ListN.{length};
@@ -29,6 +29,7 @@ fn put_finding(line: &mut Line, found: Finding) -> usize
 {
     match found {
         Finding::Safe(n) => put_verdict(line, b"safe", n),
+        Finding::Void(n) => put_verdict(line, b"void", n),
         Finding::Unsafe(n) => put_verdict(line, b"unsafe", n),
         Finding::Refused(number, place) => {
             let n = number as usize;
@@ -81,5 +82,8 @@ fn answer(text: &[u8]) {
 fn main() {
     answer(
         b"shared m. row w x.\nstart m each not x.\nkeep 1 each not (w and x).\ncommand grant if m do\nfor 1 do w := *; x := * else skip end else skip.\n",
+    );
+    answer(
+        b"shared m. row w x.\nstart 1 each 0.\nkeep 1 each not (w and x).\ncommand grant if m do\nfor 1 do w := *; x := * else skip end else skip.\n",
     );
 }

@@ -25,7 +25,7 @@ use Rattle.sheets.specs.Sheets.{System, size, systemOf, headerBytes, sheetBytes
 use Rattle.sheets.specs.working.FlatSystem.{systemIn}
 use Rattle.acceptance.specs.working.Test.{planOf}
 use Rattle.acceptance.proofs.TestTexts.{counts, star-count, flat-code, flat}
-use Rattle.exploration.specs.Findings.{Verdict, safeBy, unsafeBy, evidenceOf}
+use Rattle.meaning.specs.Evidence.{Verdict, safeBy, voidBy, unsafeBy, evidenceOf}
 use Rattle.exploration.specs.working.Found.{foundIn, transitionsOf, Agrees}
 use Rattle.verdicts.specs.Left.{Left, zeroed}
 use Rattle.verdicts.specs.working.Searching.{roomy, verdictOf, leftWith, leftAlone, searchFor, searchIn, searchOf}
@@ -72,6 +72,7 @@ module _ (m : Model) (g : Regular m) (ns : List Name) where
   bytes-same : (x : Verdict) → sheetBytes C (evidenceOf x) ≡ sheetBytes (systemOf m) (evidenceOf x)
   unfolding sheetBytes headerBytes
   bytes-same (safeBy map) = refl
+  bytes-same (voidBy map) = refl
   bytes-same (unsafeBy s xs) = refl
 
   left-same : (x : Verdict) (q p o : List ℕ) → leftWith C x q p o ≡ leftWith (systemOf m) x q p o

@@ -24,12 +24,12 @@ use Rattle.verdicts.specs.Left.{Left}
 use Rattle.verdicts.specs.working.Searching.{roomy, foundBy, leftAlone, searchFor}
 use Rattle.search.specs.working.Ends.{Ends}
 use Rattle.verdicts.specs.declared.finding.Finding.{Finding}
-use Rattle.verdicts.specs.declared.finding.Finding.the-variants.{Safe, Unsafe, Refused}
+use Rattle.verdicts.specs.declared.finding.Finding.the-variants.{Safe, Void, Unsafe, Refused}
 use Rattle.traversal.proofs.CodeSteps.{code-lawful}
-use Rattle.exploration.proofs.Whole.{queue-cleared, parent-cleared, ran-some, ran-recorded, lastRun, ran-unsafe, ran-safe}
+use Rattle.exploration.proofs.Whole.{queue-cleared, parent-cleared, ran-some, ran-recorded, lastRun, ran-unsafe, mapLeft, ran-void, ran-safe}
 use Rattle.exploration.proofs.TraceSteps.{steps-count}
 use Rattle.exploration.proofs.Map.{map-length}
-use Rattle.search.proofs.SheetsFound.{trace-left, map-left}
+use Rattle.search.proofs.SheetsFound.{trace-left, safe-map-left, void-map-left}
 
 -- Room for the header.
 pub header-asked : (ops : List ℕ) (plan : Plan) (n : ℕ) → Sound plan → sheetRoom (systemIn ops plan) ≤ n
@@ -108,17 +108,29 @@ module _ (ops : List ℕ) (plan : Plan) (S : Sound plan) (states : ℕ) (e : sta
               trace-left M o₀ header q₀ p₀ (queue-cleared law R (sized q q₁ eq)) (parent-cleared law R (sized p p₁ ep)) (ran-unsafe law R f) (w .bytes)
               (w .ends ∙ ap (λ (k : ℕ). at + 8 + 10 * k) (sym (steps-count T (lastRun law R f))))
 
-          pub safe-left : b ≡ false → {k : ℕ} → k ≡ mapLength states → {o₂ o : List ℕ}
-              → o₂ ≡ sets o₁ at (headBytes k 2) → o ≡ sets o₂ (at + 6) (mapFrom (map (ltb 0) (take states p)) 0 k) → Ends (foundBy M q₀ p₀ o₀) (Safe (at + 6 + k)) q₁ p₁ o
-          unfolding headerBytes recordBytes little
-          safe-left f {k} g {o₂} {o} x y =
-              let d : k ≡ mapLength (2 ^ plan .bits) = g ∙ ap mapLength e in
-              map-left M o₀ header q₀ p₀ (queue-cleared law R (sized q q₁ eq)) (parent-cleared law R (sized p p₁ ep)) (ran-safe law R f)
-              (d ∙ sym (map-length (map (ltb 0) (take (2 ^ plan .bits) p)) 0 (mapLength (2 ^ plan .bits))))
-              x
-              (y
-              ∙ ap (λ (u : ℕ). sets o₂ (at + 6) (mapFrom (map (ltb 0) (take u p)) 0 k)) e
-              ∙ ap (λ (u : ℕ). sets o₂ (at + 6) (mapFrom (map (ltb 0) (take (2 ^ plan .bits) p)) 0 u)) d)
+          module _ (f : b ≡ false) {k : ℕ} (g : k ≡ mapLength states) {o₂ o : List ℕ} (x : o₂ ≡ sets o₁ at (headBytes k 2))
+              (y : o ≡ sets o₂ (at + 6) (mapFrom (map (ltb 0) (take states p)) 0 k)) where
+            counted : k ≡ mapLength (2 ^ plan .bits)
+            counted = g ∙ ap mapLength e
+
+            long : k ≡ length (mapLeft law R)
+            long = counted ∙ sym (map-length (map (ltb 0) (take (2 ^ plan .bits) p)) 0 (mapLength (2 ^ plan .bits)))
+
+            stored : o ≡ sets o₂ (at + 6) (mapLeft law R)
+            stored =
+                y
+                ∙ ap (λ (u : ℕ). sets o₂ (at + 6) (mapFrom (map (ltb 0) (take u p)) 0 k)) e
+                ∙ ap (λ (u : ℕ). sets o₂ (at + 6) (mapFrom (map (ltb 0) (take (2 ^ plan .bits) p)) 0 u)) counted
+
+            pub void-left : n ≡ 0 → Ends (foundBy M q₀ p₀ o₀) (Void (at + 6 + k)) q₁ p₁ o
+            unfolding headerBytes recordBytes little
+            void-left z =
+                void-map-left M o₀ header q₀ p₀ (queue-cleared law R (sized q q₁ eq)) (parent-cleared law R (sized p p₁ ep)) long x stored (ran-void law R f z)
+
+            pub safe-left : 0 < n → Ends (foundBy M q₀ p₀ o₀) (Safe (at + 6 + k)) q₁ p₁ o
+            unfolding headerBytes recordBytes little
+            safe-left z =
+                safe-map-left M o₀ header q₀ p₀ (queue-cleared law R (sized q q₁ eq)) (parent-cleared law R (sized p p₁ ep)) long x stored (ran-safe law R f z)
 
 -- A test that fails, or that holds, first.
 and-first : (a b : Bool) → a ≡ false → a && b ≡ false

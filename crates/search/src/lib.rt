@@ -1,4 +1,4 @@
-// The search: the first breaking run of a model's table of one row, or the map of the states that its runs reach.
+// The search: the first breaking run of a model's table of one row, or the map of the states that its runs reach, or that none can begin.
 ghost use mathlib.Core.Path.{_≡_};
 ghost use Prim.Native.Nat.{_+_, _*_, _^_, _≤_};
 ghost use Rattle.evaluation.specs.working.CodeSystem.{Sound};
@@ -51,6 +51,9 @@ fn search_roomy(
     clear(first, states);
     clear(second, states);
     let len = at + n;
+    if x.count == 0 {
+        return Finding::Void(len);
+    }
     Finding::Safe(len)
 }
 

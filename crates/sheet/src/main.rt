@@ -31,6 +31,7 @@ fn answer(text: &[u8]) {
     let found = search(text, &mut first, &mut second, &mut sheet);
     match found {
         Finding::Safe(n) => write_sheet(&sheet, n),
+        Finding::Void(n) => write_sheet(&sheet, n),
         Finding::Unsafe(n) => write_sheet(&sheet, n),
         Finding::Refused(number, place) => say_refused(number, place),
     }

@@ -7,7 +7,7 @@ use Rattle.notation.proofs.Places.{refusals-bounded}
 use Rattle.sheets.specs.Sheets.{systemOf, sheetBytes}
 use Rattle.verdicts.specs.Answers.{wordingOf}
 use Rattle.verdicts.specs.Promises.{answerOf, Bounded, AnswersBounded}
-use Rattle.exploration.specs.Findings.{Verdict, safeBy, unsafeBy, evidenceOf}
+use Rattle.meaning.specs.Evidence.{Verdict, safeBy, voidBy, unsafeBy, evidenceOf}
 use Rattle.exploration.specs.working.Found.{foundIn, transitionsOf}
 use Rattle.verdicts.specs.Left.{Left}
 use Rattle.verdicts.specs.working.Searching.{verdictOf}
@@ -17,6 +17,7 @@ use Rattle.verdicts.proofs.SheetsPass.{few}
 verdict-bounded : (x : Verdict) (n : ℕ) → n ≤ 7 + 10 * 4096 → Bounded (wordingOf (verdictOf x n))
 unfolding verdictOf wordingOf
 verdict-bounded (safeBy map) n h = h
+verdict-bounded (voidBy map) n h = h
 verdict-bounded (unsafeBy s xs) n h = h
 
 pub answers-bounded : AnswersBounded

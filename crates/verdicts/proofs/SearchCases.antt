@@ -8,14 +8,14 @@ use Rattle.exploration.specs.working.Exploring.{tryMoves, explore, takeIn, sear
 use Rattle.exploration.specs.working.Runs.{firstMove, runTo, stepsOf}
 use Rattle.exploration.specs.working.Results.{result}
 use Rattle.exploration.specs.working.Written.{bitAt, mapFrom}
-use Rattle.exploration.specs.working.Found.{verdictFor, foundIn}
+use Rattle.exploration.specs.working.Found.{anySet, verdictFor, foundIn}
 use Rattle.verdicts.specs.Answers.{wordingOf}
 use Rattle.verdicts.specs.Cases.{cases, AllCases}
 use Rattle.verdicts.specs.working.Searching.{roomy, verdictOf, searchFor, searchIn, searchOf}
 
 -- To unfold this is to unfold all that finds a verdict on the model of a text.
 unfoldable pub finding : Unit {0}
-unfolding answering wordsFrom movesFrom tryMoves explore takeIn search firstMove runTo stepsOf result bitAt mapFrom verdictFor foundIn
+unfolding answering wordsFrom movesFrom tryMoves explore takeIn search firstMove runTo stepsOf result bitAt mapFrom anySet verdictFor foundIn
 finding = tt
 
 pub all-cases : AllCases

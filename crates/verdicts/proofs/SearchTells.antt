@@ -16,11 +16,12 @@ use Rattle.notation.specs.Texts.{TextSays, TextRefused}
 use Rattle.notation.specs.working.Machine as N
 use Rattle.notation.proofs.Texts.{says-answer, refused-answer, one-answer}
 use Rattle.notation.proofs.Regular.{all-regular}
-use Rattle.meaning.specs.Meaning.{Safe, Unsafe}
+use Rattle.meaning.specs.Meaning.{Safe, Unsafe, CanStart}
 use Rattle.meaning.specs.OneRow.{One, stateCount}
 use Rattle.notation.proofs.Booleans.{and-split, and-join}
 use Rattle.sheets.specs.Sheets.{sheetRoom, systemOf, little, recordBytes, headerBytes, sheetBytes}
-use Rattle.exploration.specs.Findings.{Verdict, safeBy, unsafeBy, evidenceOf, Finds}
+use Rattle.meaning.specs.Evidence.{IsVoid, Verdict, safeBy, voidBy, unsafeBy, evidenceOf}
+use Rattle.exploration.specs.Findings.{Finds}
 use Rattle.verdicts.specs.Answers.{Wording, verdict, returned, wordingOf}
 use Rattle.verdicts.specs.Left.{Left}
 use Rattle.verdicts.specs.Promises.{LeavesTell, RoomTells, Room, SearchDone, SearchRefused, SearchTells, TextRefusedFirst}
@@ -56,14 +57,23 @@ abbrev initial : Wording → ℕ
 initial (verdict s n) = getD (bytes s) 0 0
 initial (returned n p) = 0
 
-pub not-safe : (n k : ℕ) → verdict "unsafe" n ≡ verdict "safe" k → ⊥
+pub unsafe-safe : (n k : ℕ) → verdict "unsafe" n ≡ verdict "safe" k → ⊥
 unfolding bytes
-not-safe n k e = let z : _≡_ {A = ℕ} 117 115 = ap initial e in omega arith
+unsafe-safe n k e = let z : _≡_ {A = ℕ} 117 115 = ap initial e in omega arith
 
-pub not-verdict : (n p k : ℕ) → (returned n p ≡ verdict "safe" k → ⊥) × (returned n p ≡ verdict "unsafe" k → ⊥)
+pub void-safe : (n k : ℕ) → verdict "void" n ≡ verdict "safe" k → ⊥
+unfolding bytes
+void-safe n k e = let z : _≡_ {A = ℕ} 118 115 = ap initial e in omega arith
+
+pub void-unsafe : (n k : ℕ) → verdict "void" n ≡ verdict "unsafe" k → ⊥
+unfolding bytes
+void-unsafe n k e = let z : _≡_ {A = ℕ} 118 117 = ap initial e in omega arith
+
+pub not-verdict : (n p k : ℕ) → (returned n p ≡ verdict "safe" k → ⊥) × (returned n p ≡ verdict "void" k → ⊥) × (returned n p ≡ verdict "unsafe" k → ⊥)
 unfolding bytes
 not-verdict n p k = (
   λ e. let z : _≡_ {A = ℕ} 0 115 = ap initial e in omega arith,
+  λ e. let z : _≡_ {A = ℕ} 0 118 = ap initial e in omega arith,
   λ e. let z : _≡_ {A = ℕ} 0 117 = ap initial e in omega arith,
 )
 
@@ -73,14 +83,22 @@ unfolding headerBytes recordBytes little
 sheet-short m = omega (arith, found-short (systemOf m) (transitionsOf (systemOf m)) m (own m))
 
 module _ (m : Model) where
-  said-safe : (x : Verdict) → Finds m x → (n : ℕ) → (wordingOf (verdictOf x n) ≡ verdict "safe" n) ↔ Safe m One
+  said-safe : (x : Verdict) → Finds m x → (n : ℕ) → (wordingOf (verdictOf x n) ≡ verdict "safe" n) ↔ (Safe m One × CanStart m One)
   unfolding verdictOf wordingOf
-  said-safe (safeBy map) F n = (λ e. F .0, λ h. refl)
-  said-safe (unsafeBy s xs) F n = (λ e. absurd (not-safe n n e), λ h. let (t, ys, r, b) = F .0 in absurd (h t ys r b))
+  said-safe (safeBy map) F n = (λ e. (F .0, F .2), λ h. refl)
+  said-safe (voidBy map) F n = (λ e. absurd (void-safe n n e), λ h. absurd (F .0 (h .1)))
+  said-safe (unsafeBy s xs) F n = (λ e. absurd (unsafe-safe n n e), λ h. let (t, ys, r, b) = F .0 in absurd (h .0 t ys r b))
+
+  said-void : (x : Verdict) → Finds m x → (n : ℕ) → (wordingOf (verdictOf x n) ≡ verdict "void" n) ↔ IsVoid m
+  unfolding verdictOf wordingOf
+  said-void (safeBy map) F n = (λ e. absurd (void-safe n n (sym e)), λ v. absurd (v (F .2)))
+  said-void (voidBy map) F n = (λ e. F .0, λ v. refl)
+  said-void (unsafeBy s xs) F n = (λ e. absurd (void-unsafe n n (sym e)), λ v. let (t, ys, r, b) = F .0 in absurd (v (t, r .start)))
 
   said-unsafe : (x : Verdict) → Finds m x → (n : ℕ) → (wordingOf (verdictOf x n) ≡ verdict "unsafe" n) ↔ Unsafe m One
   unfolding verdictOf wordingOf
-  said-unsafe (safeBy map) F n = (λ e. absurd (not-safe n n (sym e)), λ h. let (t, ys, r, b) = h in absurd (F .0 t ys r b))
+  said-unsafe (safeBy map) F n = (λ e. absurd (unsafe-safe n n (sym e)), λ h. let (t, ys, r, b) = h in absurd (F .0 t ys r b))
+  said-unsafe (voidBy map) F n = (λ e. absurd (void-unsafe n n e), λ h. let (t, ys, r, b) = h in absurd (F .0 (t, r .start)))
   said-unsafe (unsafeBy s xs) F n = (λ e. F .0, λ h. refl)
 
   module _ (first second sheet : List ℕ) where
@@ -93,6 +111,7 @@ module _ (m : Model) where
           fits = h;
           written = refl;
           safely = said-safe x F (length (sheetBytes (systemOf m) (evidenceOf x)));
+          voidly = said-void x F (length (sheetBytes (systemOf m) (evidenceOf x)));
           unsafely = said-unsafe x F (length (sheetBytes (systemOf m) (evidenceOf x)));
           firstCleared = refl;
           secondCleared = refl;

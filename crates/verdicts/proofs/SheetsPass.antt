@@ -10,18 +10,18 @@ use Rattle.notation.specs.Model.{Model}
 use Rattle.notation.specs.Regular.{Regular}
 use Rattle.notation.specs.Texts.{TextSays}
 use Rattle.notation.proofs.Regular.{all-regular}
-use Rattle.meaning.specs.Meaning.{Breaks, last, Safe}
+use Rattle.meaning.specs.Meaning.{Breaks, last, Safe, CanStart}
 use Rattle.meaning.specs.OneRow.{One, stateCount, spread, next, TraceStep}
-use Rattle.meaning.specs.Evidence.{Sheet, safe, trace, MapPasses}
+use Rattle.meaning.specs.Evidence.{Sheet, safe, trace, MapPasses, IsVoid, Verdict, safeBy, voidBy, unsafeBy, evidenceOf}
 use Rattle.meaning.proofs.Number.{spread-stateNumber, stateNumber-spread}
 use Rattle.meaning.proofs.OneRow.{next-stays}
 use Rattle.evaluation.proofs.Powers.{pow-small}
 use Rattle.sheets.specs.Sheets.{systemOf, sheetRoom, sheetBytes}
 use Rattle.sheets.specs.SheetTexts.{SheetSays}
 use Rattle.acceptance.specs.Outcomes.{words}
-use Rattle.acceptance.specs.Promises.{answerTo}
+use Rattle.acceptance.specs.Promises.{answerTo, PassMeans}
 use Rattle.acceptance.proofs.Claims.{pass-tells}
-use Rattle.exploration.specs.Findings.{Verdict, safeBy, unsafeBy, evidenceOf, Reaches, ExactMap, Finds}
+use Rattle.exploration.specs.Findings.{Reaches, ExactMap, Finds}
 use Rattle.verdicts.specs.Answers.{Wording, verdict, returned, wordingOf}
 use Rattle.verdicts.specs.Promises.{FrontPasses, SheetsPass}
 use Rattle.exploration.specs.working.Transitions.{moveOf}
@@ -29,8 +29,9 @@ use Rattle.exploration.specs.working.Runs.{goesOn}
 use Rattle.exploration.specs.working.Found.{foundIn, transitionsOf}
 use Rattle.verdicts.specs.working.Searching.{verdictOf, leftWith, leftAlone}
 use Rattle.exploration.proofs.RunsOfModels.{run-told, run-reaches, reaches-run}
-use Rattle.verdicts.proofs.SearchTells.{sheet-short, not-safe, not-verdict, whatever-left}
+use Rattle.verdicts.proofs.SearchTells.{sheet-short, unsafe-safe, void-safe, void-unsafe, not-verdict, whatever-left}
 use Rattle.exploration.proofs.FindsRight.{own, finds}
+use Rattle.exploration.proofs.EmptyMaps.{no-runs, void-exact}
 use Rattle.verdicts.proofs.SheetBytes.{map-sheet-bytes, trace-sheet-bytes}
 
 -- The map of exactly the states that runs reach passes where no run goes wrong.
@@ -66,14 +67,18 @@ module _ (text : List ℕ) (m : Model) (says : TextSays text m) where
   few = pow-small (m .sharedNames + m .rowNames) (stateCount m) (all-regular text m says .fewNames) refl
 
   -- The bytes of a sheet that is found pass.
-  map-holds : (map : List ℕ) → Finds m (safeBy map) → length (sheetBytes (systemOf m) (safe map)) ≤ sheetRoom (systemOf m)
-      → answerTo text (sheetBytes (systemOf m) (safe map)) ≡ words "safe holds"
-  map-holds map F h =
-      let g = all-regular text m says in
-      let s : SheetSays (systemOf m) (sheetBytes (systemOf m) (safe map)) (safe map) =
-      record { bytes = refl; short = omega (arith, few); fits = (F .1 .long, F .1 .clear) } in
-      pass-tells text m says (sheetBytes (systemOf m) (safe map)) (map-sheet-bytes m g map (F .1 .bytes)) .safeSheet .1
-      (map, s, exact-passes m g map (F .1) (F .0))
+  module _ (map : List ℕ) (E : ExactMap m map) (h : length (sheetBytes (systemOf m) (safe map)) ≤ sheetRoom (systemOf m)) where
+    map-says : SheetSays (systemOf m) (sheetBytes (systemOf m) (safe map)) (safe map)
+    map-says = record { bytes = refl; short = omega (arith, few); fits = (E .long, E .clear) }
+
+    map-means : PassMeans m (sheetBytes (systemOf m) (safe map)) (answerTo text (sheetBytes (systemOf m) (safe map)))
+    map-means = let g = all-regular text m says in pass-tells text m says (sheetBytes (systemOf m) (safe map)) (map-sheet-bytes m g map (E .bytes))
+
+    map-holds : Safe m One → CanStart m One → answerTo text (sheetBytes (systemOf m) (safe map)) ≡ words "safe holds"
+    map-holds k c = map-means .safeSheet .1 (map, map-says, (exact-passes m (all-regular text m says) map E k, c))
+
+    map-void : IsVoid m → answerTo text (sheetBytes (systemOf m) (safe map)) ≡ words "void"
+    map-void v = map-means .voidSheet .1 (map, map-says, (exact-passes m (all-regular text m says) map E (no-runs m v), v))
 
   trace-holds : (s : ℕ) (xs : List TraceStep) → Finds m (unsafeBy s xs) → length (sheetBytes (systemOf m) (trace s xs)) ≤ sheetRoom (systemOf m)
       → answerTo text (sheetBytes (systemOf m) (trace s xs)) ≡ words "trace holds"
@@ -97,12 +102,21 @@ module _ (text : List ℕ) (m : Model) (says : TextSays text m) where
     unfolding verdictOf wordingOf
     front-passes (safeBy map) F h =
         record {
-          afterSafe = λ n e. ap (answerTo text) (at-front (safe map) h n (ap count e)) ∙ map-holds map F h;
-          afterUnsafe = λ n e. absurd (not-safe _ _ (sym e));
+          afterSafe = λ n e. ap (answerTo text) (at-front (safe map) h n (ap count e)) ∙ map-holds map (F .1) h (F .0) (F .2);
+          afterVoid = λ n e. absurd (void-safe _ _ (sym e));
+          afterUnsafe = λ n e. absurd (unsafe-safe _ _ (sym e));
+        }
+    front-passes (voidBy map) F h =
+        let E : ExactMap m map = subst (ExactMap m) (sym (F .1)) (void-exact m (F .0)) in
+        record {
+          afterSafe = λ n e. absurd (void-safe _ _ e);
+          afterVoid = λ n e. ap (answerTo text) (at-front (safe map) h n (ap count e)) ∙ map-void map E h (F .0);
+          afterUnsafe = λ n e. absurd (void-unsafe _ _ e);
         }
     front-passes (unsafeBy s xs) F h =
         record {
-          afterSafe = λ n e. absurd (not-safe _ _ e);
+          afterSafe = λ n e. absurd (unsafe-safe _ _ e);
+          afterVoid = λ n e. absurd (void-unsafe _ _ (sym e));
           afterUnsafe = λ n e. ap (answerTo text) (at-front (trace s xs) h n (ap count e)) ∙ trace-holds s xs F h;
         }
 
@@ -110,7 +124,11 @@ module _ (text : List ℕ) (m : Model) (says : TextSays text m) where
 refused-passes : (text : List ℕ) (n p : ℕ) (first second sheet : List ℕ) → FrontPasses text (leftAlone n p first second sheet)
 unfolding wordingOf
 refused-passes text n p first second sheet =
-    record { afterSafe = λ k f. absurd (not-verdict n p k .0 f); afterUnsafe = λ k f. absurd (not-verdict n p k .1 f) }
+    record {
+      afterSafe = λ k f. absurd (not-verdict n p k .0 f);
+      afterVoid = λ k f. absurd (not-verdict n p k .1 f);
+      afterUnsafe = λ k f. absurd (not-verdict n p k .2 f);
+    }
 
 pub sheets-pass : SheetsPass
 sheets-pass text first second sheet =

@@ -3,7 +3,7 @@
 use Prim.Native.Nat.{ℕ}
 use Prim.Native.String.{String}
 use Rattle.verdicts.specs.declared.finding.Finding.{Finding}
-use Rattle.verdicts.specs.declared.finding.Finding.the-variants.{Safe, Unsafe, Refused}
+use Rattle.verdicts.specs.declared.finding.Finding.the-variants.{Safe, Void, Unsafe, Refused}
 
 -- What the search may answer: a verdict with the sheet's length, or a refusal's number with its place.
 pub data Wording : Type 0 where
@@ -13,5 +13,6 @@ pub data Wording : Type 0 where
 -- What each answer stands for.
 unfoldable pub wordingOf : Finding → Wording
 wordingOf (Safe n) = verdict "safe" n
+wordingOf (Void n) = verdict "void" n
 wordingOf (Unsafe n) = verdict "unsafe" n
 wordingOf (Refused n p) = returned n p

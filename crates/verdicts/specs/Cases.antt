@@ -43,9 +43,9 @@ cases =
     tests h (head ++ map 0x0A) (A.letter "C") ∷
     -- a sheet of G is none of H
     tests h gSheet (A.letter "E") ∷
-    -- no step is needed where the start state breaks, and there is no member where there is no start state
+    -- no step is needed where the start state breaks, and there is no member where there is no start state: the model is void
     finds gKeepsNowhere "unsafe" (head ++ start 1) ∷
-    finds gStartsNowhere "safe" (head ++ map 0x00) ∷
+    finds gStartsNowhere "void" (head ++ map 0x00) ∷
     -- the empty text
     refuses (bytes "") 3 0 ∷
     []

@@ -9,13 +9,14 @@ use lib.ListN.{length, take}
 use lib.Seq.{sets}
 use Rattle.notation.specs.Model.{Model}
 use Rattle.notation.specs.Texts.{longestText, TextSays, TextRefused}
-use Rattle.meaning.specs.Meaning.{Safe, Unsafe}
+use Rattle.meaning.specs.Meaning.{Safe, Unsafe, CanStart}
 use Rattle.meaning.specs.OneRow.{One, stateCount}
 use Rattle.sheets.specs.Sheets.{systemOf, sheetRoom, sheetBytes}
 use Rattle.sheets.specs.SheetTexts.{AreBytes}
 use Rattle.acceptance.specs.Outcomes.{words}
 use Rattle.acceptance.specs.Promises.{answerTo, TestPromise}
-use Rattle.exploration.specs.Findings.{Verdict, evidenceOf, Finds}
+use Rattle.meaning.specs.Evidence.{IsVoid, Verdict, evidenceOf}
+use Rattle.exploration.specs.Findings.{Finds}
 use Rattle.verdicts.specs.Answers.{Wording, verdict, returned, wordingOf}
 use Rattle.verdicts.specs.Left.{Left, Leaves, zeroed}
 use Rattle.verdicts.specs.working.Searching.{roomy, searchOf}
@@ -45,7 +46,8 @@ pub record SearchDone (m : Model) (first second sheet : List ℕ) (left : Left) 
   pub right : Finds m found
   pub fits : length (sheetBytes (systemOf m) (evidenceOf found)) ≤ length sheet
   pub written : left .sheet ≡ sets sheet 0 (sheetBytes (systemOf m) (evidenceOf found))
-  pub safely : (answerOf left ≡ verdict "safe" (length (sheetBytes (systemOf m) (evidenceOf found)))) ↔ Safe m One
+  pub safely : (answerOf left ≡ verdict "safe" (length (sheetBytes (systemOf m) (evidenceOf found)))) ↔ (Safe m One × CanStart m One)
+  pub voidly : (answerOf left ≡ verdict "void" (length (sheetBytes (systemOf m) (evidenceOf found)))) ↔ IsVoid m
   pub unsafely : (answerOf left ≡ verdict "unsafe" (length (sheetBytes (systemOf m) (evidenceOf found)))) ↔ Unsafe m One
   pub firstCleared : left .first ≡ zeroed (stateCount m) first
   pub secondCleared : left .second ≡ zeroed (stateCount m) second
@@ -81,9 +83,10 @@ Bounded (returned n p) = (1 ≤ n) × (n ≤ 8) × (p ≤ longestText)
 abbrev pub AnswersBounded : Type 0
 AnswersBounded = (text first second sheet : List ℕ) → Bounded (answerOf (searchOf text first second sheet))
 
--- The front of the sheet buffer, as long as the answer says, passes the test for the same text: as a map after safe, as a trace after unsafe.
+-- The front of the sheet buffer, as long as the answer says, passes the test for the same text: as a map after safe and after void, as a trace after unsafe.
 pub record FrontPasses (text : List ℕ) (left : Left) : Type 0 where
   pub afterSafe : (n : ℕ) → answerOf left ≡ verdict "safe" n → answerTo text (take n (left .sheet)) ≡ words "safe holds"
+  pub afterVoid : (n : ℕ) → answerOf left ≡ verdict "void" n → answerTo text (take n (left .sheet)) ≡ words "void"
   pub afterUnsafe : (n : ℕ) → answerOf left ≡ verdict "unsafe" n → answerTo text (take n (left .sheet)) ≡ words "trace holds"
 
 -- For every text and all lent buffers, whatever they hold.

@@ -19,6 +19,7 @@ pub fn put_line(line: &mut Line, outcome: Outcome) -> usize
 {
     match outcome {
         Outcome::SafeHolds => put(line, 0, b"safe holds\n"),
+        Outcome::Void => put(line, 0, b"void\n"),
         Outcome::TraceHolds => put(line, 0, b"trace holds\n"),
         Outcome::FailsA => put(line, 0, b"A\n"),
         Outcome::FailsB => put(line, 0, b"B\n"),

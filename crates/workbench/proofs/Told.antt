@@ -6,7 +6,7 @@ use native.Mathlib.Omega.{arith}
 use borrow.Author.Tests.{ne-eqb}
 use Rattle.notation.specs.Bytes.{bytes}
 use Rattle.verdicts.specs.declared.finding.Finding.{Finding}
-use Rattle.verdicts.specs.declared.finding.Finding.the-variants.{Safe, Unsafe, Refused}
+use Rattle.verdicts.specs.declared.finding.Finding.the-variants.{Safe, Void, Unsafe, Refused}
 use Rattle.verdicts.specs.Answers.{wordingOf}
 use Rattle.verdicts.specs.Promises.{Bounded}
 use Rattle.verdicts.specs.working.Searching.{searchOf}
@@ -18,10 +18,11 @@ use Rattle.workbench.specs.Numbers.{searchNumber, wordingFor, SearchNumb
 told : (f : Finding) → Bounded (wordingOf f) → wordingFor (searchNumber (wordingOf f)) ≡ wordingOf f
 unfolding wordingOf searchNumber bytes
 told (Safe n) b = rw (low-back 115 n (omega arith), above-back 115 n (omega arith))
+told (Void n) b = rw (low-back 118 n (omega arith), above-back 118 n (omega arith))
 told (Unsafe n) b = rw (low-back 117 n (omega arith), above-back 117 n (omega arith))
 told (Refused n p) b =
     let h = b .1 in
-    rw (low-back n p (omega arith), above-back n p (omega arith), ne-eqb n 115 (omega arith), ne-eqb n 117 (omega arith))
+    rw (low-back n p (omega arith), above-back n p (omega arith), ne-eqb n 115 (omega arith), ne-eqb n 118 (omega arith), ne-eqb n 117 (omega arith))
 
 pub search-numbers-tell : SearchNumbersTell
 search-numbers-tell text first second sheet = told (searchOf text first second sheet .answer) (answers-bounded text first second sheet)
@@ -30,6 +31,10 @@ module _ (f : Finding) (b : Bounded (wordingOf f)) where
   pub safe-fits : (n : ℕ) → f ≡ Safe n → n ≤ mostAbove
   unfolding wordingOf
   safe-fits n e = let c = subst (λ (x : Finding). Bounded (wordingOf x)) e b in omega (arith, c)
+
+  pub void-fits : (n : ℕ) → f ≡ Void n → n ≤ mostAbove
+  unfolding wordingOf
+  void-fits n e = let c = subst (λ (x : Finding). Bounded (wordingOf x)) e b in omega (arith, c)
 
   pub unsafe-fits : (n : ℕ) → f ≡ Unsafe n → n ≤ mostAbove
   unfolding wordingOf

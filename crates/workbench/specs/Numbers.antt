@@ -17,7 +17,13 @@ searchNumber (returned n p) = packed n p
 
 -- The answer that a number stands for.
 abbrev pub wordingFor : ℕ → Wording
-wordingFor x = let low = x % 256 in cond (eqb low 115) (verdict "safe" (x / 256)) (cond (eqb low 117) (verdict "unsafe" (x / 256)) (returned low (x / 256)))
+wordingFor x =
+    let low = x % 256 in
+    let above = x / 256 in
+    cond (eqb low 115) (verdict "safe" above)
+    (cond (eqb low 118) (verdict "void" above)
+    (cond (eqb low 117) (verdict "unsafe" above)
+    (returned low above)))
 
 -- The number of an answer tells the answer.
 abbrev pub SearchNumbersTell : Type 0

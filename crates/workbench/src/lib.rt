@@ -17,6 +17,7 @@ fn finding_number(finding: Finding) -> u64
 {
     match finding {
         Finding::Safe(length) => pack(b's', length),
+        Finding::Void(length) => pack(b'v', length),
         Finding::Unsafe(length) => pack(b'u', length),
         Finding::Refused(number, place) => pack(number, place),
     }

@@ -11,17 +11,21 @@ use Rattle.notation.specs.working.Answer.{answer}
 use Rattle.evaluation.specs.declared.plan.Plan.{Plan}
 use Rattle.reader.specs.declared.Code.{Code}
 use Rattle.sheets.specs.Sheets.{System, size, systemOf}
-use Rattle.meaning.specs.working.Conditions.{testA, testB, testC, testE}
+use Rattle.meaning.specs.working.Conditions.{testVoid, testA, testB, testC, testE}
 use Rattle.sheets.specs.working.SheetReading.{Reading, refused, holds, stepsIn, stepCount, sheetOf}
 use Rattle.sheets.specs.SheetTexts.{twoAt}
 use Rattle.acceptance.specs.declared.outcome.Outcome.{Outcome}
-use Rattle.acceptance.specs.declared.outcome.Outcome.the-variants.{SafeHolds, TraceHolds, FailsA, FailsB, FailsC, FailsD, FailsE, FailsF, Refused}
+use Rattle.acceptance.specs.declared.outcome.Outcome.the-variants.{SafeHolds, Void, TraceHolds, FailsA, FailsB, FailsC, FailsD, FailsE, FailsF, Refused}
+
+-- The outcome for a map that passes: void where there is no start state.
+unfoldable pub passedAnswer : System → Outcome
+passedAnswer M = cond (testVoid (size M) (M .starts)) Void SafeHolds
 
 -- The outcome for a map: the first failure in the order A, B, C, if there is one.
 unfoldable pub mapAnswer : System → List ℕ → Outcome
 mapAnswer M map =
     cond (testA (size M) (M .starts) map)
-    (cond (testB (size M) (M .breaks) map) (cond (testC (size M) (M .commands) (M .stars) (M .step) map) SafeHolds FailsC) FailsB) FailsA
+    (cond (testB (size M) (M .breaks) map) (cond (testC (size M) (M .commands) (M .stars) (M .step) map) (passedAnswer M) FailsC) FailsB) FailsA
 
 -- The outcome by E and F, for the steps from s on.
 unfoldable pub walk : System → ℕ → List TraceStep → Outcome

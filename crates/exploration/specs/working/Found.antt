@@ -1,22 +1,34 @@
 -- The verdict that the search finds, the transitions of a system, and when transitions are those of a model's table of one row.
 -- Assumes nothing.
 use mathlib.Core.Path.{_≡_}
+use mathlib.Core.Bool.{Bool, true, false, _||_}
+use mathlib.Core.List.{List, [], _∷_}
 use Prim.Native.Nat.{ℕ, _^_, _<_}
 use lib.ListN.{length}
 use Rattle.notation.specs.Model.{Model}
 use Rattle.meaning.specs.Meaning.{commandAt}
 use Rattle.meaning.specs.OneRow.{stateCount, wordCount, starts, breaks, next}
 use Rattle.sheets.specs.Sheets.{System, size, mapLength}
-use Rattle.exploration.specs.Findings.{Verdict, safeBy, unsafeBy}
+use Rattle.meaning.specs.Evidence.{Verdict, safeBy, voidBy, unsafeBy}
 use Rattle.exploration.specs.working.Transitions.{Transitions}
 use Rattle.exploration.specs.working.Runs.{startOf, stepsOf}
 use Rattle.exploration.specs.working.Results.{Result, firstRun, reached, result}
 use Rattle.exploration.specs.working.Written.{mapFrom}
 
+-- The verdict by a map: safe where it has a member, void where it has none.
+abbrev pub mapVerdict : Bool → List ℕ → Verdict
+mapVerdict true map = safeBy map
+mapVerdict false map = voidBy map
+
+-- Whether a bit is set.
+unfoldable pub anySet : List Bool → Bool
+anySet [] = false
+anySet (x ∷ xs) = x || anySet xs
+
 -- The verdict of a result.
 unfoldable pub verdictFor : Transitions → Result → Verdict
 verdictFor T (firstRun r) = unsafeBy (startOf r) (stepsOf T r)
-verdictFor T (reached b) = safeBy (mapFrom b 0 (mapLength (T .size)))
+verdictFor T (reached b) = mapVerdict (anySet b) (mapFrom b 0 (mapLength (T .size)))
 
 -- The verdict that the search finds.
 unfoldable pub foundIn : Transitions → Verdict

@@ -2,7 +2,7 @@
 -- Assumes nothing.
 use mathlib.Core.Path.{refl}
 use Rattle.notation.specs.Bytes.{bytes}
-use Rattle.acceptance.specs.declared.outcome.Outcome.the-variants.{SafeHolds, TraceHolds, FailsA, FailsB, FailsC}
+use Rattle.acceptance.specs.declared.outcome.Outcome.the-variants.{SafeHolds, Void, TraceHolds, FailsA, FailsB, FailsC}
 use Rattle.acceptance.specs.declared.outcome.Outcome.the-variants.{FailsD, FailsE, FailsF, Refused}
 use Rattle.acceptance.specs.Outcomes.{wordingOf}
 use Rattle.loader.specs.Numbers.{testNumber}
@@ -59,11 +59,17 @@ enum-told-8 c = search needs
 pack-requires-8 : tie.Need-pack-requires-8
 pack-requires-8 c κs = search needs
 
+enum-told-9 : tie.Need-enum-told-9
+enum-told-9 c = search needs
+
+pack-requires-9 : tie.Need-pack-requires-9
+pack-requires-9 c κs = search needs
+
 enum-known-outcome : tie.Need-enum-known-outcome
 enum-known-outcome c = search needs
 
-pack-requires-9 : tie.Need-pack-requires-9
-pack-requires-9 c κs =
+pack-requires-10 : tie.Need-pack-requires-10
+pack-requires-10 c κs =
     let start : tie.Start = search in
     place-fits _ _ _ (start .pre) (c .before .outcome .given .1)
 
@@ -73,37 +79,41 @@ returns c = number-of _ SafeHolds _ _ (c .before .enum-told .given .1) (c .pack 
 
 returns-2 : tie.Need-returns-2
 unfolding testNumber wordingOf bytes
-returns-2 c = number-of _ TraceHolds _ _ (c .before .enum-told2 .given .1) (c .pack2 .ensures) refl
+returns-2 c = number-of _ Void _ _ (c .before .enum-told2 .given .1) (c .pack2 .ensures) refl
 
 returns-3 : tie.Need-returns-3
 unfolding testNumber wordingOf bytes
-returns-3 c = number-of _ FailsA _ _ (c .before .enum-told3 .given .1) (c .pack3 .ensures) refl
+returns-3 c = number-of _ TraceHolds _ _ (c .before .enum-told3 .given .1) (c .pack3 .ensures) refl
 
 returns-4 : tie.Need-returns-4
 unfolding testNumber wordingOf bytes
-returns-4 c = number-of _ FailsB _ _ (c .before .enum-told4 .given .1) (c .pack4 .ensures) refl
+returns-4 c = number-of _ FailsA _ _ (c .before .enum-told4 .given .1) (c .pack4 .ensures) refl
 
 returns-5 : tie.Need-returns-5
 unfolding testNumber wordingOf bytes
-returns-5 c = number-of _ FailsC _ _ (c .before .enum-told5 .given .1) (c .pack5 .ensures) refl
+returns-5 c = number-of _ FailsB _ _ (c .before .enum-told5 .given .1) (c .pack5 .ensures) refl
 
 returns-6 : tie.Need-returns-6
 unfolding testNumber wordingOf bytes
-returns-6 c = number-of _ FailsD _ _ (c .before .enum-told6 .given .1) (c .pack6 .ensures) refl
+returns-6 c = number-of _ FailsC _ _ (c .before .enum-told6 .given .1) (c .pack6 .ensures) refl
 
 returns-7 : tie.Need-returns-7
 unfolding testNumber wordingOf bytes
-returns-7 c = number-of _ FailsE _ _ (c .before .enum-told7 .given .1) (c .pack7 .ensures) refl
+returns-7 c = number-of _ FailsD _ _ (c .before .enum-told7 .given .1) (c .pack7 .ensures) refl
 
 returns-8 : tie.Need-returns-8
 unfolding testNumber wordingOf bytes
-returns-8 c = number-of _ FailsF _ _ (c .before .enum-told8 .given .1) (c .pack8 .ensures) refl
+returns-8 c = number-of _ FailsE _ _ (c .before .enum-told8 .given .1) (c .pack8 .ensures) refl
 
 returns-9 : tie.Need-returns-9
+unfolding testNumber wordingOf bytes
+returns-9 c = number-of _ FailsF _ _ (c .before .enum-told9 .given .1) (c .pack9 .ensures) refl
+
+returns-10 : tie.Need-returns-10
 unfolding testNumber wordingOf
-returns-9 c =
+returns-10 c =
     let after-outcome : tie.After-outcome = search in
-    number-of _ (Refused _ _) _ _ (after-outcome .outcome .given .1) (c .pack9 .ensures) refl
+    number-of _ (Refused _ _) _ _ (after-outcome .outcome .given .1) (c .pack10 .ensures) refl
 
 pub outcome-number-spec : {M : Type 1} → statement M
 outcome-number-spec =
@@ -125,8 +135,10 @@ outcome-number-spec =
     pack-requires-7
     enum-told-8
     pack-requires-8
-    enum-known-outcome
+    enum-told-9
     pack-requires-9
+    enum-known-outcome
+    pack-requires-10
     returns
     returns-2
     returns-3
@@ -135,4 +147,5 @@ outcome-number-spec =
     returns-6
     returns-7
     returns-8
-    returns-9)
+    returns-9
+    returns-10)

@@ -1,4 +1,4 @@
--- The conditions A to F as computations on numbers.
+-- The conditions A to F, and whether a model is void, as computations on numbers.
 -- Assumes nothing.
 use mathlib.Core.Path.{_≡_}
 use mathlib.Core.Logic.{_↔_}
@@ -11,7 +11,7 @@ use Rattle.notation.specs.Model.{Model, stars}
 use Rattle.notation.specs.Regular.{Every}
 use Rattle.meaning.specs.Meaning.{commandAt}
 use Rattle.meaning.specs.OneRow.{stateCount, starts, breaks, next, TraceStep, lastOf}
-use Rattle.meaning.specs.Evidence.{inMap, ConditionA, ConditionB, ConditionC, ConditionD, ConditionE, ConditionF, StepFits}
+use Rattle.meaning.specs.Evidence.{inMap, ConditionA, ConditionB, ConditionC, ConditionD, ConditionE, ConditionF, StepFits, IsVoid}
 
 -- The test holds of every number below n.
 unfoldable pub every : ℕ → (ℕ → Bool) → Bool
@@ -22,6 +22,10 @@ every (suc n) f = every n f && f n
 unfoldable pub implies : Bool → Bool → Bool
 implies true b = b
 implies false b = true
+
+-- Whether no state is a start state.
+unfoldable pub testVoid : ℕ → (ℕ → Bool) → Bool
+testVoid states starts = every states λ s. not (starts s)
 
 -- Whether A holds: all start states are members.
 unfoldable pub testA : ℕ → (ℕ → Bool) → List ℕ → Bool
@@ -50,6 +54,7 @@ testE step s (x ∷ xs) = eqb (x .after) (step s (x .command) (x .word)) && test
 
 -- Each of them, and the computation of a start and of a break for D and F, is true where its condition holds, and nowhere else; E where the numbers of the steps are in range.
 pub record TestsTell (m : Model) : Type 0 where
+  pub tellsVoid : (testVoid (stateCount m) (starts m) ≡ true) ↔ IsVoid m
   pub tellsA : (bytes : List ℕ) → (testA (stateCount m) (starts m) bytes ≡ true) ↔ ConditionA m bytes
   pub tellsB : (bytes : List ℕ) → (testB (stateCount m) (breaks m) bytes ≡ true) ↔ ConditionB m bytes
   pub tellsC : (bytes : List ℕ) → (testC (stateCount m) (length (m .commands)) (λ k. length (stars (commandAt m k))) (next m) bytes ≡ true) ↔ ConditionC m bytes

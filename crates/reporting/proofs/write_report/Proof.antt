@@ -46,6 +46,19 @@ put-safe-requires c κs =
     (told after-search .safely _ e)
     (a .out .now) (omega arith)
 
+enum-told-2 : tie.Need-enum-told-2
+enum-told-2 c = search needs
+
+put-void-requires : tie.Need-put-void-requires
+put-void-requires c κs =
+    let after-search : tie.After-search = search in
+    let start : tie.Start = search in
+    let a = start .args in
+    let e = sym (c .before .enum-told2 .given .1) ∙ after-search .search .ensures .0 in
+    report-fits (a .text .now) _
+    (told after-search .voidly _ e)
+    (a .out .now) (omega arith)
+
 enum-known-found-2 : tie.Need-enum-known-found-2
 enum-known-found-2 c = search needs
 
@@ -99,6 +112,19 @@ returns-2 c =
 
 returns-3 : tie.Need-returns-3
 returns-3 c =
+    let after-enum-told2 : tie.After-enum-told2 = search in
+    let after-search : tie.After-search = search in
+    let start : tie.Start = search in
+    let a = start .args in
+    let s = after-search .search in
+    let e = sym (after-enum-told2 .enum-told2 .given .1) ∙ s .ensures .0 in
+    let t = told after-search .voidly _ e in
+    let w = report-put (a .text .now) _ t (a .out .now) (omega (arith, c .before .put-void-arg .given)) (c .put-void .last .0) (c .put-void .result)
+    (c .put-void .ensures) in
+    (w .0, (w .1, s .ensures .1 .0))
+
+returns-4 : tie.Need-returns-4
+returns-4 c =
     let after-found2 : tie.After-found2 = search in
     let after-search : tie.After-search = search in
     let start : tie.Start = search in
@@ -120,9 +146,12 @@ write-report-spec =
     put-refusal-requires
     enum-told
     put-safe-requires
+    enum-told-2
+    put-void-requires
     enum-known-found-2
     slice-aggregate-put-unsafe
     put-unsafe-requires
     returns
     returns-2
-    returns-3)
+    returns-3
+    returns-4)

@@ -7,7 +7,7 @@ use Rattle.notation.specs.Texts.{modelOf}
 use Rattle.notation.specs.working.Machine.{Outcome, read, refused}
 use Rattle.notation.specs.working.Answer.{answer}
 use Rattle.sheets.specs.Sheets.{systemOf}
-use Rattle.exploration.specs.Findings.{Verdict}
+use Rattle.meaning.specs.Evidence.{Verdict}
 use Rattle.exploration.specs.working.Found.{foundIn, transitionsOf}
 use Rattle.lines.specs.Lines.{refusalLine}
 use Rattle.reporting.specs.Reports.{reportLines}

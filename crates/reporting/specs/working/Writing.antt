@@ -9,7 +9,7 @@ use Rattle.meaning.specs.OneRow.{TraceStep}
 use Rattle.reader.specs.declared.Code.{Code}
 use Rattle.sheets.specs.SheetTexts.{twoAt, stepIn}
 use Rattle.sheets.specs.working.SheetReading.{stepsIn}
-use Rattle.reporting.specs.Reports.{countsLine, safeLine, unsafeLine, startLine, stepLine, stepLines}
+use Rattle.reporting.specs.Reports.{countsLine, safeLine, voidLine, unsafeLine, startLine, stepLine, stepLines}
 
 -- The bytes of name i in the text.
 abbrev pub nameIn : List ℕ → List ℕ → ℕ → Word
@@ -69,6 +69,10 @@ runOf text sheet c = runLines text (c .names) (c .shared + c .row) sheet
 -- The report of a safe model.
 abbrev pub safeReport : Code → List ℕ
 safeReport c = counts c ++ safeLine
+
+-- The report of a void model.
+abbrev pub voidReport : Code → List ℕ
+voidReport c = counts c ++ voidLine
 
 -- The report of an unsafe model, whose trace is the sheet.
 abbrev pub traceReport : List ℕ → Code → List ℕ → List ℕ

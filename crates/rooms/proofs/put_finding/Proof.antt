@@ -27,6 +27,15 @@ put-verdict-requires-2 c κs = search needs
 enum-known-found-3 : tie.Need-enum-known-found-3
 enum-known-found-3 c = search needs
 
+slice-aggregate-put-verdict-3 : tie.Need-slice-aggregate-put-verdict-3
+slice-aggregate-put-verdict-3 c = search needs
+
+put-verdict-requires-3 : tie.Need-put-verdict-requires-3
+put-verdict-requires-3 c κs = search needs
+
+enum-known-found-4 : tie.Need-enum-known-found-4
+enum-known-found-4 c = search needs
+
 cast-n : tie.Need-cast-n
 cast-n c = search needs
 
@@ -40,7 +49,10 @@ returns-2 : tie.Need-returns-2
 returns-2 c = search needs
 
 returns-3 : tie.Need-returns-3
-returns-3 c = let start : tie.Start = search in refusal-counts (start .args .line .now) _ _ (omega arith) (c .put-refusal .ensures)
+returns-3 c = search needs
+
+returns-4 : tie.Need-returns-4
+returns-4 c = let start : tie.Start = search in refusal-counts (start .args .line .now) _ _ (omega arith) (c .put-refusal .ensures)
 
 pub put-finding-spec : {M : Type 1} → statement M
 put-finding-spec =
@@ -53,8 +65,12 @@ put-finding-spec =
     slice-aggregate-put-verdict-2
     put-verdict-requires-2
     enum-known-found-3
+    slice-aggregate-put-verdict-3
+    put-verdict-requires-3
+    enum-known-found-4
     cast-n
     put-refusal-requires
     returns
     returns-2
-    returns-3)
+    returns-3
+    returns-4)

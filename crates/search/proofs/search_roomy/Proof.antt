@@ -2,7 +2,7 @@
 -- Assumes nothing.
 use native.Mathlib.Omega.{arith}
 use Rattle.search.proofs.SearchesLeft.{header-asked, head-asked, map-asked, length-small, second-room, last-some}
-use Rattle.search.proofs.SearchesLeft.{last-within, trace-asked, unsafe-left, safe-left}
+use Rattle.search.proofs.SearchesLeft.{last-within, trace-asked, unsafe-left, void-left, safe-left}
 use Prim.Native.Nat.{_+_}
 use borrow.Author.Needs.{needs}
 use Rattle.search.proofs.search_roomy.Statement.{statement}
@@ -143,10 +143,35 @@ returns-2 c =
     let after-run : tie.After-run = search in
     let after-put-header : tie.After-put-header = search in
     let start : tie.Start = search in
+    void-left _ _ (start .pre .0) _ (start .pre .1) (start .args .sheet .now) (start .pre .4)
+    (after-put-header .put-header .ensures) (after-run .run .ensures) (after-clear3 .clear3 .ensures) (after-clear4 .clear4 .ensures)
+    (else1 .if1 .left) (after-map-length .map-length .ensures) (after-put-head .put-head .ensures)
+    (after-write-map .write-map .ensures) (c .if2 .taken)
+
+same-length-7 : tie.Need-same-length-7
+same-length-7 c = search needs
+
+same-length-8 : tie.Need-same-length-8
+same-length-8 c = search needs
+
+same-length-9 : tie.Need-same-length-9
+same-length-9 c = search needs
+
+returns-3 : tie.Need-returns-3
+returns-3 c =
+    let after-clear4 : tie.After-clear4 = search in
+    let after-clear3 : tie.After-clear3 = search in
+    let after-write-map : tie.After-write-map = search in
+    let after-put-head : tie.After-put-head = search in
+    let after-map-length : tie.After-map-length = search in
+    let else1 : tie.Else1 = search in
+    let after-run : tie.After-run = search in
+    let after-put-header : tie.After-put-header = search in
+    let start : tie.Start = search in
     safe-left _ _ (start .pre .0) _ (start .pre .1) (start .args .sheet .now) (start .pre .4)
     (after-put-header .put-header .ensures) (after-run .run .ensures) (after-clear3 .clear3 .ensures) (after-clear4 .clear4 .ensures)
     (else1 .if1 .left) (after-map-length .map-length .ensures) (after-put-head .put-head .ensures)
-    (after-write-map .write-map .ensures)
+    (after-write-map .write-map .ensures) (omega (arith, c .if2 .left))
 
 pub search-roomy-spec : {M : Type 1} → statement M
 search-roomy-spec =
@@ -174,4 +199,8 @@ search-roomy-spec =
     same-length-4
     same-length-5
     same-length-6
-    returns-2)
+    returns-2
+    same-length-7
+    same-length-8
+    same-length-9
+    returns-3)

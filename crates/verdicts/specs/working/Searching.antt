@@ -10,10 +10,10 @@ use Rattle.notation.specs.Texts.{modelOf}
 use Rattle.notation.specs.working.Machine as N
 use Rattle.notation.specs.working.Answer.{answer}
 use Rattle.sheets.specs.Sheets.{System, size, sheetRoom, systemOf, sheetBytes}
-use Rattle.exploration.specs.Findings.{Verdict, safeBy, unsafeBy, evidenceOf}
+use Rattle.meaning.specs.Evidence.{Verdict, safeBy, voidBy, unsafeBy, evidenceOf}
 use Rattle.exploration.specs.working.Found.{foundIn, transitionsOf}
 use Rattle.verdicts.specs.declared.finding.Finding.{Finding}
-use Rattle.verdicts.specs.declared.finding.Finding.the-variants.{Safe, Unsafe, Refused}
+use Rattle.verdicts.specs.declared.finding.Finding.the-variants.{Safe, Void, Unsafe, Refused}
 use Rattle.verdicts.specs.Left.{Left, zeroed}
 
 -- Whether the lent tables have an entry for each state, and the lent buffer has room for every sheet.
@@ -23,6 +23,7 @@ roomy M first second sheet = leb (size M) (length first) && (leb (size M) (lengt
 -- The answer that gives a verdict, whose sheet has so many bytes.
 unfoldable pub verdictOf : Verdict → ℕ → Finding
 verdictOf (safeBy map) n = Safe n
+verdictOf (voidBy map) n = Void n
 verdictOf (unsafeBy s xs) n = Unsafe n
 
 -- Where a verdict was found: the bytes of its sheet at the buffer's front, and both tables cleared.

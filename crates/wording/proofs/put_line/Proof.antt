@@ -6,7 +6,7 @@ use borrow.Author.Needs.{needs}
 use Rattle.lines.specs.Lines.{others, line}
 use Rattle.lines.proofs.Parts.{refusal-fits}
 use Rattle.acceptance.specs.Outcomes.{wordingOf}
-use Rattle.acceptance.specs.declared.outcome.Outcome.the-variants.{SafeHolds, TraceHolds, FailsA, FailsB, FailsC}
+use Rattle.acceptance.specs.declared.outcome.Outcome.the-variants.{SafeHolds, Void, TraceHolds, FailsA, FailsB, FailsC}
 use Rattle.acceptance.specs.declared.outcome.Outcome.the-variants.{FailsD, FailsE, FailsF}
 use Rattle.notation.specs.Bytes.{bytes}
 use Rattle.wording.specs.Lines.{spelt}
@@ -86,6 +86,15 @@ slice-aggregate-put-8 c = search needs
 put-requires-8 : tie.Need-put-requires-8
 put-requires-8 c κs = search needs
 
+enum-told-9 : tie.Need-enum-told-9
+enum-told-9 c = search needs
+
+slice-aggregate-put-9 : tie.Need-slice-aggregate-put-9
+slice-aggregate-put-9 c = search needs
+
+put-requires-9 : tie.Need-put-requires-9
+put-requires-9 c κs = search needs
+
 enum-known-outcome : tie.Need-enum-known-outcome
 enum-known-outcome c = search needs
 
@@ -110,7 +119,7 @@ unfolding spelt line others bytes wordingOf
 returns-2 c =
     let after-enum-told2 : tie.After-enum-told2 = search in
     let start : tie.Start = search in
-    told (start .args .line .now) (c .put2 .last .0) _ (c .put2 .result) (start .args .outcome) TraceHolds
+    told (start .args .line .now) (c .put2 .last .0) _ (c .put2 .result) (start .args .outcome) Void
     (c .put2 .ensures) (after-enum-told2 .enum-told2 .given .1) refl (omega arith) (omega arith)
 
 returns-3 : tie.Need-returns-3
@@ -118,7 +127,7 @@ unfolding spelt line others bytes wordingOf
 returns-3 c =
     let after-enum-told3 : tie.After-enum-told3 = search in
     let start : tie.Start = search in
-    told (start .args .line .now) (c .put3 .last .0) _ (c .put3 .result) (start .args .outcome) FailsA
+    told (start .args .line .now) (c .put3 .last .0) _ (c .put3 .result) (start .args .outcome) TraceHolds
     (c .put3 .ensures) (after-enum-told3 .enum-told3 .given .1) refl (omega arith) (omega arith)
 
 returns-4 : tie.Need-returns-4
@@ -126,7 +135,7 @@ unfolding spelt line others bytes wordingOf
 returns-4 c =
     let after-enum-told4 : tie.After-enum-told4 = search in
     let start : tie.Start = search in
-    told (start .args .line .now) (c .put4 .last .0) _ (c .put4 .result) (start .args .outcome) FailsB
+    told (start .args .line .now) (c .put4 .last .0) _ (c .put4 .result) (start .args .outcome) FailsA
     (c .put4 .ensures) (after-enum-told4 .enum-told4 .given .1) refl (omega arith) (omega arith)
 
 returns-5 : tie.Need-returns-5
@@ -134,7 +143,7 @@ unfolding spelt line others bytes wordingOf
 returns-5 c =
     let after-enum-told5 : tie.After-enum-told5 = search in
     let start : tie.Start = search in
-    told (start .args .line .now) (c .put5 .last .0) _ (c .put5 .result) (start .args .outcome) FailsC
+    told (start .args .line .now) (c .put5 .last .0) _ (c .put5 .result) (start .args .outcome) FailsB
     (c .put5 .ensures) (after-enum-told5 .enum-told5 .given .1) refl (omega arith) (omega arith)
 
 returns-6 : tie.Need-returns-6
@@ -142,7 +151,7 @@ unfolding spelt line others bytes wordingOf
 returns-6 c =
     let after-enum-told6 : tie.After-enum-told6 = search in
     let start : tie.Start = search in
-    told (start .args .line .now) (c .put6 .last .0) _ (c .put6 .result) (start .args .outcome) FailsD
+    told (start .args .line .now) (c .put6 .last .0) _ (c .put6 .result) (start .args .outcome) FailsC
     (c .put6 .ensures) (after-enum-told6 .enum-told6 .given .1) refl (omega arith) (omega arith)
 
 returns-7 : tie.Need-returns-7
@@ -150,7 +159,7 @@ unfolding spelt line others bytes wordingOf
 returns-7 c =
     let after-enum-told7 : tie.After-enum-told7 = search in
     let start : tie.Start = search in
-    told (start .args .line .now) (c .put7 .last .0) _ (c .put7 .result) (start .args .outcome) FailsE
+    told (start .args .line .now) (c .put7 .last .0) _ (c .put7 .result) (start .args .outcome) FailsD
     (c .put7 .ensures) (after-enum-told7 .enum-told7 .given .1) refl (omega arith) (omega arith)
 
 returns-8 : tie.Need-returns-8
@@ -158,11 +167,19 @@ unfolding spelt line others bytes wordingOf
 returns-8 c =
     let after-enum-told8 : tie.After-enum-told8 = search in
     let start : tie.Start = search in
-    told (start .args .line .now) (c .put8 .last .0) _ (c .put8 .result) (start .args .outcome) FailsF
+    told (start .args .line .now) (c .put8 .last .0) _ (c .put8 .result) (start .args .outcome) FailsE
     (c .put8 .ensures) (after-enum-told8 .enum-told8 .given .1) refl (omega arith) (omega arith)
 
 returns-9 : tie.Need-returns-9
+unfolding spelt line others bytes wordingOf
 returns-9 c =
+    let after-enum-told9 : tie.After-enum-told9 = search in
+    let start : tie.Start = search in
+    told (start .args .line .now) (c .put9 .last .0) _ (c .put9 .result) (start .args .outcome) FailsF
+    (c .put9 .ensures) (after-enum-told9 .enum-told9 .given .1) refl (omega arith) (omega arith)
+
+returns-10 : tie.Need-returns-10
+returns-10 c =
     let after-outcome : tie.After-outcome = search in
     let start : tie.Start = search in
     told-refusal (start .args .line .now) (c .put-refusal .last .0) (c .put-refusal .result) (start .args .outcome) _ _
@@ -196,6 +213,9 @@ put-line-spec =
     enum-told-8
     slice-aggregate-put-8
     put-requires-8
+    enum-told-9
+    slice-aggregate-put-9
+    put-requires-9
     enum-known-outcome
     cast-n
     put-refusal-requires
@@ -207,4 +227,5 @@ put-line-spec =
     returns-6
     returns-7
     returns-8
-    returns-9)
+    returns-9
+    returns-10)

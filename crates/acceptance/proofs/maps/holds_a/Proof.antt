@@ -1,4 +1,4 @@
--- `holds_a` meets its contract: A has been found to hold of the states before s.
+-- `holds_a` meets its contract: A has been found to hold of the states before s, and `none` tells whether no start state was among them.
 -- Assumes nothing.
 use borrow.Author.Needs.{needs}
 use Prim.Native.Nat.{_-_, _^_, _≤_}
@@ -8,18 +8,19 @@ use mathlib.Core.Logic.{⊎-elim}
 use native.Mathlib.Omega.{arith}
 use borrow.Author.Tests.{not-true, not-false}
 use Rattle.sheets.specs.working.SheetReading.{mapIn}
-use Rattle.meaning.specs.working.Conditions.{testA}
+use Rattle.meaning.specs.working.Conditions.{testVoid, testA}
 use Rattle.evaluation.specs.working.CodeSystem.{startsIn}
 use Rattle.evaluation.proofs.Powers.{pow-small}
-use Rattle.acceptance.proofs.Loops.{a-none, a-other, a-member, a-fail, a-done}
+use Rattle.acceptance.proofs.Loops.{void-none, void-start, void-other, void-done, void-fail, a-none, a-other, a-member, a-fail, a-done}
 use Rattle.acceptance.proofs.maps.holds_a.Statement.{statement}
 use Rattle.acceptance.proofs.maps.holds_a.Tie as tie
 
 abbrev Inv-states : tie.InvT-states
-Inv-states b p n ops plan states s₀ s = (s ≤ states) × (testA s (startsIn ops (plan .ends)) (mapIn b p n) ≡ true)
+Inv-states b p n ops plan states none₀ s₀ none s =
+    (s ≤ states) × (testA s (startsIn ops (plan .ends)) (mapIn b p n) ≡ true) × (none ≡ testVoid s (startsIn ops (plan .ends)))
 
 abbrev μ-states : tie.MeasureT-states
-μ-states b p n ops plan states s₀ s = states - s
+μ-states b p n ops plan states none₀ s₀ none s = states - s
 
 -- The places that the answers name.
 abbrev After-power : Type 0
@@ -41,7 +42,7 @@ power-requires : tie.Need-power-requires Inv-states μ-states
 power-requires c κs = search needs
 
 states-holds : tie.Need-states-holds Inv-states μ-states
-states-holds c = (omega arith, a-none _ _ 0)
+states-holds c = (omega arith, a-none _ _ 0, void-none _ 0)
 
 starts-requires : tie.Need-starts-requires Inv-states μ-states
 starts-requires c κs =
@@ -64,9 +65,11 @@ returns c =
     let at-states : At-states = search in
     let after-power : After-power = search in
     let start : Start = search in
-    a-fail _ _ (at-states .states .s) (2 ^ start .args .plan .bits) (omega (arith, after-power .power .ensures))
-    (sym (after-starts .starts .ensures) ∙ then1 .if1 .taken)
-    (sym (c .before .in-map .ensures) ∙ not-true _ (c .if2 .taken))
+    let started = sym (after-starts .starts .ensures) ∙ then1 .if1 .taken in (
+      a-fail _ _ (at-states .states .s) (2 ^ start .args .plan .bits) (omega (arith, after-power .power .ensures)) started
+          (sym (c .before .in-map .ensures) ∙ not-true _ (c .if2 .taken)),
+      void-fail _ (at-states .states .s) (2 ^ start .args .plan .bits) (omega (arith, after-power .power .ensures)) started,
+    )
 
 add-s : tie.Need-add-s Inv-states μ-states
 add-s c = omega arith
@@ -80,15 +83,22 @@ states-again c =
       omega arith,
       ⊎-elim
           (λ w. a-member _ _ _ (at-states .states .inv .1) (sym (w .1 .ensures) ∙ not-false _ (w .2 .left)))
-          (λ w. a-other _ _ _ (at-states .states .inv .1) (sym (c .before .starts .ensures) ∙ w .left)) (c .if1 .came),
+          (λ w. a-other _ _ _ (at-states .states .inv .1) (sym (c .before .starts .ensures) ∙ w .0 .left)) (c .if1 .came),
+      ⊎-elim
+          (λ w. w .3 ∙ void-start _ _ (sym (c .before .starts .ensures) ∙ w .0 .taken))
+          (λ w. w .1 ∙ void-other _ _ _ (at-states .states .inv .2) (sym (c .before .starts .ensures) ∙ w .0 .left)) (c .if1 .came),
     )
 
 returns-2 : tie.Need-returns-2 Inv-states μ-states
 returns-2 c =
     let after-power : After-power = search in
     let start : Start = search in
-    a-done _ _ (c .before .states .s) (c .before .states .inv .1) (2 ^ start .args .plan .bits)
-    (omega (arith, after-power .power .ensures)) (omega (arith, after-power .power .ensures))
+    let most = 2 ^ start .args .plan .bits in
+    let low : c .before .states .s ≤ most = omega (arith, after-power .power .ensures) in
+    let high : most ≤ c .before .states .s = omega (arith, after-power .power .ensures) in (
+      a-done _ _ (c .before .states .s) (c .before .states .inv .1) most low high,
+      void-done _ (c .before .states .s) _ most low high (c .before .states .inv .2),
+    )
 
 pub holds-a-spec : {M : Type 1} → statement M
 holds-a-spec =
