@@ -12,7 +12,7 @@ use Rattle.meaning.specs.working.Conditions.{every, implies, wordsStay, closedA
 use Rattle.sheets.specs.Sheets.{System, headerLength, mapLength}
 use Rattle.sheets.specs.SheetTexts.{twoAt, stepIn}
 use Rattle.sheets.specs.working.SheetReading.{mapIn, stepsIn, stepCount, sheetOf, StepsStand}
-use Rattle.acceptance.specs.working.Test.{passedAnswer, mapAnswer, walk, traceAnswer, outcomeOf}
+use Rattle.conditions.specs.working.Judging.{passedAnswer, mapAnswer, walk, traceAnswer, outcomeOf}
 use Rattle.sheets.specs.working.Shapes.{shapeOf}
 use Rattle.sheets.specs.declared.shapes.Shape.{Shape}
 use Rattle.sheets.specs.declared.shapes.Shape.the-variants.{Bad, Map, Trace}

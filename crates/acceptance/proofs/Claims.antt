@@ -17,11 +17,12 @@ use Rattle.meaning.specs.Evidence.{Verdict, safeBy, voidBy, unsafeBy, Kind, saf
 use Rattle.meaning.proofs.Parametric.{claim}
 use Rattle.sheets.specs.Sheets.{systemOf}
 use Rattle.sheets.specs.SheetTexts.{AreBytes}
-use Rattle.acceptance.specs.Outcomes.{Wording, words, letter, returned, wordingOf}
+use Rattle.conditions.specs.Outcomes.{Wording, words, letter, returned, wordingOf}
 use Rattle.acceptance.specs.Promises.{answerTo, TestTells, PassTells, LetsPass, TextComesFirst, ClaimOfTest}
-use Rattle.acceptance.specs.working.Test.{outcomeOf, testIn, testOf}
-use Rattle.acceptance.specs.declared.outcome.Outcome.{Outcome}
-use Rattle.acceptance.specs.declared.outcome.Outcome.the-variants.{SafeHolds, Void, TraceHolds, FailsA, FailsB, FailsC, FailsD, FailsE, FailsF, Refused}
+use Rattle.conditions.specs.working.Judging.{outcomeOf}
+use Rattle.acceptance.specs.working.Test.{testIn, testOf}
+use Rattle.conditions.specs.declared.outcome.Outcome.{Outcome}
+use Rattle.conditions.specs.declared.outcome.Outcome.the-variants.{SafeHolds, Void, TraceHolds, FailsA, FailsB, FailsC, FailsD, FailsE, FailsF, Refused}
 use Rattle.acceptance.proofs.TestMeans.{all-given}
 
 -- No two outcomes are called the same: the first letter tells the outcome.

@@ -1,6 +1,4 @@
 -- Laws of the test, by subject.
-pub mod Loops
-pub mod TraceLaws
 pub mod TestMeans
 pub mod TestWhole
 pub mod Alike

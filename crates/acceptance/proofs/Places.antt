@@ -12,11 +12,11 @@ use Rattle.notation.proofs.Texts.{one-answer}
 use Rattle.notation.proofs.Places.{refusals-bounded}
 use Rattle.sheets.specs.Sheets.{System, systemOf}
 use Rattle.sheets.specs.SheetTexts.{longest, Stage, Clean, begin, next, SheetRefused, tooLong, misplaced, outOfRange}
-use Rattle.acceptance.specs.Outcomes.{wordingOf}
+use Rattle.conditions.specs.Outcomes.{wordingOf}
 use Rattle.acceptance.specs.Promises.{answerTo, Bounded, AnswersBounded}
-use Rattle.acceptance.specs.working.Test.{outcomeOf}
-use Rattle.acceptance.specs.declared.outcome.Outcome.{Outcome}
-use Rattle.acceptance.specs.declared.outcome.Outcome.the-variants.{SafeHolds, Void, TraceHolds, FailsA, FailsB, FailsC, FailsD, FailsE, FailsF, Refused}
+use Rattle.conditions.specs.working.Judging.{outcomeOf}
+use Rattle.conditions.specs.declared.outcome.Outcome.{Outcome}
+use Rattle.conditions.specs.declared.outcome.Outcome.the-variants.{SafeHolds, Void, TraceHolds, FailsA, FailsB, FailsC, FailsD, FailsE, FailsF, Refused}
 use Rattle.sheets.proofs.SheetRefusals.{within}
 use Rattle.acceptance.proofs.TestMeans.{refusal-means}
 use Rattle.acceptance.proofs.Claims.{said, text-comes-first}

@@ -21,9 +21,10 @@ use Rattle.meaning.specs.Evidence.{inMap}
 use Rattle.meaning.specs.working.Conditions.{every, implies, testVoid, testA, testB, wordsStay, closedAt, testC, testE}
 use Rattle.sheets.specs.Sheets.{mapLength}
 use Rattle.sheets.specs.SheetTexts.{twoAt, fourAt, isRecord, sameCounts, unusedClear, stepIn, stepFits}
-use Rattle.acceptance.specs.Outcomes.{wordingOf}
+use Rattle.conditions.specs.Outcomes.{wordingOf}
 use Rattle.sheets.specs.working.SheetReading.{demand, either, mapIn, mapAt, stepsIn, stepsAt, stepCount, traceAt, bodyAt, sheetIn}
-use Rattle.acceptance.specs.working.Test.{passedAnswer, mapAnswer, walk, traceAnswer, answerIn, judge, outcomeOf, testIn, testOf}
+use Rattle.conditions.specs.working.Judging.{passedAnswer, mapAnswer, walk, traceAnswer, answerIn, judge, outcomeOf}
+use Rattle.acceptance.specs.working.Test.{testIn, testOf}
 use Rattle.acceptance.specs.Cases.{Case, cases, AllCases}
 
 -- To unfold this is to unfold all that computes the answer to a text and a sheet.

@@ -17,9 +17,9 @@ use Rattle.sheets.specs.SheetTexts.{NumbersFit, AreBytes, SheetSays, SheetRefus
 use Rattle.acceptance.specs.Promises.{MapThat, TraceThat}
 use Rattle.meaning.specs.working.Conditions.{testVoid, testA, testB, testC, testE}
 use Rattle.sheets.specs.working.SheetReading.{Reading, refused, holds, sheetOf}
-use Rattle.acceptance.specs.working.Test.{passedAnswer, mapAnswer, walk, traceAnswer, answerIn, judge, outcomeOf}
-use Rattle.acceptance.specs.declared.outcome.Outcome.{Outcome}
-use Rattle.acceptance.specs.declared.outcome.Outcome.the-variants.{SafeHolds, Void, TraceHolds, FailsA, FailsB, FailsC, FailsD, FailsE, FailsF, Refused}
+use Rattle.conditions.specs.working.Judging.{passedAnswer, mapAnswer, walk, traceAnswer, answerIn, judge, outcomeOf}
+use Rattle.conditions.specs.declared.outcome.Outcome.{Outcome}
+use Rattle.conditions.specs.declared.outcome.Outcome.the-variants.{SafeHolds, Void, TraceHolds, FailsA, FailsB, FailsC, FailsD, FailsE, FailsF, Refused}
 use Rattle.meaning.proofs.Accept.{all-tests-tell, can-start}
 use Rattle.evaluation.proofs.Powers.{pow-small}
 use Rattle.sheets.proofs.SheetRefusals.{refused-iff-reads}

@@ -26,9 +26,10 @@ use Rattle.evaluation.specs.working.CodeSystem.{starsIn, Sound}
 use Rattle.evaluation.proofs.FlatForms.{flat-computes, ends-counted, mapped}
 use Rattle.sheets.specs.Sheets.{systemOf}
 use Rattle.sheets.specs.working.FlatSystem.{systemIn}
-use Rattle.acceptance.specs.working.Test.{outcomeOf, testIn, testOf, planOf}
-use Rattle.acceptance.specs.declared.outcome.Outcome.{Outcome}
-use Rattle.acceptance.specs.declared.outcome.Outcome.the-variants.{Refused}
+use Rattle.conditions.specs.working.Judging.{outcomeOf}
+use Rattle.acceptance.specs.working.Test.{testIn, testOf, planOf}
+use Rattle.conditions.specs.declared.outcome.Outcome.{Outcome}
+use Rattle.conditions.specs.declared.outcome.Outcome.the-variants.{Refused}
 use Rattle.acceptance.proofs.Alike.{outcome-alike}
 
 -- What an array holds: the list, and zeros behind it.

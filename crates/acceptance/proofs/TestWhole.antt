@@ -8,11 +8,11 @@ use lib.ListN.{length}
 use Rattle.sheets.specs.Sheets.{System, size, headerLength, mapLength}
 use Rattle.meaning.specs.Evidence.{safe, trace}
 use Rattle.sheets.specs.working.SheetReading.{Reading, refused, holds, mapIn, sheetOf, TraceStands}
-use Rattle.acceptance.specs.working.Test.{mapAnswer, answerIn, judge, outcomeOf, traceFrom}
+use Rattle.conditions.specs.working.Judging.{mapAnswer, answerIn, judge, outcomeOf, traceFrom}
 use Rattle.sheets.specs.working.Shapes.{shapeOf}
 use Rattle.sheets.specs.declared.shapes.Shape.the-variants.{Bad, Map, Trace}
-use Rattle.acceptance.specs.declared.outcome.Outcome.{Outcome}
-use Rattle.acceptance.specs.declared.outcome.Outcome.the-variants.{Refused}
+use Rattle.conditions.specs.declared.outcome.Outcome.{Outcome}
+use Rattle.conditions.specs.declared.outcome.Outcome.the-variants.{Refused}
 use Rattle.sheets.proofs.SheetOpened.{map-found, trace-found, eighths}
 
 -- Where the shape is a refusal, so is the outcome.

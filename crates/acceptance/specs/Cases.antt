@@ -6,7 +6,7 @@ use mathlib.Core.List.{List, [], _∷_, _++_}
 use Prim.Native.Nat.{ℕ}
 use Rattle.notation.specs.Bytes.{bytes}
 use Rattle.notation.specs.Regular.{Every}
-use Rattle.acceptance.specs.Outcomes.{Wording, words, letter, returned, wordingOf}
+use Rattle.conditions.specs.Outcomes.{Wording, words, letter, returned, wordingOf}
 use Rattle.acceptance.specs.working.Test.{testOf}
 
 -- A row of the table: the bytes of a text, the bytes of a sheet, and what is expected of the test.

@@ -10,7 +10,7 @@ use Rattle.meaning.specs.Meaning.{CanStart}
 use Rattle.meaning.specs.OneRow.{One, TraceStep}
 use Rattle.meaning.specs.Evidence.{safe, trace, safeBy, voidBy, unsafeBy, IsVoid, Passes, Promise, ConditionA, ConditionB, ConditionC, ConditionD, ConditionE, ConditionF}
 use Rattle.sheets.specs.Sheets.{systemOf}
-use Rattle.acceptance.specs.Outcomes.{Wording, words, letter, returned, wordingOf}
+use Rattle.conditions.specs.Outcomes.{Wording, words, letter, returned, wordingOf}
 use Rattle.sheets.specs.SheetTexts.{longest, AreBytes, SheetSays, SheetRefused}
 use Rattle.acceptance.specs.working.Test.{testOf}
 

@@ -1,17 +1,15 @@
 // The acceptance test: whether a sheet is evidence for the model that a text says.
-mod maps;
-pub mod outcome;
-mod traces;
-
 ghost use mathlib.Core.Path.{_≡_};
 ghost use Rattle.evaluation.specs.working.CodeSystem.{Sound};
 ghost use Rattle.sheets.specs.SheetTexts.{AreBytes};
 ghost use Rattle.sheets.specs.working.FlatSystem.{systemIn};
-ghost use Rattle.acceptance.specs.working.Test.{outcomeOf, testOf};
+ghost use Rattle.conditions.specs.working.Judging.{outcomeOf};
+ghost use Rattle.acceptance.specs.working.Test.{testOf};
+use conditions::maps::test_map;
+use conditions::outcome::Outcome;
+use conditions::traces::test_trace;
 use evaluation::numbers::power;
 use evaluation::plan::Plan;
-use maps::test_map;
-use outcome::Outcome;
 use reader::Answer;
 use reader::read_into;
 use sheets::fields::HEADER;
@@ -19,7 +17,6 @@ use sheets::fields::bytes_known;
 use sheets::fields::map_length;
 use sheets::shapes::Shape;
 use sheets::shapes::shape_of;
-use traces::test_trace;
 
 // The outcome for a sheet and the flat form of a model.
 fn test_sheet(b: &[u8], ops: &[u16; 2048], plan: Plan) -> Outcome

@@ -15,3 +15,4 @@ pub mod FindsRight
 pub mod MapsAlike
 pub mod FindsOnce
 pub mod FoundShort
+pub mod CodeSteps

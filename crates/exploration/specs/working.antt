@@ -6,3 +6,4 @@ pub mod Results
 pub mod Tables
 pub mod Written
 pub mod Found
+pub mod CodeTransitions

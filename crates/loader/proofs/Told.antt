@@ -19,9 +19,9 @@ use Rattle.reader.specs.declared.Reading.{Reading}
 use Rattle.reader.specs.Read.{readingOf}
 use Rattle.reader.specs.Answers as R
 use Rattle.reader.proofs.Promised.{model-called, refusal-called, read-answers}
-use Rattle.acceptance.specs.declared.outcome.Outcome.{Outcome}
-use Rattle.acceptance.specs.declared.outcome.Outcome.the-variants as O
-use Rattle.acceptance.specs.Outcomes.{wordingOf}
+use Rattle.conditions.specs.declared.outcome.Outcome.{Outcome}
+use Rattle.conditions.specs.declared.outcome.Outcome.the-variants as O
+use Rattle.conditions.specs.Outcomes.{wordingOf}
 use Rattle.acceptance.specs.Promises.{Bounded}
 use Rattle.acceptance.specs.working.Test.{testOf}
 use Rattle.acceptance.proofs.TestTexts.{was-read}

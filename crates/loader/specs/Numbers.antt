@@ -3,7 +3,7 @@
 use mathlib.Core.Bool.{cond}
 use Prim.Native.Nat.{ℕ, _+_, _*_, _/_, _%_}
 use lib.Dec.{eqb}
-use Rattle.acceptance.specs.Outcomes.{Wording, words, letter, returned}
+use Rattle.conditions.specs.Outcomes.{Wording, words, letter, returned}
 use Rattle.reader.specs.Answers as R
 use Rattle.packing.specs.Packed.{packed, initial}
 

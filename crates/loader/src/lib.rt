@@ -2,13 +2,13 @@
 // A slice is a pointer and a length there, and each answer is one number.
 ghost use mathlib.Core.Path.{_≡_};
 ghost use Prim.Native.Nat.{_+_, _≤_};
-ghost use Rattle.acceptance.specs.Outcomes.{wordingOf};
+ghost use Rattle.conditions.specs.Outcomes.{wordingOf};
 ghost use Rattle.acceptance.specs.Promises.{answerTo, Bounded};
 ghost use Rattle.sheets.specs.SheetTexts.{AreBytes};
 ghost use Rattle.loader.specs.Numbers.{testNumber, modelNumber, readNumber};
 ghost use Rattle.loader.specs.Promises.{readingTo};
-use acceptance::outcome::Outcome;
 use acceptance::test;
+use conditions::outcome::Outcome;
 use packing::pack;
 use reader::Answer;
 use reader::read;

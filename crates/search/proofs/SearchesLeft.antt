@@ -17,7 +17,7 @@ use Rattle.sheets.specs.Sheets.{System, size, headerLength, sheetRoom, little, 
 use Rattle.sheets.specs.working.SheetReading.{countsIn}
 use Rattle.sheets.specs.working.FlatSystem.{systemIn}
 use Rattle.exploration.specs.working.Transitions.{Transitions, Lawful}
-use Rattle.traversal.specs.working.CodeTransitions.{transitionsIn}
+use Rattle.exploration.specs.working.CodeTransitions.{transitionsIn}
 use Rattle.exploration.specs.working.Tables.{Ran}
 use Rattle.exploration.specs.working.Written.{headBytes, runBytes, mapFrom, RecordedTo, TraceStored}
 use Rattle.verdicts.specs.Left.{Left}
@@ -25,7 +25,7 @@ use Rattle.verdicts.specs.working.Searching.{roomy, foundBy, leftAlone, searchF
 use Rattle.search.specs.working.Ends.{Ends}
 use Rattle.verdicts.specs.declared.finding.Finding.{Finding}
 use Rattle.verdicts.specs.declared.finding.Finding.the-variants.{Safe, Void, Unsafe, Refused}
-use Rattle.traversal.proofs.CodeSteps.{code-lawful}
+use Rattle.exploration.proofs.CodeSteps.{code-lawful}
 use Rattle.exploration.proofs.Whole.{queue-cleared, parent-cleared, ran-some, ran-recorded, lastRun, ran-unsafe, mapLeft, ran-void, ran-safe}
 use Rattle.exploration.proofs.TraceSteps.{steps-count}
 use Rattle.exploration.proofs.Map.{map-length}

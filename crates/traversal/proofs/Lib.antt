@@ -1,3 +1,2 @@
--- Laws of the transitions of a flat form, and of the whole way through its states, by subject.
-pub mod CodeSteps
+-- Laws of the whole way through the states.
 pub mod WholeRuns

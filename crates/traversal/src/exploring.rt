@@ -3,7 +3,7 @@
 ghost use mathlib.Core.Path.{_≡_};
 ghost use Prim.Native.Nat.{_^_, _≤_};
 ghost use Rattle.evaluation.specs.working.CodeSystem.{Sound};
-ghost use Rattle.traversal.specs.working.CodeTransitions.{transitionsIn};
+ghost use Rattle.exploration.specs.working.CodeTransitions.{transitionsIn};
 ghost use Rattle.exploration.specs.working.Tables.{Ready, Explored, Took, Ran};
 use evaluation::lanes::fill;
 use evaluation::lanes::first_rows;

@@ -1,3 +1,2 @@
-// The way through the states of a model's flat form, breadth first, and the way back from the state where it ended.
+// The way through the states of a model's flat form, breadth first.
 pub mod exploring;
-pub mod traces;

@@ -18,7 +18,7 @@ use Rattle.meaning.proofs.OneRow.{next-stays}
 use Rattle.evaluation.proofs.Powers.{pow-small}
 use Rattle.sheets.specs.Sheets.{systemOf, sheetRoom, sheetBytes}
 use Rattle.sheets.specs.SheetTexts.{SheetSays}
-use Rattle.acceptance.specs.Outcomes.{words}
+use Rattle.conditions.specs.Outcomes.{words}
 use Rattle.acceptance.specs.Promises.{answerTo, PassMeans}
 use Rattle.acceptance.proofs.Claims.{pass-tells}
 use Rattle.exploration.specs.Findings.{Reaches, ExactMap, Finds}

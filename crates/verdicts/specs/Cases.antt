@@ -7,7 +7,7 @@ use Prim.Native.String.{String}
 use lib.ListN.{length, take, replicate}
 use Rattle.notation.specs.Bytes.{bytes}
 use Rattle.notation.specs.Regular.{Every}
-use Rattle.acceptance.specs.Outcomes as A
+use Rattle.conditions.specs.Outcomes as A
 use Rattle.acceptance.specs.Promises.{answerTo}
 use Rattle.acceptance.specs.Cases.{g, h, gKeepsNowhere, gStartsNowhere, head, map, start, gSheet}
 use Rattle.verdicts.specs.Answers.{verdict, returned, wordingOf}

@@ -13,7 +13,7 @@ use Rattle.meaning.specs.Meaning.{Safe, Unsafe, CanStart}
 use Rattle.meaning.specs.OneRow.{One, stateCount}
 use Rattle.sheets.specs.Sheets.{systemOf, sheetRoom, sheetBytes}
 use Rattle.sheets.specs.SheetTexts.{AreBytes}
-use Rattle.acceptance.specs.Outcomes.{words}
+use Rattle.conditions.specs.Outcomes.{words}
 use Rattle.acceptance.specs.Promises.{answerTo, TestPromise}
 use Rattle.meaning.specs.Evidence.{IsVoid, Verdict, evidenceOf}
 use Rattle.exploration.specs.Findings.{Finds}

@@ -7,9 +7,9 @@ use native.Mathlib.Omega.{arith}
 use lib.ListN.{length}
 use lib.Seq.{sets}
 use Rattle.io.specs.Counts.{Counts}
-use Rattle.acceptance.specs.declared.outcome.Outcome.{Outcome}
-use Rattle.acceptance.specs.declared.outcome.Outcome.the-variants.{Refused}
-use Rattle.acceptance.specs.Outcomes.{wordingOf}
+use Rattle.conditions.specs.declared.outcome.Outcome.{Outcome}
+use Rattle.conditions.specs.declared.outcome.Outcome.the-variants.{Refused}
+use Rattle.conditions.specs.Outcomes.{wordingOf}
 use Rattle.lines.specs.Lines.{refusalLine}
 use Rattle.lines.specs.Puts.{Puts}
 use Rattle.lines.proofs.Stores.{front-counts}

@@ -3,8 +3,8 @@
 use mathlib.Core.List.{List, [], _∷_}
 use Prim.Native.Nat.{ℕ}
 use Rattle.notation.specs.Bytes.{bytes}
-use Rattle.acceptance.specs.declared.outcome.Outcome.{Outcome}
-use Rattle.acceptance.specs.Outcomes.{Wording, words, letter, returned, wordingOf}
+use Rattle.conditions.specs.declared.outcome.Outcome.{Outcome}
+use Rattle.conditions.specs.Outcomes.{Wording, words, letter, returned, wordingOf}
 use Rattle.lines.specs.Lines.{line, refusalLine}
 
 -- The words of an outcome as a line.

@@ -5,7 +5,7 @@ ghost use lib.ListN.{length};
 ghost use lib.Seq.{sets};
 ghost use Rattle.io.specs.Counts.{Counts};
 ghost use Rattle.wording.specs.Lines.{lineOf};
-use acceptance::outcome::Outcome;
+use conditions::outcome::Outcome;
 use lines::put;
 use lines::put_refusal;
 

@@ -1,8 +1,8 @@
 -- `nutseason_test` meets its contract: the number of the test's answer.
 -- Assumes nothing.
 use mathlib.Core.Path.{sym, ap, _∙_, subst}
-use Rattle.acceptance.specs.declared.outcome.Outcome.{Outcome}
-use Rattle.acceptance.specs.Outcomes.{wordingOf}
+use Rattle.conditions.specs.declared.outcome.Outcome.{Outcome}
+use Rattle.conditions.specs.Outcomes.{wordingOf}
 use Rattle.acceptance.specs.Promises.{Bounded}
 use Rattle.acceptance.proofs.Places.{answers-bounded}
 use Rattle.loader.specs.Numbers.{testNumber}

@@ -2,9 +2,9 @@
 -- Assumes nothing.
 use mathlib.Core.Path.{refl}
 use Rattle.notation.specs.Bytes.{bytes}
-use Rattle.acceptance.specs.declared.outcome.Outcome.the-variants.{SafeHolds, Void, TraceHolds, FailsA, FailsB, FailsC}
-use Rattle.acceptance.specs.declared.outcome.Outcome.the-variants.{FailsD, FailsE, FailsF, Refused}
-use Rattle.acceptance.specs.Outcomes.{wordingOf}
+use Rattle.conditions.specs.declared.outcome.Outcome.the-variants.{SafeHolds, Void, TraceHolds, FailsA, FailsB, FailsC}
+use Rattle.conditions.specs.declared.outcome.Outcome.the-variants.{FailsD, FailsE, FailsF, Refused}
+use Rattle.conditions.specs.Outcomes.{wordingOf}
 use Rattle.loader.specs.Numbers.{testNumber}
 use Rattle.loader.proofs.Told.{place-fits, number-of}
 use borrow.Author.Needs.{needs}

@@ -5,9 +5,9 @@ use native.Mathlib.Omega.{arith}
 use borrow.Author.Needs.{needs}
 use Rattle.lines.specs.Lines.{others, line}
 use Rattle.lines.proofs.Parts.{refusal-fits}
-use Rattle.acceptance.specs.Outcomes.{wordingOf}
-use Rattle.acceptance.specs.declared.outcome.Outcome.the-variants.{SafeHolds, Void, TraceHolds, FailsA, FailsB, FailsC}
-use Rattle.acceptance.specs.declared.outcome.Outcome.the-variants.{FailsD, FailsE, FailsF}
+use Rattle.conditions.specs.Outcomes.{wordingOf}
+use Rattle.conditions.specs.declared.outcome.Outcome.the-variants.{SafeHolds, Void, TraceHolds, FailsA, FailsB, FailsC}
+use Rattle.conditions.specs.declared.outcome.Outcome.the-variants.{FailsD, FailsE, FailsF}
 use Rattle.notation.specs.Bytes.{bytes}
 use Rattle.wording.specs.Lines.{spelt}
 use Rattle.wording.proofs.Spelling.{told, told-refusal}

@@ -11,9 +11,9 @@ use lib.ListN.{getD, set}
 use Rattle.evaluation.specs.working.CodeSystem.{nextIn}
 use Rattle.evaluation.proofs.Batches as B
 use Rattle.evaluation.proofs.Powers.{pow-small}
-use Rattle.traversal.specs.working.CodeTransitions.{transitionsIn}
+use Rattle.exploration.specs.working.CodeTransitions.{transitionsIn}
 use Rattle.exploration.specs.working.Transitions.{wordsFrom, movesFrom, moves}
-use Rattle.traversal.proofs.CodeSteps.{step-picked, step-below, commands-start}
+use Rattle.exploration.proofs.CodeSteps.{step-picked, step-below, commands-start}
 use Rattle.exploration.proofs.Laws.{Tried, Broke, Gone, gone-refl, gone-next, gone-broke, gone-end, gone-enough, tried-old}
 use Rattle.exploration.proofs.Laws.{tried-new, tried-broke, words-start, command-done, command-broke, commands-done}
 use Rattle.exploration.proofs.Laws.{room}

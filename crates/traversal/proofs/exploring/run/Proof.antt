@@ -1,6 +1,6 @@
 -- `run` meets its contract: cleared tables, the start states, then the queue.
 -- Assumes nothing.
-use Rattle.traversal.specs.working.CodeTransitions.{transitionsIn}
+use Rattle.exploration.specs.working.CodeTransitions.{transitionsIn}
 use Rattle.traversal.proofs.WholeRuns.{ready-cleared, run-broke, run-on}
 use borrow.Author.Needs.{needs}
 use Rattle.traversal.proofs.exploring.run.Statement.{statement}

@@ -8,8 +8,8 @@ use native.Mathlib.Omega.{arith}
 use lib.ListN.{getD, set}
 use Rattle.evaluation.proofs.Powers.{pow-small}
 use Rattle.exploration.specs.working.Tables.{Took}
-use Rattle.traversal.specs.working.CodeTransitions.{transitionsIn}
-use Rattle.traversal.proofs.CodeSteps.{unmet-first, unmet-next}
+use Rattle.exploration.specs.working.CodeTransitions.{transitionsIn}
+use Rattle.exploration.proofs.CodeSteps.{unmet-first, unmet-next}
 use Rattle.exploration.proofs.Laws.{Taking, taking-refl, taking-end, taking-skip, taking-next, taking-broke, meets-new}
 use Rattle.exploration.proofs.Laws.{room}
 use Rattle.traversal.proofs.exploring.take_in.Statement.{statement}

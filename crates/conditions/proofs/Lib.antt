@@ -1,0 +1,3 @@
+-- Laws of the conditions, by subject.
+pub mod Loops
+pub mod TraceLaws

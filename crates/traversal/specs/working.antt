@@ -1,2 +1,0 @@
--- Definitions that only describe how a program goes about it. Nothing here has to be believed: theorems tie it to the definitions of the crates around it.
-pub mod CodeTransitions
