@@ -9,7 +9,7 @@ use native.Mathlib.Omega.{arith}
 use lib.ListN.{getD, replicate}
 use Rattle.notation.specs.Model.{Model}
 use Rattle.notation.specs.Regular.{Regular}
-use Rattle.meaning.specs.Meaning.{State, IsStart, Safe, Unsafe, CanStart}
+use Rattle.meaning.specs.Meaning.{Safe, Unsafe, CanStart}
 use Rattle.meaning.specs.OneRow.{One, stateNumber, stateCount, spread, TraceStep, spreadStep}
 use Rattle.meaning.specs.Evidence.{inMap, TracePasses, IsVoid}
 use Rattle.meaning.proofs.Number.{stateNumber-lt}
