@@ -9,11 +9,14 @@ import sentences
 from page_text import command_marks, text_section
 from refusals import explained
 from runs import judged, lines_of
+from settings import setting_lines
 from starts import tried
 from tokens import quoted
 
 FOLDER = Path(__file__).resolve().parent
 CHANGE = "→"
+# A bar's length is told in percent of the longest.
+LONGEST_BAR = 100
 
 
 def refused(file, text, report):
@@ -30,10 +33,11 @@ def refused(file, text, report):
 
 
 def safe(file, text, report, model):
-    main = (f"<p>{escape(sentences.evidence(file))}</p>\n"
-            + text_section(text, command_marks(model)))
+    main = [f"<p>{escape(sentences.evidence(file))}</p>",
+            settings_section(report, model),
+            text_section(text, command_marks(model))]
     return whole(sentences.verdict(file, "safe", report.counts),
-                 sentences.SAFE, main)
+                 sentences.SAFE, "\n".join(main))
 
 
 def void(file, text, report, model):
@@ -87,6 +91,25 @@ def player(text, lines, model):
     return Template(part("player.html")).substitute(
         last=len(lines) - 1, names=names,
         text=text_section(text, command_marks(model)))
+
+
+def settings_section(report, model):
+    lines = setting_lines(report, model, LONGEST_BAR)
+    title = sentences.reached(report)
+    if not model.shared:
+        return f"<p>{title}</p>"
+    return Template(part("settings.html")).substitute(
+        title=title, rows="\n".join(map(setting_row, lines)))
+
+
+def setting_row(line):
+    """The bar says nothing that the cells before it do not say. No `not` is
+    parted from its name."""
+    names = line.names.replace("not ", "not&nbsp;")
+    return (f'<tr><th>{line.number}</th><td>{names}</td>'
+            f'<td>{line.states:,}</td><td>{escape(line.share)}</td><td>'
+            f'<svg aria-hidden="true"><rect width="{line.bar}%" height="100%"/>'
+            '</svg></td></tr>')
 
 
 def steps_section(lines, model):

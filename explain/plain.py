@@ -4,10 +4,12 @@ import sentences
 from places import position
 from refusals import explained
 from runs import judged, lines_of
+from settings import setting_lines
 from starts import tried
 from tokens import quoted
 
 CHANGE = ">"
+MARK, LONGEST_BAR = "#", 24
 
 
 def refused(file, text, report):
@@ -19,8 +21,11 @@ def refused(file, text, report):
 
 
 def safe(file, text, report, model):
+    lines = setting_lines(report, model, LONGEST_BAR)
     return [f"{sentences.verdict(file, 'safe', report.counts)}. "
-            f"{sentences.SAFE} {sentences.evidence(file)}"]
+            f"{sentences.SAFE} {sentences.evidence(file)}",
+            "", sentences.reached(report),
+            *(["", *settings_table(lines)] if model.shared else [])]
 
 
 def void(file, text, report, model):
@@ -41,35 +46,58 @@ def unsafe(file, text, report, model):
             "", sentences.COPIES]
 
 
+def settings_table(lines):
+    """Three blocks side by side: settings, shared names, how many states."""
+    numbers = right(["setting"] + [str(line.number) for line in lines])
+    names = ["shared names"] + [line.names for line in lines]
+    states = right(["states"] + [f"{line.states:,}" for line in lines])
+    shares = right(["share"] + [line.share for line in lines])
+    bars = [""] + [MARK * line.bar for line in lines]
+    return beside(numbers, alike(names), columns(zip(states, shares, bars)))
+
+
 def table(lines, model):
     """Three blocks side by side: what ran, shared names, row names."""
-    wide = max(len("step"), len(str(len(lines) - 1)))
-    ran = [["step", "command", "choices"]]
-    ran += [[str(line.number).rjust(wide), line.command, line.choices]
-            for line in lines]
+    numbers = right(["step"] + [str(line.number) for line in lines])
+    commands = ["command"] + [line.command for line in lines]
+    choices = ["choices"] + [line.choices for line in lines]
     cells = [list(model.names)] + [list(map(cell, line.before, line.after))
                                    for line in lines]
     end = len(model.shared)
-    blocks = [block("", ran)]
+    blocks = [block("", zip(numbers, commands, choices))]
     if model.shared:
         blocks.append(block("shared", [row[:end] for row in cells]))
     if model.row:
         blocks.append(block("row", [row[end:] for row in cells]))
-    return [" | ".join(row).rstrip() for row in zip(*blocks)]
+    return beside(*blocks)
 
 
 def cell(before, after):
     return str(after) if before == after else f"{before}{CHANGE}{after}"
 
 
+def right(column):
+    """Equally wide cells, with blanks in front."""
+    width = max(map(len, column))
+    return [said.rjust(width) for said in column]
+
+
+def beside(*blocks):
+    return [" | ".join(row).rstrip() for row in zip(*blocks)]
+
+
 def block(title, rows):
     """Equally wide lines: the title, and the rows in columns."""
-    lines = [title] + columns(rows)
+    return alike([title] + columns(rows))
+
+
+def alike(lines):
     width = max(map(len, lines))
     return [line.ljust(width) for line in lines]
 
 
 def columns(rows):
+    rows = [list(row) for row in rows]
     widths = [max(map(len, column)) for column in zip(*rows)]
     return ["  ".join(map(str.ljust, row, widths)).rstrip() for row in rows]
 

@@ -45,6 +45,19 @@ def unsafe(steps):
             "no shorter run does.")
 
 
+def reached(report):
+    """How much of a table of one row is reached where the model is safe."""
+    shared, row, _ = report.counts
+    said = (f"Runs over a table of one row reach {report.total:,} of "
+            f"{counted(1 << shared + row, 'state')}")
+    if not shared:
+        return (f"{said}. There are no shared names, so there is one setting, "
+                "0.")
+    names = "the shared name" if shared == 1 else "the shared names"
+    return (f"{said}, at {len(report.settings):,} of {1 << shared:,} settings "
+            f"of {names}:")
+
+
 def contradiction(parts):
     """What is wrong with the parts of a `start` that nothing satisfies."""
     shared, row = (part.can_hold for part in parts)

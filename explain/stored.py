@@ -1,12 +1,14 @@
 """The stored cases of the tests: a text, the report that the program prints
 for it, and the plain explanation, where FILE stands for the text's path.
-Beside them a text with the longest run there can be."""
+Beside them a text with the longest run there can be, and one with the most
+settings."""
 
 from dataclasses import dataclass
 from pathlib import Path
 
 FOLDER = Path(__file__).resolve().parent / "cases"
 MOST_STEPS = 4095
+MOST_SETTINGS = 256
 
 
 @dataclass(frozen=True)
@@ -47,6 +49,20 @@ def counter():
     steps = "".join(f"step {number} a_longer_command 0 {number}\n"
                     for number in range(1, MOST_STEPS + 1))
     report = f"model 8 4 1\nunsafe {MOST_STEPS}\nstart 0\n{steps}"
+    return text.encode(), report.encode()
+
+
+def all_settings():
+    """A text with states at every setting of 8 shared names, and its report.
+    The lowest two bits tell how many of the 16 rows are there."""
+    shared = " ".join(f"low_{j}" for j in range(8))
+    row = " ".join(f"high_{j}" for j in range(4))
+    text = (f"shared {shared}. row {row}.\n"
+            "start 1 each low_0 or low_1 and high_0 or high_1 and high_2.\n"
+            "keep 1 each 1.\ncommand idle if 1 do skip else skip.\n")
+    counts = [(4, 16, 10, 16)[j % 4] for j in range(MOST_SETTINGS)]
+    lines = "".join(f"at {j} {count}\n" for j, count in enumerate(counts))
+    report = f"model 8 4 1\nsafe\nstates {sum(counts)}\n{lines}"
     return text.encode(), report.encode()
 
 

@@ -14,7 +14,27 @@ from explaining import main, shown
 from stored import cases
 
 CASES = {case.name: case for case in cases()}
-STATUSES = (("safe", 0), ("several_steps", 1), ("void_both", 1), ("tab", 2))
+STATUSES = (("safe", 0), ("safe_settings", 0), ("safe_rows", 0),
+            ("several_steps", 1), ("void_both", 1), ("tab", 2))
+# Lines that could stand behind `safe` for 2 shared and 2 row names, but for
+# one fault each.
+NO_COUNTS = (
+    "states 7", "states 0", "at 0 1|at 1 4|at 3 2",
+    "states 8|at 0 1|at 1 4|at 3 2", "states 6|at 0 1|at 1 4|at 3 2",
+    "at 0 1|at 1 4|at 3 2|states 7", "states 7|states 7|at 0 1|at 1 4|at 3 2",
+    "states 7|at 1 4|at 0 1|at 3 2", "states 7|at 0 1|at 1 2|at 1 2|at 3 2",
+    "states 7|at 0 1|at 1 4|at 2 0|at 3 2", "states 7|at -1 1|at 1 4|at 3 2",
+    "states 5|at 0 -1|at 1 4|at 3 2", "states 7|at 0 1|at 1 4|at 4 2",
+    "states 8|at 0 1|at 1 5|at 3 2", "states 07|at 0 1|at 1 4|at 3 2",
+    "states 7|at 00 1|at 1 4|at 3 2", "states 7|at 0 +1|at 1 4|at 3 2",
+    "states 7|at 0 1 1|at 1 4|at 3 2", "states 7|at 0|at 1 4|at 3 2",
+    "states 7|at  0 1|at 1 4|at 3 2", "states 7|at 0 1 |at 1 4|at 3 2",
+    "states 7|At 0 1|at 1 4|at 3 2", "state 7|at 0 1|at 1 4|at 3 2",
+    "states 7 7|at 0 1|at 1 4|at 3 2", "states 7||at 0 1|at 1 4|at 3 2",
+    "states 7|at 0 1|at 1 4|at 3 2|", "states 7|at 0 1|at 1 4|at 3 2|safe",
+    "states 7|at 0 1|at 1 4|at 3 2|start 0", "states 7|at a 1|at 1 4|at 3 2",
+    "states 7\r|at 0 1\r|at 1 4\r|at 3 2\r",
+)
 
 
 @contextlib.contextmanager
@@ -86,6 +106,20 @@ class Explaining(unittest.TestCase):
             status, said, error = self.run_on(CASES["several_steps"], report)
             self.assertEqual((status, said), (2, ""), report)
             self.assertIn("gave no report of this text", error)
+
+    def test_no_counts(self):
+        case = CASES["safe_settings"]
+        first = b"model 2 2 4\nsafe\n"
+        self.assertEqual(case.report,
+                         first + b"states 7\nat 0 1\nat 1 4\nat 3 2\n")
+        faults = [first + lines.replace("|", "\n").encode() + b"\n"
+                  for lines in NO_COUNTS]
+        cut = [first, case.report[:-1], case.report[:-2], case.report + b"at"]
+        for report in cut + faults:
+            for out in (None, str(self.out)):
+                status, said, error = self.run_on(case, report, out)
+                self.assertEqual((status, said), (2, ""), report)
+                self.assertIn("gave no report of this text", error)
 
     def test_no_page(self):
         for out, why in ((self.folder, "cannot write"),

@@ -1,24 +1,27 @@
 """Pages: that they are well formed, self-contained, escape what a text holds,
-and have the steps of the report as their data."""
+and have the steps or the settings of the report in their tables."""
 
 import re
 import unittest
 from html.parser import HTMLParser
 
 import page
+import plain
 from explaining import explained_by
 from sentences import BREAKS
-from stored import cases, counter
-from traces import Unsafe, report_of
+from stored import all_settings, cases, counter
+from traces import Safe, Unsafe, report_of
 
 EMPTY = {"meta", "input"}
 ENDS = "(the text ends here)"
 LOADING = {"src", "href", "action", "data", "srcset", "poster"}
+TABLES = ("scroll steps", "scroll settings")
 
 
 class Page(HTMLParser):
     """The tags with their attributes, what is read outside scripts and
-    styles, the lines of the text, its spans, and the rows of the steps."""
+    styles, the lines of the text, its spans, and the rows of the table of
+    steps or settings."""
 
     def __init__(self, said):
         super().__init__()
@@ -28,8 +31,8 @@ class Page(HTMLParser):
         self.close()
         assert not self.open, self.open
 
-    def inside(self, what):
-        return any(what in pair for pair in self.open)
+    def inside(self, *what):
+        return any(one in pair for pair in self.open for one in what)
 
     def handle_starttag(self, tag, attributes):
         attributes = dict(attributes)
@@ -40,7 +43,7 @@ class Page(HTMLParser):
             self.lines.append("")
         if tag == "span":
             self.spans.append((attributes, ""))
-        if self.inside("scroll steps"):
+        if self.inside(*TABLES):
             if tag == "tr":
                 self.rows.append([])
             elif tag in ("th", "td"):
@@ -57,7 +60,7 @@ class Page(HTMLParser):
             self.lines[-1] += data
         if self.inside("span"):
             self.spans[-1] = (self.spans[-1][0], self.spans[-1][1] + data)
-        if self.inside("scroll steps") and self.inside("tr"):
+        if self.inside(*TABLES) and self.inside("tr"):
             self.rows[-1][-1] += data
 
 
@@ -96,9 +99,12 @@ class Pages(unittest.TestCase):
         """The page has the sentences of the plain explanation, and a script
         only where there is something to step through."""
         first, *rest = case.plain.replace("`", "").splitlines()
-        unsafe = isinstance(report_of(case.report), Unsafe)
+        report = report_of(case.report)
+        unsafe = isinstance(report, Unsafe)
         if unsafe:
             rest = rest[rest.index(BREAKS):]
+        if isinstance(report, Safe):
+            rest = rest[:2]
         for line in first.split(". ") + rest:
             for piece in line.strip().split("  "):
                 self.assertIn(piece.strip(), found.read)
@@ -149,6 +155,53 @@ class Pages(unittest.TestCase):
             self.assertEqual(list(steps_of(rows)),
                              [(0, "start", 0, meant.start)] + steps)
             self.assertEqual(len(names), sum(meant.counts[:2]))
+
+    def test_settings(self):
+        """The cells are those of the plain table, where bars are marks."""
+        safe = [(case.text, case.report) for case in cases()
+                if case.name in ("safe", "safe_settings", "safe_rare")]
+        self.assertEqual(len(safe), 3)
+        for text, report in [*safe, all_settings()]:
+            heads, *rows = Page(page_of(text, report)).rows
+            lines = explained_by(plain, "FILE", text, report_of(report))[4:]
+            cells = [[*before, *last.split()] for *before, last in
+                     (map(str.strip, line.split(" | ")) for line in lines)]
+            self.assertEqual(heads, cells[0])
+            self.assertEqual([[said.replace("not\xa0", "not ")
+                               for said in row] for row in rows],
+                             [[*row[:-1], ""] for row in cells[1:]])
+            self.assertEqual([(int(row[0]), int(row[-3].replace(",", "")))
+                              for row in rows],
+                             [(setting.number, setting.states) for setting
+                              in report_of(report).settings])
+
+    def test_bars(self):
+        """One in each row, in percent of the longest, for eyes alone."""
+        for text, report in [*((case.text, case.report) for case in cases()),
+                             all_settings()]:
+            found, meant = Page(page_of(text, report)), report_of(report)
+            counts = ([setting.states for setting in meant.settings]
+                      if isinstance(meant, Safe) and meant.counts[0] else [])
+            charts = [attributes for tag, attributes in found.tags
+                      if tag == "svg"]
+            self.assertEqual(charts, [{"aria-hidden": "true"}] * len(counts))
+            bars = [attributes for tag, attributes in found.tags
+                    if tag == "rect"]
+            self.assertEqual(len(bars), len(counts))
+            for count, chart in zip(counts, bars):
+                length = int(chart["width"].removesuffix("%"))
+                due = 100 * count / max(counts)
+                self.assertLessEqual(abs(length - max(1, due)), 0.5)
+                self.assertEqual(chart["height"], "100%")
+
+    def test_small_shares_are_escaped(self):
+        case = next(case for case in cases() if case.name == "safe_rare")
+        self.assertIn("<td>&lt;0.1%</td>", page_of(case.text, case.report))
+
+    def test_no_table_without_shared_names(self):
+        case = next(case for case in cases() if case.name == "safe_rows")
+        found = Page(page_of(case.text, case.report))
+        self.assertNotIn("table", [tag for tag, _ in found.tags])
 
     def test_changes_are_marked(self):
         text, report = counter()

@@ -4,7 +4,7 @@ import unittest
 
 import plain
 from explaining import explained_by
-from stored import MOST_STEPS, cases, counter
+from stored import MOST_SETTINGS, MOST_STEPS, all_settings, cases, counter
 from traces import report_of
 
 
@@ -43,6 +43,30 @@ class Stored(unittest.TestCase):
                                  else f"{was}>{now}")
             self.assertEqual(len(shown), 12)
         self.assertEqual(lines[MOST_STEPS + 1], "")
+
+    def test_most_settings(self):
+        """The table has every setting, with all names."""
+        lines = said(*all_settings())
+        self.assertIn("2,944 of 4,096 states, at 256 of 256", lines[2])
+        self.assertEqual(len(lines[5:]), MOST_SETTINGS)
+        for number, line in enumerate(lines[5:]):
+            shown, names, reached = line.split(" | ")
+            self.assertEqual(int(shown), number)
+            self.assertEqual(names.strip().split(", "),
+                             [f"low_{j}" if number >> j & 1 else f"not low_{j}"
+                              for j in range(8)])
+            self.assertEqual(reached.split(),
+                             [["4", "0.1%", "#" * 6], ["16", "0.5%", "#" * 24],
+                              ["10", "0.3%", "#" * 15],
+                              ["16", "0.5%", "#" * 24]][number % 4])
+
+    def test_no_names_at_all(self):
+        lines = said(b"shared. row. start 1 each 1. keep 1 each 1. "
+                     b"command c if 1 do skip else skip.",
+                     b"model 0 0 1\nsafe\nstates 1\nat 0 1\n")
+        self.assertEqual(lines[2:], [
+            "Runs over a table of one row reach 1 of 1 state. There are no "
+            "shared names, so there is one setting, 0."])
 
 
 if __name__ == "__main__":

@@ -1,4 +1,5 @@
-"""The lines of a report: a refusal, a verdict alone, or a run by its states."""
+"""The lines of a report: a refusal, void alone, how many states are reached
+where the model is safe, or a run by its states."""
 
 from dataclasses import dataclass
 
@@ -14,8 +15,21 @@ class Refused:
 
 
 @dataclass(frozen=True)
+class Setting:
+    """How many states have the shared names set like this."""
+
+    number: int
+    states: int
+
+
+@dataclass(frozen=True)
 class Safe:
     counts: tuple
+    settings: tuple
+
+    @property
+    def total(self):
+        return sum(setting.states for setting in self.settings)
 
 
 @dataclass(frozen=True)
@@ -44,7 +58,10 @@ class Unsafe:
 def report_of(said):
     """What a report says, in its bytes."""
     try:
-        return report_in([line.split() for line in said.decode().splitlines()])
+        *lines, rest = said.decode().split("\n")
+        if rest:
+            raise Unreadable
+        return report_in([line.split(" ") for line in lines])
     except (ValueError, IndexError, TypeError) as fault:
         raise Unreadable from fault
 
@@ -54,7 +71,7 @@ def report_in(lines):
         return Refused(*numbers(lines[0]))
     counts = tuple(numbers(lines[0]))
     if lines[1] == ["safe"]:
-        return Safe(counts)
+        return Safe(counts, settings_in(lines[2:]))
     if lines[1:] == [["void"]]:
         return Void(counts)
     steps = tuple(Step(name, int(word), int(after))
@@ -62,6 +79,21 @@ def report_in(lines):
     if numbers(lines[1]) != [len(steps)]:
         raise Unreadable
     return Unsafe(counts, numbers(lines[2])[0], steps)
+
+
+def settings_in(lines):
+    """The settings that lines tell, which have to be just the lines that
+    these settings have, in ascending order and each with a state."""
+    settings = tuple(Setting(*numbers(line)) for line in lines[1:])
+    order = [setting.number for setting in settings]
+    states = [setting.states for setting in settings]
+    told = [["states", str(sum(states))]]
+    told += [["at", str(number), str(count)]
+             for number, count in zip(order, states)]
+    if (lines != told or order != sorted(set(order)) or order[0] < 0
+            or min(states) < 1):
+        raise Unreadable
+    return settings
 
 
 def numbers(line):

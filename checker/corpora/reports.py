@@ -7,12 +7,14 @@ follows, or the refusal or its number.
 from corpora import reports_order
 from corpora import reports_random
 from corpora import reports_runs
+from corpora import reports_settings
 from corpora import reports_texts
 from corpora import reports_void
 from inputs.feed import gathered
 
 GROUPS = (reports_texts.GROUPS + reports_runs.GROUPS + reports_void.GROUPS
-          + reports_order.GROUPS + reports_random.GROUPS)
+          + reports_settings.GROUPS + reports_order.GROUPS
+          + reports_random.GROUPS)
 
 
 def corpus():

@@ -3,7 +3,7 @@
 from evidence.one_row import OneRow
 from evidence.searching import search
 from evidence.sheets import map_sheet, trace_sheet
-from reader.model import Refusal
+from reader.model import Refusal, Shared
 from reader.reading import read
 
 
@@ -12,6 +12,21 @@ def verdict(table, found):
     if not table.can_start():
         return "void"
     return "unsafe" if isinstance(found, tuple) else "safe"
+
+
+def setting(table, state):
+    """The number that the shared names give a state, name by name."""
+    return sum(2 ** j for j in range(table.shared)
+               if table.value(Shared(j), state, 0))
+
+
+def count_lines(table, members):
+    """How many members there are, and how many at each setting that one of
+    them has, from the lowest setting up."""
+    settings = [setting(table, state) for state in members]
+    return [f"states {len(settings)}"] + [
+        f"at {number} {settings.count(number)}"
+        for number in sorted(set(settings))]
 
 
 def report_lines(text):
@@ -23,8 +38,10 @@ def report_lines(text):
     said = verdict(table, found)
     lines = [f"model {len(model.shared)} {len(model.row)} "
              f"{len(model.commands)}"]
-    if said != "unsafe":
+    if said == "void":
         return lines + [said]
+    if said == "safe":
+        return lines + [said, *count_lines(table, found)]
     start, steps = found
     lines += [f"unsafe {len(steps)}", f"start {start}"]
     for number, (command, word, after) in enumerate(steps, 1):

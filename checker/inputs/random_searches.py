@@ -4,6 +4,7 @@ import random
 
 from corpora.reports_order import random_graph
 from corpora.reports_random import larger_text
+from inputs.random_settings import spread_text
 from inputs.random_texts import random_texts
 from inputs.small_models import small_text
 from reader.model import Refusal
@@ -18,12 +19,14 @@ def random_models(count, seed):
     texts = []
     while len(texts) < count:
         kind = rng.random()
-        if kind < 0.45:
+        if kind < 0.4:
             text = small_text(rng).encode()
-        elif kind < 0.75:
+        elif kind < 0.63:
             text = random_graph(rng).encode()
-        elif kind < 0.95 or not other:
+        elif kind < 0.77:
             text = larger_text(rng, MOST_STEPS).encode("latin-1")
+        elif kind < 0.95 or not other:
+            text = spread_text(rng, MOST_STEPS).encode("latin-1")
         else:
             text = other.pop()
             if not isinstance(read(text), Refusal):

@@ -169,7 +169,8 @@ class Reports(unittest.TestCase):
     def test_worked_examples(self):
         self.assertEqual(report(G.encode()),
                          "model 1 2 1\nunsafe 1\nstart 1\nstep 1 grant 3 7\n")
-        self.assertEqual(report(H.encode()), "model 1 2 1\nsafe\n")
+        self.assertEqual(report(H.encode()),
+                         "model 1 2 1\nsafe\nstates 3\nat 1 3\n")
         self.assertEqual(report(G_VOID.encode()), "model 1 2 1\nvoid\n")
         self.assertEqual(report(b""), "refused 3 0\n")
         self.assertEqual(sheet(G.encode()), G_SHEET)

@@ -1,30 +1,21 @@
--- The conditions A, B and C, and whether there is no start state, one turn of a loop at a time; and the bit of a map.
+-- The conditions A, B and C, and whether there is no start state, one turn of a loop at a time.
 -- Assumes nothing.
 use mathlib.Core.Path.{_≡_, refl, sym, ap, _∙_, subst}
 use mathlib.Core.Bool.{Bool, true, false, not, _&&_}
 use mathlib.Core.List.{List}
 use mathlib.Core.Logic.{_⊎_, inl, inr}
-use Prim.Native.Nat.{ℕ, zero, suc, _+_, _*_, _/_, _%_, _^_, _<_, _≤_}
+use Prim.Native.Nat.{ℕ, zero, suc, _+_, _*_, _/_, _^_, _<_, _≤_}
 use native.Mathlib.Omega.{arith}
 use native.Mathlib.Numerals.{add-one}
 use native.Mathlib.Nat.{mod-lt, not-suc-le-zero, le-of-suc-le-suc, eq-or-lt-of-le}
-use lib.ListN.{getD, drop}
-use lib.Seq.{slice, getD-take, getD-drop}
-use lib.Dec.{eqb}
+use lib.Seq.{slice}
 use lib.Pow.{pow-pos}
-use Rattle.meaning.specs.Bits.{bit}
 use Rattle.meaning.specs.Evidence.{inMap}
 use Rattle.meaning.specs.working.Conditions.{every, implies, wordsStay, testVoid, testA, testB, testC, closedAt}
 use Rattle.evaluation.specs.working.CodeMachine.{runOf, startOf}
 use Rattle.evaluation.specs.working.Batches.{afterOf}
 use Rattle.evaluation.specs.working.CodeSystem.{segmentOf, nextIn, Bounds}
 use Rattle.evaluation.proofs.OneRowCode.{cut}
-use Rattle.sheets.specs.working.SheetReading.{mapIn}
-
--- The bit that the code reads is that of the map.
-pub bit-in : (b : List ℕ) (p n s byte : ℕ) → s / 8 < n → byte ≡ getD b (p + s / 8) 0 → eqb (byte / 2 ^ (s % 8) % 2) 1 ≡ inMap (mapIn b p n) s
-unfolding inMap mapIn bit
-bit-in b p n s byte h e = rw (getD-take n (drop p b) (s / 8) 0 h, getD-drop p b (s / 8) 0, e)
 
 -- A state of n bits after a command has its bit in a map that has one for each.
 pub member-room : (os : List ℕ) (s n w x m : ℕ) → x ≡ afterOf os s n w → 2 ^ n ≤ 8 * m → x / 8 < m

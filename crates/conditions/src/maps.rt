@@ -1,6 +1,6 @@
 // The conditions A, B and C on a map, whose n bytes stand in the sheet from p on, and whether there is a start state.
 ghost use mathlib.Core.Path.{_≡_};
-ghost use Prim.Native.Nat.{_+_, _*_, _/_, _^_, _<_, _≤_};
+ghost use Prim.Native.Nat.{_+_, _*_, _^_, _<_, _≤_};
 ghost use lib.Seq.{slice};
 ghost use Rattle.meaning.specs.Evidence.{inMap};
 ghost use Rattle.meaning.specs.working.Conditions.{every, testVoid, testA, testB, testC, closedAt};
@@ -19,16 +19,7 @@ use evaluation::one_row::segment;
 use evaluation::one_row::starts;
 use evaluation::one_row::word_count;
 use evaluation::plan::Plan;
-use sheets::fields::wide;
-
-// Whether state s is a member.
-fn in_map(b: &[u8], p: usize, n: usize, s: usize) -> bool
-    requires { do ⌜ (p + n ≤ (← ⟦b.len()⟧)) × (s / 8 < n) ⌝ }
-    ensures { λ r. ⌜ r ≡ inMap (mapIn (now (b .entry)) p n) s ⌝ }
-{
-    let byte = wide(b[p + s / 8]);
-    (byte >> (s % 8)) % 2 == 1
-}
+use sheets::fields::in_map;
 
 // What is found of the start states: whether all are members, and whether there is none.
 struct StartStates {

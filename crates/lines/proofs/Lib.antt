@@ -2,3 +2,4 @@
 pub mod Stores
 pub mod Digits
 pub mod Parts
+pub mod LineLengths

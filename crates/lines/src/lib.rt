@@ -1,5 +1,6 @@
 // Lines of words and numbers, put into a lent buffer one part behind the other.
-ghost use Rattle.lines.specs.Lines.{decimalOf, word, refusalLine};
+ghost use mathlib.Core.List.{[], _∷_};
+ghost use Rattle.lines.specs.Lines.{decimalOf, word, line, refusalLine};
 ghost use Rattle.lines.specs.Puts.{Fits, Puts};
 
 // Puts bytes from a place of the buffer on; the place behind them.
@@ -34,13 +35,31 @@ pub fn put_number(out: &mut [u8], at: usize, n: usize) -> usize
     put_word(out, at, &digits[..k])
 }
 
+// A line of a word and a number.
+pub fn put_number_line(out: &mut [u8], at: usize, title: &[u8], n: usize) -> usize
+    requires { ⌜ Fits (now out) at (line (now title ∷ decimalOf n ∷ [])) ⌝ }
+    ensures { λ r. ⌜ Puts (now (out .entry)) at (line (now (title .entry) ∷ decimalOf n ∷ [])) (now (out .exit)) r ⌝ }
+{
+    let titled = put(out, at, title);
+    let numbered = put_number(out, titled, n);
+    put(out, numbered, b"\n")
+}
+
+// A line of a word and two numbers.
+pub fn put_numbers_line(out: &mut [u8], at: usize, title: &[u8], n: usize, k: usize) -> usize
+    requires { ⌜ Fits (now out) at (line (now title ∷ decimalOf n ∷ decimalOf k ∷ [])) ⌝ }
+    ensures { λ r. ⌜ Puts (now (out .entry)) at (line (now (title .entry) ∷ decimalOf n ∷ decimalOf k ∷ [])) (now (out .exit)) r ⌝ }
+{
+    let titled = put(out, at, title);
+    let first = put_number(out, titled, n);
+    let second = put_number(out, first, k);
+    put(out, second, b"\n")
+}
+
 // `refused`, a refusal's number and its place.
 pub fn put_refusal(out: &mut [u8], at: usize, number: usize, place: usize) -> usize
     requires { ⌜ Fits (now out) at (refusalLine number place) ⌝ }
     ensures { λ r. ⌜ Puts (now (out .entry)) at (refusalLine number place) (now (out .exit)) r ⌝ }
 {
-    let title = put(out, at, b"refused");
-    let first = put_number(out, title, number);
-    let second = put_number(out, first, place);
-    put(out, second, b"\n")
+    put_numbers_line(out, at, b"refused", number, place)
 }

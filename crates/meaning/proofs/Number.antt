@@ -5,12 +5,12 @@ use mathlib.Core.HLevel.{Σ-prop-path}
 use mathlib.Core.Bool.{Bool, true, false, cond}
 use mathlib.Core.List.{List, [], _∷_, _++_}
 use Prim.Native.Nat.{ℕ, zero, suc, _+_, _*_, _/_, _%_, _^_, _<_}
-use native.Mathlib.Nat.{zero-div, div-one, pow-suc, zero-add, suc-add}
+use native.Mathlib.Nat.{zero-div, div-one, pow-suc, zero-add, suc-add, mod-eq-of-lt}
 use native.Mathlib.Bridge.{le-prop}
 use native.Mathlib.Omega.{arith}
-use lib.Arith.{lt-one}
+use lib.Arith.{lt-one, mod-mul}
 use lib.Dec.{eqb}
-use lib.Pow.{shr-shr}
+use lib.Pow.{pow-pos, shr-shr}
 use lib.ListN.{length, getD, length-append}
 use lib.Seq.{getD-append-add}
 use Rattle.notation.specs.Model.{Model}
@@ -93,15 +93,19 @@ low-bit n = rw div-one (go (n % 2) refl)
     go (suc zero) e = omega arith
     go (suc (suc r)) e = absurd (omega arith)
 
-pub number-first : (k n : ℕ) → n < 2 ^ k → number (first k (bit n)) ≡ n
+-- The lowest k bits make the number's remainder.
+pub number-low : (k n : ℕ) → number (first k (bit n)) ≡ n % 2 ^ k
 unfolding number
-number-first zero n h = omega arith
-number-first (suc k) n h =
-    let h′ : n < 2 ^ k * 2 = rw pow-suc at h in
-    let i : n / 2 < 2 ^ k = omega arith in
+number-low zero n = omega arith
+number-low (suc k) n =
+    let b : n / 2 * 2 + cond (bit n zero) 1 0 ≡ n = low-bit n in
+    let e : n % 2 ^ suc k ≡ n / 2 % 2 ^ k * 2 + n % 2 = ap (λ (x : ℕ). n % x) (pow-suc 2 k) ∙ mod-mul n (pow-pos k) (omega arith) in
     ap (λ (f : ℕ → Bool). number (first k f) * 2 + cond (bit n zero) 1 0) (fun-ext (bit-suc n))
-    ∙ ap (λ (x : ℕ). x * 2 + cond (bit n zero) 1 0) (number-first k (n / 2) i)
-    ∙ low-bit n
+    ∙ ap (λ (x : ℕ). x * 2 + cond (bit n zero) 1 0) (number-low k (n / 2))
+    ∙ (let z : n / 2 % 2 ^ k * 2 + cond (bit n zero) 1 0 ≡ n % 2 ^ suc k = omega (arith, b, e) in z)
+
+pub number-first : (k n : ℕ) → n < 2 ^ k → number (first k (bit n)) ≡ n
+number-first k n h = number-low k n ∙ mod-eq-of-lt h
 
 pub stateNumber-spread : (m : Model) (s : ℕ) → s < stateCount m → stateNumber (spread m One s) ≡ s
 unfolding stateNumber spread

@@ -3,10 +3,14 @@
 use mathlib.Core.Path.{refl}
 use Rattle.verdicts.proofs.SearchCases.{finding}
 use Rattle.lines.specs.Lines.{digitsUpTo, others, line}
+use Rattle.meaning.specs.Bits.{bit}
+use Rattle.meaning.specs.Evidence.{inMap}
+use Rattle.counting.specs.Counts.{below}
+use Rattle.counting.specs.CountLines.{settingLines, countLines}
 use Rattle.reporting.specs.Reports.{stepLines, commandName, verdictLines, reportLines}
 use Rattle.reporting.specs.Cases.{written, cases, AllCases}
 use Rattle.reporting.specs.working.Reporting.{reportIn}
 
 pub all-cases : AllCases
-unfolding finding digitsUpTo others line stepLines commandName verdictLines reportLines reportIn written cases
+unfolding finding digitsUpTo others line bit inMap below settingLines countLines stepLines commandName verdictLines reportLines reportIn written cases
 all-cases = (refl, (refl, (refl, (refl, (refl, tt)))))

@@ -6,6 +6,7 @@ use Prim.Native.Nat.{ℕ, _+_, _*_, _≤_, _<_}
 use native.Mathlib.Omega.{arith}
 use lib.ListN.{length, length-append}
 use lib.Seq.{sets}
+use lib.Pow.{pow-mono}
 use Rattle.notation.specs.Bytes.{bytes}
 use Rattle.notation.specs.Tokens.{Word}
 use Rattle.notation.specs.Notation.{Tree}
@@ -14,41 +15,26 @@ use Rattle.notation.specs.Texts.{TextSaysTree, modelOf}
 use Rattle.notation.specs.working.Machine as N
 use Rattle.notation.specs.working.Answer.{answer}
 use Rattle.notation.proofs.Texts.{says-iff-answer}
-use Rattle.meaning.specs.OneRow.{TraceStep}
+use Rattle.meaning.specs.OneRow.{stateCount, TraceStep}
 use Rattle.meaning.specs.Evidence.{StepFits, Verdict, safeBy, voidBy, unsafeBy}
 use Rattle.meaning.proofs.Lists.{weaken}
-use Rattle.sheets.specs.Sheets.{systemOf}
 use Rattle.verdicts.proofs.SheetBytes.{word-lt}
 use Rattle.io.specs.Counts.{Counts}
-use Rattle.lines.specs.Lines.{decimalOf, line}
+use Rattle.lines.specs.Lines.{decimalOf}
 use Rattle.lines.specs.Puts.{Fits, Puts}
 use Rattle.lines.proofs.Stores.{front-counts}
 use Rattle.lines.proofs.Digits.{digits-below}
-use Rattle.lines.proofs.Parts.{line-length, others-length, end-length, refusal-short}
+use Rattle.lines.proofs.Parts.{refusal-short}
+use Rattle.lines.proofs.LineLengths.{one-word, two-words, four-words, five-words}
+use Rattle.counting.specs.Counts.{settingCount}
+use Rattle.counting.specs.CountLines.{countLines}
+use Rattle.counting.proofs.LinesShort.{count-lines-short}
 use Rattle.reporting.specs.Reports.{countsLine, safeLine, voidLine, unsafeLine, startLine, stepLine, stepLines, commandName, verdictLines, reportLines, longestReport}
 use Rattle.reporting.specs.Promises.{ReportsFit}
 use Rattle.reporting.specs.working.Reporting.{foundFor, reportOf}
 use Rattle.reporting.proofs.NameArrays.{told}
 use Rattle.reporting.proofs.ReportTells.{found-lines, refused-lines}
 use Rattle.reporting.proofs.TextReports.{sheet-length, regular, few, passes, sheet-short}
-
--- How long lines of one, two, four and five words are.
-module _ (a : List ℕ) where
-  one-word : length (line (a ∷ [])) ≡ length a + 1
-  one-word = omega (arith, line-length a [], end-length)
-
-  module _ (b : List ℕ) where
-    two-words : length (line (a ∷ b ∷ [])) ≡ length a + length b + 2
-    two-words = omega (arith, line-length a (b ∷ []), others-length b [], end-length)
-
-    module _ (c d : List ℕ) where
-      four-words : length (line (a ∷ b ∷ c ∷ d ∷ [])) ≡ length a + length b + length c + length d + 4
-      four-words = omega (arith, line-length a (b ∷ c ∷ d ∷ []), others-length b (c ∷ d ∷ []), others-length c (d ∷ []), others-length d [], end-length)
-
-      five-words : (e : List ℕ) → length (line (a ∷ b ∷ c ∷ d ∷ e ∷ [])) ≡ length a + length b + length c + length d + length e + 5
-      five-words e =
-          omega
-          (arith, line-length a (b ∷ c ∷ d ∷ e ∷ []), others-length b (c ∷ d ∷ e ∷ []), others-length c (d ∷ e ∷ []), others-length d (e ∷ []), others-length e [], end-length)
 
 -- Lines with numbers of so many digits.
 counts-short : (a b c : ℕ) → a < 10 → b < 100 → c < 100 → length (countsLine a b c) ≤ 14
@@ -105,8 +91,8 @@ module _ (text : List ℕ) (x : Tree) (says : TextSaysTree text x) where
         after = omega (arith, f .after, few text x says);
       }
 
-  -- The counts with a line of one word.
-  word-short : (l : List ℕ) → length l ≤ 5 → length (countsLine (modelOf x .sharedNames) (modelOf x .rowNames) (length (modelOf x .commands)) ++ l) ≤ longestReport
+  -- The counts with few bytes behind them.
+  word-short : (l : List ℕ) → length l ≤ 3089 → length (countsLine (modelOf x .sharedNames) (modelOf x .rowNames) (length (modelOf x .commands)) ++ l) ≤ longestReport
   word-short l h =
       let g = regular text x says in
       omega (
@@ -119,8 +105,13 @@ module _ (text : List ℕ) (x : Tree) (says : TextSaysTree text x) where
 
   found-short : (v : Verdict) → foundFor (modelOf x) ≡ v → length (reportLines x v) ≤ longestReport
   unfolding reportLines verdictLines
-  found-short (safeBy map) e = word-short safeLine safe-short
-  found-short (voidBy map) e = word-short voidLine void-short
+  found-short (safeBy map) e =
+      let g = regular text x says in
+      let l : length (countLines (stateCount (modelOf x)) (settingCount (modelOf x)) map) ≤ 3084 =
+      count-lines-short (stateCount (modelOf x)) (settingCount (modelOf x)) map (few text x says) (pow-mono (g .fewShared)) in
+      word-short (safeLine ++ countLines (stateCount (modelOf x)) (settingCount (modelOf x)) map)
+      (omega (arith, safe-short, length-append safeLine (countLines (stateCount (modelOf x)) (settingCount (modelOf x)) map)))
+  found-short (voidBy map) e = word-short voidLine (omega (arith, void-short))
   found-short (unsafeBy s xs) e =
       let g = regular text x says in
       let p = passes text x says s xs e in

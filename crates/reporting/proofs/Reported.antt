@@ -3,7 +3,7 @@
 use mathlib.Core.Path.{_≡_, refl, sym, ap, _∙_, subst}
 use mathlib.Core.Bool.{false, true≢false}
 use mathlib.Core.List.{List}
-use Prim.Native.Nat.{ℕ, _≤_}
+use Prim.Native.Nat.{ℕ, _+_, _*_, _≤_}
 use native.Mathlib.Omega.{arith}
 use lib.ListN.{length, take}
 use lib.Seq.{sets, length-sets}
@@ -13,8 +13,8 @@ use Rattle.notation.specs.Notation.{Tree}
 use Rattle.notation.specs.Model.{Model}
 use Rattle.notation.specs.Texts.{TextSays, TextSaysTree, TextRefused, modelOf}
 use Rattle.notation.proofs.Texts.{refused-answer}
-use Rattle.meaning.specs.OneRow.{TraceStep}
-use Rattle.meaning.specs.Evidence.{trace, Verdict, safeBy, voidBy, unsafeBy}
+use Rattle.meaning.specs.OneRow.{stateCount, TraceStep}
+use Rattle.meaning.specs.Evidence.{safe, trace, Verdict, safeBy, voidBy, unsafeBy}
 use Rattle.reader.specs.Read.{readingOf}
 use Rattle.sheets.specs.Sheets.{systemOf, sheetBytes}
 use Rattle.verdicts.specs.declared.finding.Finding.{Finding}
@@ -27,20 +27,27 @@ use Rattle.verdicts.proofs.SheetsPass as P
 use Rattle.verdicts.proofs.SheetsPass.{front}
 use Rattle.lines.specs.Lines.{refusalLine}
 use Rattle.reporting.specs.working.Reporting.{foundFor, reportOf}
-use Rattle.reporting.specs.working.Writing.{safeReport, voidReport, traceReport, Printable}
+use Rattle.reporting.specs.working.Writing.{safeReport, voidReport, traceReport, MapShown, Printable}
 use Rattle.reporting.proofs.ReportTells.{refused-lines}
-use Rattle.reporting.proofs.TextReports.{few, safe-said, void-said, sheet-short, trace-shown, trace-said}
+use Rattle.reporting.proofs.TextReports.{few, map-sheet-short, map-shown, safe-said, void-said, sheet-short, trace-shown, trace-said}
 
--- A trace of n bytes is at the front of the sheet.
-pub record TraceTold (text : List ℕ) (n : ℕ) (sheet : List ℕ) : Type 0 where
-  pub within : n ≤ length sheet
-  pub shown : Printable text (readingOf text .code) (take n sheet)
-  pub lines : traceReport text (readingOf text .code) (take n sheet) ≡ reportOf text
+-- The first n bytes of the buffer are a sheet that can be shown so, and make the text's report.
+pub record SheetTold (text : List ℕ) (Shows : List ℕ → Type 0) (report : List ℕ → List ℕ) (n : ℕ) (buffer : List ℕ) : Type 0 where
+  pub within : n ≤ length buffer
+  pub shown : Shows (take n buffer)
+  pub lines : report (take n buffer) ≡ reportOf text
+
+-- They are a map, or a trace.
+abbrev MapTold : List ℕ → ℕ → List ℕ → Type 0
+MapTold text n buffer = SheetTold text (MapShown (readingOf text .code)) (safeReport (readingOf text .code)) n buffer
+
+abbrev TraceTold : List ℕ → ℕ → List ℕ → Type 0
+TraceTold text n buffer = SheetTold text (Printable text (readingOf text .code)) (traceReport text (readingOf text .code)) n buffer
 
 -- What the answer tells of the report.
 pub record Told (text : List ℕ) (left : Left) : Type 0 where
   pub refusal : (n p : ℕ) → Refused n p ≡ left .answer → refusalLine n p ≡ reportOf text
-  pub safely : (n : ℕ) → Safe n ≡ left .answer → safeReport (readingOf text .code) ≡ reportOf text
+  pub safely : (n : ℕ) (d : List ℕ) → Safe n ≡ left .answer → d ≡ left .sheet → MapTold text n d
   pub voidly : (n : ℕ) → Void n ≡ left .answer → voidReport (readingOf text .code) ≡ reportOf text
   pub unsafely : (n : ℕ) (d : List ℕ) → Unsafe n ≡ left .answer → d ≡ left .sheet → TraceTold text n d
 
@@ -57,50 +64,61 @@ differ f g e h = absurd (true≢false (sym (eq-eqb (kind f) (kind g) (ap kind e)
 same-length : (n k : ℕ) → Unsafe n ≡ Unsafe k → n ≡ k
 same-length n k e = cc
 
+same-map-length : (n k : ℕ) → Safe n ≡ Safe k → n ≡ k
+same-map-length n k e = cc
+
 -- Every lent buffer has room for the search of every model.
 module _ (text a b c : List ℕ) (la : 4096 ≤ length a) (lb : 4096 ≤ length b) (lc : 40967 ≤ length c) where
   told-refused : (n i : ℕ) → TextRefused text n i → Told text (leftAlone n i a b c)
   told-refused n i r =
       record {
         refusal = λ k p e. let y : refusalLine k p ≡ refusalLine n i = cc in y ∙ sym (refused-lines text n i (refused-answer r));
-        safely = λ k e. differ (Safe k) (Refused n i) e refl;
+        safely = λ k d e h. differ (Safe k) (Refused n i) e refl;
         voidly = λ k e. differ (Void k) (Refused n i) e refl;
         unsafely = λ k d e h. differ (Unsafe k) (Refused n i) e refl;
       }
 
   module _ (x : Tree) (says : TextSaysTree text x) where
+    -- The bytes v were put at the front of the buffer.
+    told-front : (Shows : List ℕ → Type 0) (report : List ℕ → List ℕ) (v : List ℕ) → length v ≤ 7 + 10 * stateCount (modelOf x) → Shows v → report v ≡ reportOf text
+        → (n : ℕ) (d : List ℕ) → n ≡ length v → d ≡ sets c 0 v → SheetTold text Shows report n d
+    told-front Shows report v l shown lines n d h k =
+        let w : length v ≤ length c = omega (arith, l, few text x says) in
+        let t : take n d ≡ v = ap (λ l. take n l) k ∙ ap (λ i. take i (sets c 0 v)) h ∙ front c v w in
+        record { within = omega (arith, ap length k, length-sets c 0 v); shown = subst Shows (sym t) shown; lines = ap report t ∙ lines }
+
+    told-map : (map : List ℕ) → foundFor (modelOf x) ≡ safeBy map → (n : ℕ) (d : List ℕ)
+        → n ≡ length (sheetBytes (systemOf (modelOf x)) (safe map)) → d ≡ sets c 0 (sheetBytes (systemOf (modelOf x)) (safe map)) → MapTold text n d
+    told-map map f =
+        told-front (MapShown (readingOf text .code)) (safeReport (readingOf text .code)) (sheetBytes (systemOf (modelOf x)) (safe map))
+        (map-sheet-short text x says map f) (map-shown text x says map f) (safe-said text x says map f)
+
     told-trace : (s : ℕ) (xs : List TraceStep) → foundFor (modelOf x) ≡ unsafeBy s xs → (n : ℕ) (d : List ℕ)
         → n ≡ length (sheetBytes (systemOf (modelOf x)) (trace s xs)) → d ≡ sets c 0 (sheetBytes (systemOf (modelOf x)) (trace s xs)) → TraceTold text n d
-    told-trace s xs f n d h k =
-        let v = sheetBytes (systemOf (modelOf x)) (trace s xs) in
-        let w : length v ≤ length c = omega (arith, sheet-short text x says s xs f, few text x says) in
-        let t : take n d ≡ v = ap (λ l. take n l) k ∙ ap (λ i. take i (sets c 0 v)) h ∙ front c v w in
-        record {
-          within = omega (arith, ap length k, length-sets c 0 v);
-          shown = subst (Printable text (readingOf text .code)) (sym t) (trace-shown text x says s xs f);
-          lines = ap (traceReport text (readingOf text .code)) t ∙ trace-said text x says s xs f;
-        }
+    told-trace s xs f =
+        told-front (Printable text (readingOf text .code)) (traceReport text (readingOf text .code)) (sheetBytes (systemOf (modelOf x)) (trace s xs))
+        (sheet-short text x says s xs f) (trace-shown text x says s xs f) (trace-said text x says s xs f)
 
     told-found : (v : Verdict) → foundFor (modelOf x) ≡ v → Told text (leftWith (systemOf (modelOf x)) v a b c)
     unfolding verdictOf
     told-found (safeBy map) f =
         record {
           refusal = λ n p e. differ (Refused n p) (Safe _) e refl;
-          safely = λ n e. safe-said text x says map f;
+          safely = λ n d e k. told-map map f n d (same-map-length n _ e) k;
           voidly = λ n e. differ (Void n) (Safe _) e refl;
           unsafely = λ n d e k. differ (Unsafe n) (Safe _) e refl;
         }
     told-found (voidBy map) f =
         record {
           refusal = λ n p e. differ (Refused n p) (Void _) e refl;
-          safely = λ n e. differ (Safe n) (Void _) e refl;
+          safely = λ n d e k. differ (Safe n) (Void _) e refl;
           voidly = λ n e. void-said text x says map f;
           unsafely = λ n d e k. differ (Unsafe n) (Void _) e refl;
         }
     told-found (unsafeBy s xs) f =
         record {
           refusal = λ n p e. differ (Refused n p) (Unsafe _) e refl;
-          safely = λ n e. differ (Safe n) (Unsafe _) e refl;
+          safely = λ n d e k. differ (Safe n) (Unsafe _) e refl;
           voidly = λ n e. differ (Void n) (Unsafe _) e refl;
           unsafely = λ n d e k. told-trace s xs f n d (same-length n _ e) k;
         }

@@ -4,7 +4,8 @@ use mathlib.Core.Path.{_≡_, refl, sym, ap, _∙_, subst}
 use mathlib.Core.List.{List, [], _∷_, _++_, append-assoc}
 use Prim.Native.Nat.{ℕ, _+_, _*_, _≤_, _<_}
 use native.Mathlib.Omega.{arith}
-use lib.ListN.{length}
+use lib.ListN.{length, take, drop}
+use lib.Seq.{take-length}
 use Rattle.notation.specs.Tokens.{Word}
 use Rattle.notation.specs.Notation.{Tree}
 use Rattle.notation.specs.Model.{Model}
@@ -15,23 +16,26 @@ use Rattle.notation.specs.working.Machine as N
 use Rattle.notation.proofs.Texts.{says-answer}
 use Rattle.notation.proofs.Regular.{all-regular}
 use Rattle.meaning.specs.OneRow.{stateCount, TraceStep}
-use Rattle.meaning.specs.Evidence.{trace, StepFits, TracePasses, Verdict, safeBy, voidBy, unsafeBy, evidenceOf}
+use Rattle.meaning.specs.Evidence.{safe, trace, StepFits, TracePasses, Verdict, safeBy, voidBy, unsafeBy, evidenceOf}
 use Rattle.meaning.proofs.Lists.{weaken}
 use Rattle.evaluation.proofs.Powers.{pow-small}
 use Rattle.reader.specs.declared.Code.{Code}
 use Rattle.reader.specs.Read.{codeOf, nameArray, readingIn, readingOf}
-use Rattle.sheets.specs.Sheets.{System, size, systemOf, sheetBytes, headerBytes, startBytes, stepsBytes, recordBytes, little}
+use Rattle.sheets.specs.Sheets.{System, systemOf, sheetBytes, headerBytes, mapBytes, startBytes, stepsBytes, recordBytes, little}
 use Rattle.sheets.specs.SheetTexts.{twoAt}
-use Rattle.sheets.specs.working.SheetReading.{stepsIn}
+use Rattle.sheets.specs.working.SheetReading.{mapIn, stepsIn}
 use Rattle.acceptance.proofs.TestMeans.{numbers-fit}
 use Rattle.sheets.proofs.SheetWritten.{two-little, steps-there}
-use Rattle.exploration.specs.Findings.{Finds}
+use Rattle.exploration.specs.Findings.{ExactMap, Finds}
 use Rattle.exploration.proofs.FindsRight.{finds}
 use Rattle.exploration.proofs.FoundShort.{trace-sheet-length}
 use Rattle.verdicts.proofs.SearchTells as Left
-use Rattle.reporting.specs.Reports.{countsLine, unsafeLine, startLine, stepLine, stepLines, commandName, verdictLines, reportLines}
+use Rattle.counting.specs.Counts.{settingCount}
+use Rattle.counting.specs.CountLines.{countLines}
+use Rattle.counting.specs.working.Counting.{IsPayload}
+use Rattle.reporting.specs.Reports.{countsLine, safeLine, unsafeLine, startLine, stepLine, stepLines, commandName, verdictLines, reportLines}
 use Rattle.reporting.specs.working.Reporting.{foundFor, reportOf}
-use Rattle.reporting.specs.working.Writing.{nameIn, Named, headerEnd, startIn, stepsOf, traceSteps, safeReport, voidReport, traceReport, Printable}
+use Rattle.reporting.specs.working.Writing.{nameIn, Named, headerEnd, startIn, stepsOf, traceSteps, payloadStart, payloadLength, safeReport, voidReport, traceReport, MapShown, Printable}
 use Rattle.reporting.proofs.NameArrays.{told}
 use Rattle.reporting.proofs.ReportTells.{found-lines}
 
@@ -61,6 +65,25 @@ module _ (m : Model) (s : ℕ) (xs : List TraceStep) where
       ap (stepsIn (sheetBytes M (trace s xs)) (headerEnd + 8)) count-read
       ∙ ap (λ l. stepsIn l (headerEnd + 8) (length xs)) (sym (append-assoc (headerBytes M) (startBytes s) (stepsBytes xs)))
       ∙ steps-there M (numbers-fit m g) xs (headerBytes M ++ startBytes s) (headerEnd + 8) head-long f .1
+
+-- The bytes of a map's sheet say the map.
+module _ (m : Model) (map : List ℕ) where
+  abbrev mapSheet : List ℕ
+  mapSheet = sheetBytes (systemOf m) (safe map)
+
+  map-there : drop payloadStart mapSheet ≡ map
+  unfolding sheetBytes headerBytes mapBytes recordBytes little
+  map-there = refl
+
+  map-sheet-length : length mapSheet ≡ payloadStart + length map
+  unfolding sheetBytes headerBytes mapBytes recordBytes little
+  map-sheet-length = omega arith
+
+  map-read : mapIn mapSheet payloadStart (payloadLength mapSheet) ≡ map
+  unfolding mapIn
+  map-read =
+      let e : payloadLength mapSheet ≡ length map = omega (arith, map-sheet-length) in
+      ap (λ k. take k (drop payloadStart mapSheet)) e ∙ ap (take (length map)) map-there ∙ take-length map
 
 -- Steps whose commands have the same names have the same lines.
 lines-same : (f g : ℕ → Word) (i : ℕ) (xs : List TraceStep) → Every (λ (x : TraceStep). f (x .command) ≡ g (x .command)) xs → stepLines f i xs ≡ stepLines g i xs
@@ -96,16 +119,40 @@ module _ (text : List ℕ) (x : Tree) (says : TextSaysTree text x) where
   code-read = ap (λ (o : N.Outcome). readingIn o .code) (says-answer says)
 
   -- Where a map is found.
-  safe-lines : (map : List ℕ) → safeReport code ≡ reportLines x (safeBy map)
-  unfolding reportLines verdictLines codeOf layoutOf
-  safe-lines map = refl
+  module _ (map : List ℕ) (e : S ≡ safeBy map) where
+    exact : ExactMap m map
+    exact = subst (Finds m) e (finds m regular) .1
 
+    pub map-sheet-short : length (mapSheet m map) ≤ 7 + 10 * stateCount m
+    map-sheet-short = subst (λ y. length (sheetBytes (systemOf m) (evidenceOf y)) ≤ 7 + 10 * stateCount m) e (Left.sheet-short m)
+
+    counted-map : MapShown code (mapSheet m map)
+    unfolding codeOf layoutOf
+    counted-map =
+        record {
+          fewBits = regular .fewNames;
+          fewShared = regular .fewShared;
+          inside = omega (arith, map-sheet-length m map);
+          payload =
+              subst (IsPayload (stateCount m)) (sym (map-read m map))
+              (record { long = exact .long; bytes = exact .bytes; clear = exact .clear });
+        }
+
+    safe-lines : safeReport code (mapSheet m map) ≡ reportLines x (safeBy map)
+    unfolding reportLines verdictLines codeOf layoutOf
+    safe-lines =
+        ap (λ l. countsLine (m .sharedNames) (m .rowNames) (length (m .commands)) ++ (safeLine ++ countLines (stateCount m) (settingCount m) l)) (map-read m map)
+
+    pub map-shown : MapShown (readingOf text .code) (mapSheet m map)
+    map-shown = subst (λ c. MapShown c (mapSheet m map)) (sym code-read) counted-map
+
+    pub safe-said : safeReport (readingOf text .code) (mapSheet m map) ≡ reportOf text
+    safe-said = ap (λ c. safeReport c (mapSheet m map)) code-read ∙ safe-lines ∙ sym (found-lines text x says ∙ ap (reportLines x) e)
+
+  -- Where nothing starts.
   void-lines : (map : List ℕ) → voidReport code ≡ reportLines x (voidBy map)
   unfolding reportLines verdictLines codeOf layoutOf
   void-lines map = refl
-
-  pub safe-said : (map : List ℕ) → S ≡ safeBy map → safeReport (readingOf text .code) ≡ reportOf text
-  safe-said map e = ap safeReport code-read ∙ safe-lines map ∙ sym (found-lines text x says ∙ ap (reportLines x) e)
 
   pub void-said : (map : List ℕ) → S ≡ voidBy map → voidReport (readingOf text .code) ≡ reportOf text
   void-said map e = ap voidReport code-read ∙ void-lines map ∙ sym (found-lines text x says ∙ ap (reportLines x) e)

@@ -21,9 +21,9 @@ pub record Case : Type 0 where
 
 unfoldable pub cases : List Case
 cases =
-    -- G is unsafe by one step, and H is safe
+    -- G is unsafe by one step, and H is safe, with three states at one setting
     record { text = g; report = "model 1 2 1" ∷ "unsafe 1" ∷ "start 1" ∷ "step 1 grant 3 7" ∷ [] } ∷
-    record { text = h; report = "model 1 2 1" ∷ "safe" ∷ [] } ∷
+    record { text = h; report = "model 1 2 1" ∷ "safe" ∷ "states 3" ∷ "at 1 3" ∷ [] } ∷
     -- no step is needed where the start state breaks
     record { text = gKeepsNowhere; report = "model 1 2 1" ∷ "unsafe 0" ∷ "start 1" ∷ [] } ∷
     -- nothing is said of runs where none can begin

@@ -1,4 +1,4 @@
--- The lines of a report: the counts of a model, the verdict, and the first breaking run where there is one.
+-- The lines of a report: the counts of a model, the verdict, and how many states its map has or its first breaking run.
 -- Assumes nothing.
 use mathlib.Core.List.{List, [], _∷_, _++_, map}
 use Prim.Native.Nat.{ℕ, _+_}
@@ -6,10 +6,13 @@ use lib.ListN.{length, getD}
 use Rattle.notation.specs.Bytes.{bytes}
 use Rattle.notation.specs.Tokens.{Word}
 use Rattle.notation.specs.Notation.{Tree, tree′}
+use Rattle.notation.specs.Model.{Model}
 use Rattle.notation.specs.Texts.{modelOf, wordsOf, titleOf}
-use Rattle.meaning.specs.OneRow.{TraceStep}
+use Rattle.meaning.specs.OneRow.{stateCount, TraceStep}
 use Rattle.meaning.specs.Evidence.{Verdict, safeBy, voidBy, unsafeBy}
 use Rattle.lines.specs.Lines.{decimalOf, line}
+use Rattle.counting.specs.Counts.{settingCount}
+use Rattle.counting.specs.CountLines.{countLines}
 
 -- How many shared names, row names and commands the model has.
 abbrev pub countsLine : ℕ → ℕ → ℕ → List ℕ
@@ -44,16 +47,16 @@ stepLines called number (x ∷ xs) = stepLine number (called (x .command)) (x .w
 unfoldable pub commandName : Tree → ℕ → Word
 commandName (tree′ ws vs s k cs) i = getD (wordsOf (map titleOf cs)) i []
 
--- The lines of a verdict: after `unsafe` follows the run, its steps numbered from 1.
-unfoldable pub verdictLines : (ℕ → Word) → Verdict → List ℕ
-verdictLines called (safeBy map) = safeLine
-verdictLines called (voidBy map) = voidLine
-verdictLines called (unsafeBy s xs) = unsafeLine (length xs) ++ (startLine s ++ stepLines called 1 xs)
+-- The lines of a verdict on a model: after `safe` follow the counts of the map, after `unsafe` the run, its steps numbered from 1.
+unfoldable pub verdictLines : Model → (ℕ → Word) → Verdict → List ℕ
+verdictLines m called (safeBy map) = safeLine ++ countLines (stateCount m) (settingCount m) map
+verdictLines m called (voidBy map) = voidLine
+verdictLines m called (unsafeBy s xs) = unsafeLine (length xs) ++ (startLine s ++ stepLines called 1 xs)
 
 -- THE REPORT of the model that a tree says, where this is found.
 unfoldable pub reportLines : Tree → Verdict → List ℕ
 reportLines x v =
-    countsLine (modelOf x .sharedNames) (modelOf x .rowNames) (length (modelOf x .commands)) ++ verdictLines (commandName x) v
+    countsLine (modelOf x .sharedNames) (modelOf x .rowNames) (length (modelOf x .commands)) ++ verdictLines (modelOf x) (commandName x) v
 
 -- A bound on the length of a report: 37 bytes for the first three lines, and 36 for each of 4,095 steps.
 abbrev pub longestReport : ℕ

@@ -1,4 +1,4 @@
-// The report of a text: its counts, the verdict and the first breaking run, or its refusal.
+// The report of a text: its counts, the verdict with the counts of the map or the first breaking run, or its refusal.
 mod names;
 mod run;
 
@@ -11,14 +11,16 @@ ghost use Rattle.reader.specs.Read.{readingOf};
 ghost use Rattle.verdicts.specs.Left.{Leaves};
 ghost use Rattle.verdicts.specs.working.Searching.{searchOf};
 ghost use Rattle.reporting.specs.Reports.{countsLine};
-ghost use Rattle.reporting.specs.working.Writing.{safeReport, voidReport, traceReport, Printable};
+ghost use Rattle.reporting.specs.working.Writing.{safeReport, voidReport, traceReport, MapShown, Printable};
 ghost use Rattle.reporting.specs.working.Reporting.{reportOf};
+use counting::count_lines::put_count_lines;
 use lines::put;
 use lines::put_number;
 use lines::put_refusal;
 use reader::read;
 use run::put_run;
 use search::search;
+use sheets::fields::HEADER;
 use verdicts::finding::Finding;
 
 // Every text's search can do with a table of this size: 12 names have 4,096 states.
@@ -43,14 +45,26 @@ fn put_counts(out: &mut [u8], at: usize, shared: usize, row: usize, commands: us
     put(out, third, b"\n")
 }
 
-// The report of a safe model.
-fn put_safe(out: &mut [u8], text: &[u8]) -> usize
-    requires { ⌜ Fits (now out) 0 (safeReport (readingOf (now text) .code)) ⌝ }
-    ensures { λ r. ⌜ Puts (now (out .entry)) 0 (safeReport (readingOf (now (text .entry)) .code)) (now (out .exit)) r ⌝ }
+// The report of a safe model, whose map stands in the sheet.
+fn put_safe(out: &mut [u8], text: &[u8], sheet: &[u8]) -> usize
+    requires { ⌜ MapShown (readingOf (now text) .code) (now sheet) × Fits (now out) 0 (safeReport (readingOf (now text) .code) (now sheet)) ⌝ }
+    ensures { λ r. ⌜ Puts (now (out .entry)) 0 (safeReport (readingOf (now (text .entry)) .code) (now (sheet .entry))) (now (out .exit)) r ⌝ }
 {
     let code = read(text).code;
-    let counted = put_counts(out, 0, code.shared, code.row, code.commands);
-    put(out, counted, b"safe\n")
+    let shared = code.shared;
+    let row = code.row;
+    let counted = put_counts(out, 0, shared, row, code.commands);
+    let judged = put(out, counted, b"safe\n");
+    let from = HEADER + 6;
+    put_count_lines(
+        out,
+        judged,
+        sheet,
+        from,
+        sheet.len() - from,
+        shared + row,
+        shared,
+    )
 }
 
 // The report of a void model.
@@ -95,7 +109,10 @@ pub fn write_report(
             let n = number as usize;
             put_refusal(out, 0, n, place)
         }
-        Finding::Safe(_) => put_safe(out, text),
+        Finding::Safe(n) => {
+            let bytes: &[u8] = sheet;
+            put_safe(out, text, &bytes[..n])
+        }
         Finding::Void(_) => put_void(out, text),
         Finding::Unsafe(n) => {
             let bytes: &[u8] = sheet;

@@ -7,6 +7,7 @@ use crate::names::Names;
 use crate::names::put_name;
 use lines::put;
 use lines::put_number;
+use lines::put_number_line;
 use sheets::fields::HEADER;
 use sheets::fields::two_at;
 use sheets::fields::wide;
@@ -16,9 +17,7 @@ fn put_verdict(out: &mut [u8], at: usize, steps: usize) -> usize
     requires { ⌜ Fits (now out) at (unsafeLine steps) ⌝ }
     ensures { λ r. ⌜ Puts (now (out .entry)) at (unsafeLine steps) (now (out .exit)) r ⌝ }
 {
-    let title = put(out, at, b"unsafe");
-    let counted = put_number(out, title, steps);
-    put(out, counted, b"\n")
+    put_number_line(out, at, b"unsafe", steps)
 }
 
 // `start` and the start state.
@@ -26,9 +25,7 @@ fn put_start(out: &mut [u8], at: usize, s: usize) -> usize
     requires { ⌜ Fits (now out) at (startLine s) ⌝ }
     ensures { λ r. ⌜ Puts (now (out .entry)) at (startLine s) (now (out .exit)) r ⌝ }
 {
-    let title = put(out, at, b"start");
-    let named = put_number(out, title, s);
-    put(out, named, b"\n")
+    put_number_line(out, at, b"start", s)
 }
 
 // `step`, its number, the command's name, which is name i, the choice word and the state after.

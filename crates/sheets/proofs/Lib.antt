@@ -1,5 +1,6 @@
 -- Laws of sheets, by subject.
 pub mod UnusedBits
+pub mod MapBits
 pub mod SheetLaws
 pub mod SheetOpened
 pub mod SheetRefusals

@@ -1,10 +1,11 @@
-// Numbers in a sheet's bytes, and how long a map is: what the crates above need of sheets too.
+// Numbers in a sheet's bytes, how long a map is, and its members: what the crates above need of sheets too.
 ghost use mathlib.Core.Path.{_≡_};
-ghost use Prim.Native.Nat.{_+_, _*_, _<_, _≤_};
+ghost use Prim.Native.Nat.{_+_, _*_, _/_, _<_, _≤_};
 ghost use lib.ListN.{length};
+ghost use Rattle.meaning.specs.Evidence.{inMap};
 ghost use Rattle.sheets.specs.Sheets.{mapLength};
 ghost use Rattle.sheets.specs.SheetTexts.{twoAt, AreBytes};
-ghost use Rattle.sheets.specs.working.SheetReading.{stepCount};
+ghost use Rattle.sheets.specs.working.SheetReading.{mapIn, stepCount};
 
 // How many bytes a header has: six, and three counts.
 pub const HEADER: usize = 9;
@@ -43,6 +44,15 @@ pub fn map_length(states: usize) -> usize
         return 1;
     }
     n
+}
+
+// Whether state s is a member of the map whose n bytes stand from p on.
+pub fn in_map(b: &[u8], p: usize, n: usize, s: usize) -> bool
+    requires { do ⌜ (p + n ≤ (← ⟦b.len()⟧)) × (s / 8 < n) ⌝ }
+    ensures { λ r. ⌜ r ≡ inMap (mapIn (now (b .entry)) p n) s ⌝ }
+{
+    let byte = wide(b[p + s / 8]);
+    (byte >> (s % 8)) % 2 == 1
 }
 
 // How many records of steps are begun from p on.

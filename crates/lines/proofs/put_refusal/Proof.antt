@@ -1,50 +1,18 @@
--- `put_refusal` meets its contract: its words, one behind the other, are the line.
+-- `put_refusal` meets its contract: its word is the line's.
 -- Assumes nothing.
 use borrow.Author.Needs.{needs}
 use Rattle.notation.specs.Bytes.{bytes}
-use Rattle.lines.proofs.Parts.{line-put, word-put, end-put, line-first, line-rest, word-first, word-rest}
-use Rattle.lines.proofs.Parts.{end-fits}
 use Rattle.lines.proofs.put_refusal.Statement.{statement}
 use Rattle.lines.proofs.put_refusal.Tie as tie
 
-slice-aggregate-put : tie.Need-slice-aggregate-put
-slice-aggregate-put c = search needs
+slice-aggregate-put-numbers-line : tie.Need-slice-aggregate-put-numbers-line
+slice-aggregate-put-numbers-line c = search needs
 
-put-requires : tie.Need-put-requires
+put-numbers-line-requires : tie.Need-put-numbers-line-requires
 unfolding bytes
-put-requires c κs =
+put-numbers-line-requires c κs =
     let start : tie.Start = search in
-    line-first _ _ (start .pre)
-
-put-number-requires : tie.Need-put-number-requires
-unfolding bytes
-put-number-requires c κs =
-    let after-put : tie.After-put = search in
-    let start : tie.Start = search in
-    word-first _ _ (line-rest _ _ (after-put .put .ensures) (start .pre))
-
-put-number-requires-2 : tie.Need-put-number-requires-2
-unfolding bytes
-put-number-requires-2 c κs =
-    let after-put-number : tie.After-put-number = search in
-    let after-put : tie.After-put = search in
-    let start : tie.Start = search in
-    word-first _ _
-    (word-rest _ _ (after-put-number .put-number .ensures) (line-rest _ _ (after-put .put .ensures) (start .pre)))
-
-slice-aggregate-put-2 : tie.Need-slice-aggregate-put-2
-slice-aggregate-put-2 c = search needs
-
-put-requires-2 : tie.Need-put-requires-2
-unfolding bytes
-put-requires-2 c κs =
-    let after-put-number2 : tie.After-put-number2 = search in
-    let after-put-number : tie.After-put-number = search in
-    let after-put : tie.After-put = search in
-    let start : tie.Start = search in
-    end-fits
-    (word-rest _ _ (after-put-number2 .put-number2 .ensures)
-    (word-rest _ _ (after-put-number .put-number .ensures) (line-rest _ _ (after-put .put .ensures) (start .pre))))
+    start .pre
 
 same-length : tie.Need-same-length
 same-length c = search needs
@@ -52,23 +20,14 @@ same-length c = search needs
 returns : tie.Need-returns
 unfolding bytes
 returns c =
-    let after-put2 : tie.After-put2 = search in
-    let after-put-number2 : tie.After-put-number2 = search in
-    let after-put-number : tie.After-put-number = search in
-    let after-put : tie.After-put = search in
-    line-put _ _ (after-put .put .ensures)
-    (word-put _ _ (after-put-number .put-number .ensures)
-    (word-put _ _ (after-put-number2 .put-number2 .ensures) (end-put (after-put2 .put2 .ensures))))
+    let after-put-numbers-line : tie.After-put-numbers-line = search in
+    after-put-numbers-line .put-numbers-line .ensures
 
 pub put-refusal-spec : {M : Type 1} → statement M
 put-refusal-spec =
     tie.close
     (tie.spec
-    slice-aggregate-put
-    put-requires
-    put-number-requires
-    put-number-requires-2
-    slice-aggregate-put-2
-    put-requires-2
+    slice-aggregate-put-numbers-line
+    put-numbers-line-requires
     same-length
     returns)

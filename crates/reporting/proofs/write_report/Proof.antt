@@ -33,54 +33,62 @@ put-refusal-requires c κs =
     let start : tie.Start = search in
     refusal-fits (start .args .out .now) _ _ (omega arith)
 
-enum-told : tie.Need-enum-told
-enum-told c = search needs
+enum-known-found-2 : tie.Need-enum-known-found-2
+enum-known-found-2 c = search needs
+
+slice-aggregate-put-safe : tie.Need-slice-aggregate-put-safe
+slice-aggregate-put-safe c =
+    let after-found2 : tie.After-found2 = search in
+    let after-search : tie.After-search = search in
+    let s = after-search .search in
+    let e = sym (after-found2 .found2 .given .1) ∙ s .ensures .0 in
+    let t = told after-search .safely _ (s .last .1 .1 .1 .0) e (s .ensures .1 .0 .2) in
+    sym (length-take-le _ _ (t .within))
 
 put-safe-requires : tie.Need-put-safe-requires
 put-safe-requires c κs =
+    let after-found2 : tie.After-found2 = search in
     let after-search : tie.After-search = search in
     let start : tie.Start = search in
     let a = start .args in
-    let e = sym (c .before .enum-told .given .1) ∙ after-search .search .ensures .0 in
-    report-fits (a .text .now) _
-    (told after-search .safely _ e)
-    (a .out .now) (omega arith)
+    let s = after-search .search in
+    let e = sym (after-found2 .found2 .given .1) ∙ s .ensures .0 in
+    let t = told after-search .safely _ (s .last .1 .1 .1 .0) e (s .ensures .1 .0 .2) in
+    (t .shown, report-fits (a .text .now) _ (t .lines) (a .out .now) (omega arith))
 
-enum-told-2 : tie.Need-enum-told-2
-enum-told-2 c = search needs
+enum-told : tie.Need-enum-told
+enum-told c = search needs
 
 put-void-requires : tie.Need-put-void-requires
 put-void-requires c κs =
     let after-search : tie.After-search = search in
     let start : tie.Start = search in
     let a = start .args in
-    let e = sym (c .before .enum-told2 .given .1) ∙ after-search .search .ensures .0 in
+    let e = sym (c .before .enum-told .given .1) ∙ after-search .search .ensures .0 in
     report-fits (a .text .now) _
     (told after-search .voidly _ e)
     (a .out .now) (omega arith)
 
-enum-known-found-2 : tie.Need-enum-known-found-2
-enum-known-found-2 c = search needs
+enum-known-found-3 : tie.Need-enum-known-found-3
+enum-known-found-3 c = search needs
 
 slice-aggregate-put-unsafe : tie.Need-slice-aggregate-put-unsafe
 slice-aggregate-put-unsafe c =
-    let after-found2 : tie.After-found2 = search in
+    let after-found3 : tie.After-found3 = search in
     let after-search : tie.After-search = search in
-    let start : tie.Start = search in
-    let a = start .args in
     let s = after-search .search in
-    let e = sym (after-found2 .found2 .given .1) ∙ s .ensures .0 in
+    let e = sym (after-found3 .found3 .given .1) ∙ s .ensures .0 in
     let t = told after-search .unsafely _ (s .last .1 .1 .1 .0) e (s .ensures .1 .0 .2) in
     sym (length-take-le _ _ (t .within))
 
 put-unsafe-requires : tie.Need-put-unsafe-requires
 put-unsafe-requires c κs =
-    let after-found2 : tie.After-found2 = search in
+    let after-found3 : tie.After-found3 = search in
     let after-search : tie.After-search = search in
     let start : tie.Start = search in
     let a = start .args in
     let s = after-search .search in
-    let e = sym (after-found2 .found2 .given .1) ∙ s .ensures .0 in
+    let e = sym (after-found3 .found3 .given .1) ∙ s .ensures .0 in
     let t = told after-search .unsafely _ (s .last .1 .1 .1 .0) e (s .ensures .1 .0 .2) in
     (t .shown, report-fits (a .text .now) _ (t .lines) (a .out .now) (omega arith))
 
@@ -99,25 +107,25 @@ returns c =
 
 returns-2 : tie.Need-returns-2
 returns-2 c =
+    let after-found2 : tie.After-found2 = search in
+    let after-search : tie.After-search = search in
+    let start : tie.Start = search in
+    let a = start .args in
+    let s = after-search .search in
+    let e = sym (after-found2 .found2 .given .1) ∙ s .ensures .0 in
+    let t = told after-search .safely _ (s .last .1 .1 .1 .0) e (s .ensures .1 .0 .2) in
+    let w = report-put (a .text .now) _ (t .lines) (a .out .now) (omega (arith, c .before .before .put-safe-arg .given)) (c .put-safe .last .0)
+    (c .put-safe .result) (c .put-safe .ensures) in
+    (w .0, (w .1, s .ensures .1 .0))
+
+returns-3 : tie.Need-returns-3
+returns-3 c =
     let after-enum-told : tie.After-enum-told = search in
     let after-search : tie.After-search = search in
     let start : tie.Start = search in
     let a = start .args in
     let s = after-search .search in
     let e = sym (after-enum-told .enum-told .given .1) ∙ s .ensures .0 in
-    let t = told after-search .safely _ e in
-    let w = report-put (a .text .now) _ t (a .out .now) (omega (arith, c .before .put-safe-arg .given)) (c .put-safe .last .0) (c .put-safe .result)
-    (c .put-safe .ensures) in
-    (w .0, (w .1, s .ensures .1 .0))
-
-returns-3 : tie.Need-returns-3
-returns-3 c =
-    let after-enum-told2 : tie.After-enum-told2 = search in
-    let after-search : tie.After-search = search in
-    let start : tie.Start = search in
-    let a = start .args in
-    let s = after-search .search in
-    let e = sym (after-enum-told2 .enum-told2 .given .1) ∙ s .ensures .0 in
     let t = told after-search .voidly _ e in
     let w = report-put (a .text .now) _ t (a .out .now) (omega (arith, c .before .put-void-arg .given)) (c .put-void .last .0) (c .put-void .result)
     (c .put-void .ensures) in
@@ -125,12 +133,12 @@ returns-3 c =
 
 returns-4 : tie.Need-returns-4
 returns-4 c =
-    let after-found2 : tie.After-found2 = search in
+    let after-found3 : tie.After-found3 = search in
     let after-search : tie.After-search = search in
     let start : tie.Start = search in
     let a = start .args in
     let s = after-search .search in
-    let e = sym (after-found2 .found2 .given .1) ∙ s .ensures .0 in
+    let e = sym (after-found3 .found3 .given .1) ∙ s .ensures .0 in
     let t = told after-search .unsafely _ (s .last .1 .1 .1 .0) e (s .ensures .1 .0 .2) in
     let w = report-put (a .text .now) _ (t .lines) (a .out .now) (omega (arith, c .before .before .put-unsafe-arg .given)) (c .put-unsafe .last .0)
     (c .put-unsafe .result) (c .put-unsafe .ensures) in
@@ -144,11 +152,12 @@ write-report-spec =
     enum-known-found
     cast-n
     put-refusal-requires
-    enum-told
-    put-safe-requires
-    enum-told-2
-    put-void-requires
     enum-known-found-2
+    slice-aggregate-put-safe
+    put-safe-requires
+    enum-told
+    put-void-requires
+    enum-known-found-3
     slice-aggregate-put-unsafe
     put-unsafe-requires
     returns

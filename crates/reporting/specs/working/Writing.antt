@@ -1,14 +1,16 @@
 -- The report over the flat form of a model and the bytes of a sheet, as the code writes it.
 -- Assumes nothing.
 use mathlib.Core.List.{List, _++_}
-use Prim.Native.Nat.{ℕ, _+_, _-_, _/_, _<_, _≤_}
+use Prim.Native.Nat.{ℕ, _+_, _-_, _/_, _^_, _<_, _≤_}
 use lib.ListN.{length, getD, take, drop}
 use Rattle.notation.specs.Tokens.{Word}
 use Rattle.notation.specs.Regular.{Every}
 use Rattle.meaning.specs.OneRow.{TraceStep}
 use Rattle.reader.specs.declared.Code.{Code}
 use Rattle.sheets.specs.SheetTexts.{twoAt, stepIn}
-use Rattle.sheets.specs.working.SheetReading.{stepsIn}
+use Rattle.sheets.specs.working.SheetReading.{mapIn, stepsIn}
+use Rattle.counting.specs.CountLines.{countLines}
+use Rattle.counting.specs.working.Counting.{Countable}
 use Rattle.reporting.specs.Reports.{countsLine, safeLine, voidLine, unsafeLine, startLine, stepLine, stepLines}
 
 -- The bytes of name i in the text.
@@ -66,9 +68,24 @@ counts c = countsLine (c .shared) (c .row) (c .commands)
 abbrev pub runOf : List ℕ → List ℕ → Code → List ℕ
 runOf text sheet c = runLines text (c .names) (c .shared + c .row) sheet
 
--- The report of a safe model.
-abbrev pub safeReport : Code → List ℕ
-safeReport c = counts c ++ safeLine
+-- Where the payload of a sheet's map begins, and how many bytes it has: all that follow.
+abbrev pub payloadStart : ℕ
+payloadStart = headerEnd + 6
+
+abbrev pub payloadLength : List ℕ → ℕ
+payloadLength sheet = length sheet - payloadStart
+
+-- The lines of that map.
+abbrev pub mapLines : Code → List ℕ → List ℕ
+mapLines c sheet = countLines (2 ^ (c .shared + c .row)) (2 ^ c .shared) (mapIn sheet payloadStart (payloadLength sheet))
+
+-- What they ask of the flat form and the sheet.
+abbrev pub MapShown : Code → List ℕ → Type 0
+MapShown c sheet = Countable (c .shared + c .row) (c .shared) sheet payloadStart (payloadLength sheet)
+
+-- The report of a safe model, whose map stands in the sheet.
+abbrev pub safeReport : Code → List ℕ → List ℕ
+safeReport c sheet = counts c ++ (safeLine ++ mapLines c sheet)
 
 -- The report of a void model.
 abbrev pub voidReport : Code → List ℕ

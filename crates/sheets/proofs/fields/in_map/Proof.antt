@@ -1,9 +1,9 @@
 -- `in_map` meets its contract: it reads the map's bit.
 -- Assumes nothing.
-use Rattle.conditions.proofs.Loops.{bit-in}
+use Rattle.sheets.proofs.MapBits.{bit-in}
 use borrow.Author.Needs.{needs}
-use Rattle.conditions.proofs.maps.in_map.Statement.{statement}
-use Rattle.conditions.proofs.maps.in_map.Tie as tie
+use Rattle.sheets.proofs.fields.in_map.Statement.{statement}
+use Rattle.sheets.proofs.fields.in_map.Tie as tie
 
 add-wide : tie.Need-add-wide
 add-wide c = search needs

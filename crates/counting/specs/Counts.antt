@@ -1,0 +1,72 @@
+-- The members of a map: which they are, and how many, in all and for each setting of the shared names.
+-- Assumes nothing.
+use mathlib.Core.Path.{_≡_}
+use mathlib.Core.Logic.{_↔_, _⊎_}
+use mathlib.Core.Bool.{Bool, cond, _&&_}
+use mathlib.Core.List.{List, [], _∷_, _++_}
+use Prim.Native.Nat.{ℕ, zero, suc, _+_, _%_, _^_, _<_}
+use lib.Dec.{eqb, ltb}
+use lib.ListN.{length}
+use lib.Count.{ones}
+use Rattle.notation.specs.Model.{Model}
+use Rattle.notation.specs.Regular.{Every}
+use Rattle.meaning.specs.Evidence.{inMap}
+
+-- The numbers below n that pass a test, ascending.
+unfoldable pub below : ℕ → (ℕ → Bool) → List ℕ
+below zero test = []
+below (suc n) test = below n test ++ cond (test n) (n ∷ []) []
+
+-- The members of a map of so many states.
+abbrev pub members : ℕ → List ℕ → List ℕ
+members states map = below states (inMap map)
+
+-- How many there are.
+abbrev pub memberCount : ℕ → List ℕ → ℕ
+memberCount states map = length (members states map)
+
+-- How many settings the shared names of a model have: each is 0 or 1.
+abbrev pub settingCount : Model → ℕ
+settingCount m = 2 ^ m .sharedNames
+
+-- The setting of a state, where there are so many settings. The shared names are the lowest bits of a state's number.
+abbrev pub settingOf : ℕ → ℕ → ℕ
+settingOf settings s = s % settings
+
+-- The members with the setting j, and how many there are.
+abbrev pub membersAt : ℕ → ℕ → List ℕ → ℕ → List ℕ
+membersAt states settings map j = below states (λ s. inMap map s && eqb (settingOf settings s) j)
+
+abbrev pub countAt : ℕ → ℕ → List ℕ → ℕ → ℕ
+countAt states settings map j = length (membersAt states settings map j)
+
+-- The settings that some member has, ascending.
+abbrev pub settingsIn : ℕ → ℕ → List ℕ → List ℕ
+settingsIn states settings map = below settings (λ j. ltb 0 (countAt states settings map j))
+
+-- The number of one bits in bytes.
+unfoldable pub onesOf : List ℕ → ℕ
+onesOf [] = 0
+onesOf (x ∷ xs) = ones x + onesOf xs
+
+-- The sum of numbers.
+unfoldable pub sumOf : List ℕ → ℕ
+sumOf [] = 0
+sumOf (n ∷ ns) = n + sumOf ns
+
+-- The number stands in the list.
+abbrev pub Among : ℕ → List ℕ → Type 0
+Among t [] = ⊥
+Among t (n ∷ ns) = (t ≡ n) ⊎ Among t ns
+
+-- Each number of the list is below those behind it.
+abbrev pub Ascending : List ℕ → Type 0
+Ascending [] = Unit {0}
+Ascending (n ∷ ns) = Every (λ (k : ℕ). n < k) ns × Ascending ns
+
+-- Exactly n numbers are so: a list of that length has them all, none twice, and no others.
+pub record ThereAre (n : ℕ) (P : ℕ → Type 0) : Type 0 where
+  pub these : List ℕ
+  pub many : length these ≡ n
+  pub ascending : Ascending these
+  pub exactly : (t : ℕ) → Among t these ↔ P t
