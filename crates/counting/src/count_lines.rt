@@ -2,7 +2,7 @@
 ghost use Prim.Native.Nat.{_^_, _≤_};
 ghost use Rattle.lines.specs.Puts.{Fits, Puts};
 ghost use Rattle.sheets.specs.working.SheetReading.{mapIn};
-ghost use Rattle.counting.specs.CountLines.{statesLine, settingLine, countLines};
+ghost use Rattle.counting.specs.CountLines.{settingLine, countLines};
 ghost use Rattle.counting.specs.working.Counting.{tableLines, Countable};
 use crate::members::Counts;
 use crate::members::count_members;
@@ -11,14 +11,6 @@ use evaluation::numbers::count;
 use evaluation::numbers::power;
 use lines::put_number_line;
 use lines::put_numbers_line;
-
-// `states` and how many there are.
-fn put_states(out: &mut [u8], at: usize, n: usize) -> usize
-    requires { ⌜ Fits (now out) at (statesLine n) ⌝ }
-    ensures { λ r. ⌜ Puts (now (out .entry)) at (statesLine n) (now (out .exit)) r ⌝ }
-{
-    put_number_line(out, at, b"states", n)
-}
 
 // `at`, a setting and how many have it.
 fn put_setting(out: &mut [u8], at: usize, setting: usize, n: usize) -> usize
@@ -58,7 +50,7 @@ pub fn put_count_lines(
 {
     let settings = power(shared);
     let total = count_members(b, p, n);
-    let told = put_states(out, at, total);
+    let told = put_number_line(out, at, b"states", total);
     let counts = count_settings(b, p, n, power(bits), settings);
     put_settings(out, told, &counts, settings)
 }

@@ -1,7 +1,7 @@
 // The run that a trace says: the verdict, the start state, and a line for each step.
 ghost use Rattle.sheets.specs.SheetTexts.{stepIn};
 ghost use Rattle.lines.specs.Puts.{Fits, Puts};
-ghost use Rattle.reporting.specs.Reports.{unsafeLine, startLine, stepLine};
+ghost use Rattle.reporting.specs.Reports.{stepLine};
 ghost use Rattle.reporting.specs.working.Writing.{nameIn, Named, recordLine, runLines, StepShown, Shown};
 use crate::names::Names;
 use crate::names::put_name;
@@ -11,22 +11,6 @@ use lines::put_number_line;
 use sheets::fields::HEADER;
 use sheets::fields::two_at;
 use sheets::fields::wide;
-
-// `unsafe` and the number of steps.
-fn put_verdict(out: &mut [u8], at: usize, steps: usize) -> usize
-    requires { ⌜ Fits (now out) at (unsafeLine steps) ⌝ }
-    ensures { λ r. ⌜ Puts (now (out .entry)) at (unsafeLine steps) (now (out .exit)) r ⌝ }
-{
-    put_number_line(out, at, b"unsafe", steps)
-}
-
-// `start` and the start state.
-fn put_start(out: &mut [u8], at: usize, s: usize) -> usize
-    requires { ⌜ Fits (now out) at (startLine s) ⌝ }
-    ensures { λ r. ⌜ Puts (now (out .entry)) at (startLine s) (now (out .exit)) r ⌝ }
-{
-    put_number_line(out, at, b"start", s)
-}
 
 // `step`, its number, the command's name, which is name i, the choice word and the state after.
 fn put_step(
@@ -84,8 +68,8 @@ pub fn put_run(
 {
     let from = HEADER + 8;
     let steps = (sheet.len() - from) / 10;
-    let judged = put_verdict(out, at, steps);
-    let mut end = put_start(out, judged, two_at(sheet, HEADER + 6));
+    let judged = put_number_line(out, at, b"unsafe", steps);
+    let mut end = put_number_line(out, judged, b"start", two_at(sheet, HEADER + 6));
     let mut i: usize = 0;
     'steps: while i < steps {
         end = put_record(out, end, text, names, base, sheet, from + 10 * i + 6, i + 1);

@@ -4,6 +4,8 @@ use Prim.Native.Nat.{_+_, _-_, _*_, _^_, _<_, _≤_}
 use mathlib.Core.Path.{_∙_}
 use native.Mathlib.Omega.{arith}
 use lib.ListN.{length}
+use borrow.Author.Needs.{needs}
+use Rattle.notation.specs.Bytes.{bytes}
 use Rattle.lines.proofs.Stores.{keeps}
 use Rattle.reporting.specs.working.Writing.{headerEnd, stepsOf}
 use Rattle.reporting.proofs.Parts.{verdict-room, start-room, steps-room, run-written}
@@ -22,11 +24,12 @@ abbrev μ-steps : tie.MeasureT-steps
 abbrev Start : Type 0
 Start = tie.Start Inv-steps μ-steps
 
-abbrev After-put-verdict : Type 0
-After-put-verdict = tie.After-put-verdict Inv-steps μ-steps
+-- Behind the line of the verdict, and behind that of the start state.
+abbrev After-verdict : Type 0
+After-verdict = tie.After-put-number-line Inv-steps μ-steps
 
-abbrev After-put-start : Type 0
-After-put-start = tie.After-put-start Inv-steps μ-steps
+abbrev After-start : Type 0
+After-start = tie.After-put-number-line2 Inv-steps μ-steps
 
 abbrev After-two-at : Type 0
 After-two-at = tie.After-two-at Inv-steps μ-steps
@@ -47,11 +50,18 @@ add-from c = omega arith
 sub-steps : tie.Need-sub-steps Inv-steps μ-steps
 sub-steps c = omega arith
 
-put-verdict-requires : tie.Need-put-verdict-requires Inv-steps μ-steps
-put-verdict-requires c κs =
+slice-aggregate-put-number-line : tie.Need-slice-aggregate-put-number-line Inv-steps μ-steps
+slice-aggregate-put-number-line c = search needs
+
+put-number-line-requires : tie.Need-put-number-line-requires Inv-steps μ-steps
+unfolding bytes
+put-number-line-requires c κs =
     let start : Start = search in
     let a = start .args in
     verdict-room (a .text .now) (a .names .now) (a .base) (a .sheet .now) (start .pre .1)
+
+slice-aggregate-put-number-line-2 : tie.Need-slice-aggregate-put-number-line-2 Inv-steps μ-steps
+slice-aggregate-put-number-line-2 c = search needs
 
 add-two-at : tie.Need-add-two-at Inv-steps μ-steps
 add-two-at c = omega arith
@@ -61,26 +71,28 @@ two-at-requires c κs =
     let start : Start = search in
     omega (arith, start .pre .0 .long)
 
-put-start-requires : tie.Need-put-start-requires Inv-steps μ-steps
-put-start-requires c κs =
-    let after-put-verdict : After-put-verdict = search in
+put-number-line-requires-2 : tie.Need-put-number-line-requires-2 Inv-steps μ-steps
+unfolding bytes
+put-number-line-requires-2 c κs =
+    let after-verdict : After-verdict = search in
     let start : Start = search in
     let a = start .args in
-    start-room (a .text .now) (a .names .now) (a .base) (a .sheet .now) (after-put-verdict .put-verdict .ensures)
+    start-room (a .text .now) (a .names .now) (a .base) (a .sheet .now) (after-verdict .put-number-line .ensures)
     (c .two-at .ensures .0) (start .pre .1)
 
 steps-holds : tie.Need-steps-holds Inv-steps μ-steps
+unfolding bytes
 steps-holds c =
-    let after-put-start : After-put-start = search in
+    let after-start : After-start = search in
     let after-two-at : After-two-at = search in
-    let after-put-verdict : After-put-verdict = search in
+    let after-verdict : After-verdict = search in
     let at-start : Start = search in
     let a = at-start .args in
     let h : headerEnd + 8 + 10 * stepsOf (a .sheet .now) ≤ length (a .sheet .now) = omega (arith, at-start .pre .0 .long) in
     begun (a .text .now) (a .names .now) (a .base) (a .sheet .now) (headerEnd + 8) (stepsOf (a .sheet .now)) (at-start .pre .0 .few) h
     (at-start .pre .0 .named)
-    (steps-room (a .text .now) (a .names .now) (a .base) (a .sheet .now) (after-put-verdict .put-verdict .ensures)
-    (after-two-at .two-at .ensures .0) (after-put-start .put-start .ensures) (at-start .pre .1))
+    (steps-room (a .text .now) (a .names .now) (a .base) (a .sheet .now) (after-verdict .put-number-line .ensures)
+    (after-two-at .two-at .ensures .0) (after-start .put-number-line2 .ensures) (at-start .pre .1))
 
 mul-put-record : tie.Need-mul-put-record Inv-steps μ-steps
 mul-put-record c =
@@ -126,22 +138,23 @@ steps-again c =
 
 same-length : tie.Need-same-length Inv-steps μ-steps
 same-length c =
-    let after-put-start : After-put-start = search in
-    let after-put-verdict : After-put-verdict = search in
-    c .before .steps .inv .long ∙ keeps (after-put-start .put-start .ensures) ∙ keeps
-    (after-put-verdict .put-verdict .ensures)
+    let after-start : After-start = search in
+    let after-verdict : After-verdict = search in
+    c .before .steps .inv .long ∙ keeps (after-start .put-number-line2 .ensures) ∙ keeps
+    (after-verdict .put-number-line .ensures)
 
 returns : tie.Need-returns Inv-steps μ-steps
+unfolding bytes
 returns c =
-    let after-put-start : After-put-start = search in
+    let after-start : After-start = search in
     let after-two-at : After-two-at = search in
-    let after-put-verdict : After-put-verdict = search in
+    let after-verdict : After-verdict = search in
     let at-start : Start = search in
     let a = at-start .args in
     let n = stepsOf (a .sheet .now) in
     let d = done (a .text .now) (a .names .now) (a .base) (a .sheet .now) (headerEnd + 8) n (c .before .steps .inv) (omega arith) in
-    run-written (a .text .now) (a .names .now) (a .base) (a .sheet .now) (after-put-verdict .put-verdict .ensures)
-    (after-two-at .two-at .ensures .0) (after-put-start .put-start .ensures) d
+    run-written (a .text .now) (a .names .now) (a .base) (a .sheet .now) (after-verdict .put-number-line .ensures)
+    (after-two-at .two-at .ensures .0) (after-start .put-number-line2 .ensures) d
 
 pub put-run-spec : {M : Type 1} → statement M
 put-run-spec =
@@ -151,10 +164,12 @@ put-run-spec =
     μ-steps
     add-from
     sub-steps
-    put-verdict-requires
+    slice-aggregate-put-number-line
+    put-number-line-requires
+    slice-aggregate-put-number-line-2
     add-two-at
     two-at-requires
-    put-start-requires
+    put-number-line-requires-2
     steps-holds
     mul-put-record
     add-put-record
