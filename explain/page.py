@@ -95,18 +95,18 @@ def player(text, lines, model):
 
 def settings_section(report, model):
     lines = setting_lines(report, model, LONGEST_BAR)
-    title = sentences.reached(report)
-    if not model.shared:
-        return f"<p>{title}</p>"
+    names = '<th scope="col">shared names</th>' if model.shared else ""
     return Template(part("settings.html")).substitute(
-        title=title, rows="\n".join(map(setting_row, lines)))
+        title=sentences.reached(report), names=names,
+        rows="\n".join(map(setting_row, lines)))
 
 
 def setting_row(line):
     """The bar says nothing that the cells before it do not say. No `not` is
     parted from its name."""
     names = line.names.replace("not ", "not&nbsp;")
-    return (f'<tr><th>{line.number}</th><td>{names}</td>'
+    words = f'<td class="names">{names}</td>' if names else ""
+    return (f'<tr><th>{line.number}</th>{words}'
             f'<td>{line.states:,}</td><td>{escape(line.share)}</td><td>'
             f'<svg aria-hidden="true"><rect width="{line.bar}%" height="100%"/>'
             '</svg></td></tr>')

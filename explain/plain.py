@@ -24,8 +24,7 @@ def safe(file, text, report, model):
     lines = setting_lines(report, model, LONGEST_BAR)
     return [f"{sentences.verdict(file, 'safe', report.counts)}. "
             f"{sentences.SAFE} {sentences.evidence(file)}",
-            "", sentences.reached(report),
-            *(["", *settings_table(lines)] if model.shared else [])]
+            "", sentences.reached(report), "", *settings_table(lines, model)]
 
 
 def void(file, text, report, model):
@@ -46,14 +45,18 @@ def unsafe(file, text, report, model):
             "", sentences.COPIES]
 
 
-def settings_table(lines):
-    """Three blocks side by side: settings, shared names, how many states."""
+def settings_table(lines, model):
+    """Blocks side by side: settings, shared names if there are any, how many
+    states."""
     numbers = right(["setting"] + [str(line.number) for line in lines])
     names = ["shared names"] + [line.names for line in lines]
     states = right(["states"] + [f"{line.states:,}" for line in lines])
     shares = right(["share"] + [line.share for line in lines])
     bars = [""] + [MARK * line.bar for line in lines]
-    return beside(numbers, alike(names), columns(zip(states, shares, bars)))
+    blocks = [numbers, columns(zip(states, shares, bars))]
+    if model.shared:
+        blocks.insert(1, alike(names))
+    return beside(*blocks)
 
 
 def table(lines, model):

@@ -52,7 +52,7 @@ def reached(report):
             f"{counted(1 << shared + row, 'state')}")
     if not shared:
         return (f"{said}. There are no shared names, so there is one setting, "
-                "0.")
+                "0:")
     names = "the shared name" if shared == 1 else "the shared names"
     return (f"{said}, at {len(report.settings):,} of {1 << shared:,} settings "
             f"of {names}:")

@@ -159,8 +159,8 @@ class Pages(unittest.TestCase):
     def test_settings(self):
         """The cells are those of the plain table, where bars are marks."""
         safe = [(case.text, case.report) for case in cases()
-                if case.name in ("safe", "safe_settings", "safe_rare")]
-        self.assertEqual(len(safe), 3)
+                if case.name.startswith("safe")]
+        self.assertEqual(len(safe), 4)
         for text, report in [*safe, all_settings()]:
             heads, *rows = Page(page_of(text, report)).rows
             lines = explained_by(plain, "FILE", text, report_of(report))[4:]
@@ -181,7 +181,7 @@ class Pages(unittest.TestCase):
                              all_settings()]:
             found, meant = Page(page_of(text, report)), report_of(report)
             counts = ([setting.states for setting in meant.settings]
-                      if isinstance(meant, Safe) and meant.counts[0] else [])
+                      if isinstance(meant, Safe) else [])
             charts = [attributes for tag, attributes in found.tags
                       if tag == "svg"]
             self.assertEqual(charts, [{"aria-hidden": "true"}] * len(counts))
@@ -198,10 +198,11 @@ class Pages(unittest.TestCase):
         case = next(case for case in cases() if case.name == "safe_rare")
         self.assertIn("<td>&lt;0.1%</td>", page_of(case.text, case.report))
 
-    def test_no_table_without_shared_names(self):
+    def test_no_column_without_shared_names(self):
         case = next(case for case in cases() if case.name == "safe_rows")
-        found = Page(page_of(case.text, case.report))
-        self.assertNotIn("table", [tag for tag, _ in found.tags])
+        self.assertEqual(Page(page_of(case.text, case.report)).rows,
+                         [["setting", "states", "share"],
+                          ["0", "3", "100%", ""]])
 
     def test_changes_are_marked(self):
         text, report = counter()

@@ -66,7 +66,8 @@ class Stored(unittest.TestCase):
                      b"model 0 0 1\nsafe\nstates 1\nat 0 1\n")
         self.assertEqual(lines[2:], [
             "Runs over a table of one row reach 1 of 1 state. There are no "
-            "shared names, so there is one setting, 0."])
+            "shared names, so there is one setting, 0:", "",
+            "setting | states  share", f"      0 |      1   100%  {'#' * 24}"])
 
 
 if __name__ == "__main__":
