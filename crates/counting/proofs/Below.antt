@@ -10,6 +10,7 @@ use native.Mathlib.Nat.{not-suc-le-zero, le-of-suc-le-suc, eq-or-lt-of-le}
 use native.Mathlib.Numerals.{add-one}
 use lib.ListN.{length, length-append}
 use Rattle.notation.specs.Regular.{Every}
+use Rattle.meaning.proofs.Lists.{joined}
 use Rattle.counting.specs.Counts.{below, Among, Ascending, ThereAre}
 
 -- How many.
@@ -89,24 +90,20 @@ listed test (suc n) t h e = go (listed test n t) (eq-or-lt-of-le (le-of-suc-le-s
     go back (inr l) = among-left t (below n test) (cond (test n) (n ∷ []) []) (back l e)
 
 -- In what order.
-every-one : (P : ℕ → Type 0) (xs ys : List ℕ) → Every P xs → Every P ys → Every P (xs ++ ys)
-every-one P [] ys f g = g
-every-one P (x ∷ xs) ys f g = (f .0, every-one P xs ys (f .1) g)
-
 ascending-more : (n : ℕ) (xs : List ℕ) (b : Bool) → Every (λ (k : ℕ). k < n) xs → Ascending xs → Ascending (xs ++ cond b (n ∷ []) [])
 ascending-more n [] true f a = (tt, tt)
 ascending-more n [] false f a = tt
 ascending-more n (x ∷ xs) b f a =
-    (every-one (λ (k : ℕ). x < k) xs (cond b (n ∷ []) []) (a .0) (last b), ascending-more n xs b (f .1) (a .1))
+    (joined (λ (k : ℕ). x < k) xs (cond b (n ∷ []) []) (a .0) (last b), ascending-more n xs b (f .1) (a .1))
   where
     last : (c : Bool) → Every (λ (k : ℕ). x < k) (cond c (n ∷ []) [])
     last true = (f .0, tt)
     last false = tt
 
-pub all-below : (test : ℕ → Bool) (n k : ℕ) → n ≤ k → Every (λ (i : ℕ). i < k) (below n test)
+pub each-below : (test : ℕ → Bool) (n k : ℕ) → n ≤ k → Every (λ (i : ℕ). i < k) (below n test)
 unfolding below
-all-below test zero k h = tt
-all-below test (suc n) k h = every-one (λ (i : ℕ). i < k) (below n test) (cond (test n) (n ∷ []) []) (all-below test n k (omega arith)) (last (test n))
+each-below test zero k h = tt
+each-below test (suc n) k h = joined (λ (i : ℕ). i < k) (below n test) (cond (test n) (n ∷ []) []) (each-below test n k (omega arith)) (last (test n))
   where
     last : (c : Bool) → Every (λ (i : ℕ). i < k) (cond c (n ∷ []) [])
     last true = (omega arith, tt)
@@ -115,7 +112,7 @@ all-below test (suc n) k h = every-one (λ (i : ℕ). i < k) (below n test) (con
 pub ascends : (test : ℕ → Bool) (n : ℕ) → Ascending (below n test)
 unfolding below
 ascends test zero = tt
-ascends test (suc n) = ascending-more n (below n test) (test n) (all-below test n n (omega arith)) (ascends test n)
+ascends test (suc n) = ascending-more n (below n test) (test n) (each-below test n n (omega arith)) (ascends test n)
 
 -- So there are as many that pass.
 pub there-are : (test : ℕ → Bool) (n : ℕ) (P : ℕ → Type 0) → ((t : ℕ) → t < n → test t ≡ true → P t) → ((t : ℕ) → P t → (t < n) × (test t ≡ true)) → ThereAre (length (below n test)) P

@@ -15,7 +15,7 @@ use Rattle.lines.proofs.Digits.{digits-below}
 use Rattle.lines.proofs.LineLengths.{two-words, three-words}
 use Rattle.counting.specs.Counts.{memberCount, settingOf, countAt, settingsIn}
 use Rattle.counting.specs.CountLines.{statesLine, settingLine, settingLines, countLines}
-use Rattle.counting.proofs.Below.{most, all-below}
+use Rattle.counting.proofs.Below.{most, each-below}
 
 -- A count has at most four digits, a setting at most three.
 states-short : (n : ℕ) → n < 10000 → length (statesLine n) ≤ 12
@@ -39,7 +39,7 @@ count-lines-short states settings map h g =
     let f = countAt states settings map in
     let small : (j : ℕ) → f j < 10000 = λ j. omega (arith, most (λ s. inMap map s && eqb (settingOf settings s) j) states) in
     let low : Every (λ (j : ℕ). j < 1000) js =
-    weaken (λ (j : ℕ). j < settings) (λ (j : ℕ). j < 1000) (λ j l. omega (arith, l, g)) js (all-below (λ j. ltb 0 (f j)) settings settings (omega arith)) in
+    weaken (λ (j : ℕ). j < settings) (λ (j : ℕ). j < 1000) (λ j l. omega (arith, l, g)) js (each-below (λ j. ltb 0 (f j)) settings settings (omega arith)) in
     omega (
       arith,
       length-append (statesLine (memberCount states map)) (settingLines f js),

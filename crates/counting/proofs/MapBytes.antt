@@ -1,9 +1,8 @@
 -- The one bits of a map that stands in a sheet, one byte more at a time; and the numbers of such a map.
 -- Assumes nothing.
 use mathlib.Core.Path.{_≡_, refl, sym, ap, _∙_}
-use mathlib.Core.Logic.{⊎-elim}
 use mathlib.Core.List.{List}
-use Prim.Native.Nat.{ℕ, _+_, _-_, _*_, _%_, _^_, _≤_, _<_}
+use Prim.Native.Nat.{ℕ, _+_, _-_, _*_, _^_, _≤_, _<_}
 use native.Mathlib.Omega.{arith}
 use lib.ListN.{length, getD, take, drop, length-drop}
 use lib.Seq.{getD-drop, length-take-le}
@@ -11,10 +10,11 @@ use lib.Pow.{pow-mono}
 use lib.Count.{ones}
 use Rattle.evaluation.proofs.Powers.{pow-small}
 use Rattle.sheets.specs.Sheets.{mapLength}
+use Rattle.sheets.proofs.SheetOpened.{eighths}
 use Rattle.sheets.specs.working.SheetReading.{mapIn}
 use Rattle.counting.specs.Counts.{memberCount, onesOf}
 use Rattle.counting.specs.working.Counting.{Countable}
-use Rattle.counting.proofs.Ones.{ones-next, filled, members-ones}
+use Rattle.counting.proofs.Ones.{ones-next, members-ones}
 
 module _ (b : List ℕ) (p : ℕ) where
   pub ones-begun : 0 ≡ onesOf (mapIn b p 0)
@@ -37,7 +37,7 @@ module _ (bits shared : ℕ) (b : List ℕ) (p n : ℕ) (S : Countable bits shar
   unfolding mapIn
   map-long =
       let l : length (drop p b) ≡ length b - p = length-drop p b in
-      sym (length-take-le n (drop p b) (omega (arith, S .inside))) ∙ S .payload .long
+      sym (length-take-le n (drop p b) (omega (arith, S .inside))) ∙ S .map .long
 
   few-states : 2 ^ bits ≤ 4096
   few-states = pow-small bits (2 ^ bits) (S .fewBits) refl
@@ -47,11 +47,10 @@ module _ (bits shared : ℕ) (b : List ℕ) (p n : ℕ) (S : Countable bits shar
   few-bytes = omega (arith, map-long, few-states)
 
   pub all-in : 2 ^ bits ≤ 8 * n
-  unfolding mapLength
-  all-in = ⊎-elim (λ (l : 2 ^ bits < 8). omega (arith, map-long)) (λ (f : 2 ^ bits % 8 ≡ 0). omega (arith, map-long)) (filled bits)
+  all-in = omega (arith, map-long, eighths bits)
 
   pub few-settings : 2 ^ shared ≤ 256
   few-settings = pow-mono (S .fewShared)
 
   pub total-told : (total : ℕ) → total ≡ onesOf (mapIn b p n) → total ≡ memberCount (2 ^ bits) (mapIn b p n)
-  total-told total e = e ∙ sym (members-ones bits (mapIn b p n) (S .payload))
+  total-told total e = e ∙ sym (members-ones bits (mapIn b p n) (S .map) (S .bytes))

@@ -1,45 +1,44 @@
 -- The members of a map are the one bits of its bytes.
 -- Assumes nothing.
 use mathlib.Core.Path.{_≡_, refl, sym, ap, _∙_, subst}
-use mathlib.Core.Bool.{false, cond}
-use mathlib.Core.Logic.{_⊎_, inl, inr, ⊎-elim}
+use mathlib.Core.Bool.{cond}
 use mathlib.Core.List.{List, [], _∷_, _++_}
 use Prim.Native.Nat.{ℕ, zero, suc, _+_, _-_, _*_, _/_, _%_, _^_, _≤_, _<_}
 use native.Mathlib.Omega.{arith}
-use native.Mathlib.Nat.{div-one, pow-suc, div-eq-of-lt}
+use native.Mathlib.Nat.{div-one, div-eq-of-lt}
 use native.Mathlib.Numerals.{add-one}
 use lib.Dec.{eqb}
-use lib.Pow.{pow-pos, shr-shr}
+use lib.Pow.{shr-shr}
 use lib.ListN.{length, getD, take}
 use lib.Seq.{take-suc, take-length, getD-append-add}
 use lib.Count.{ones, ones-step}
 use Rattle.meaning.specs.Bits.{bit}
+use Rattle.meaning.proofs.Number.{low-bit}
 use Rattle.meaning.specs.Evidence.{inMap, safe}
-use Rattle.sheets.specs.Sheets.{System, mapLength, little, recordBytes, headerBytes, mapBytes, sheetBytes}
-use Rattle.sheets.specs.SheetTexts.{AreBytes}
-use Rattle.sheets.proofs.UnusedBits.{unused-bits}
+use Rattle.sheets.specs.Sheets.{System, little, recordBytes, headerBytes, mapBytes, sheetBytes}
+use Rattle.sheets.specs.SheetTexts.{AreBytes, IsMap}
+use Rattle.sheets.proofs.MapBits.{map-bit, none-past}
+use Rattle.sheets.proofs.SheetOpened.{eighths}
 use Rattle.counting.specs.Counts.{below, memberCount, onesOf}
 use Rattle.counting.specs.Promises.{MembersAreOnes}
-use Rattle.counting.specs.working.Counting.{IsPayload}
 use Rattle.counting.proofs.Below.{more, none-more}
 
 -- The set bits of a number, from the lowest up.
-digit : (n : ℕ) → n % 2 ≡ cond (eqb (n % 2) 1) 1 0
-digit n = go (n % 2) refl
-  where
-    go : (r : ℕ) → n % 2 ≡ r → r ≡ cond (eqb r 1) 1 0
-    go zero e = refl
-    go (suc zero) e = refl
-    go (suc (suc r)) e = absurd (omega arith)
+digit : (n d : ℕ) → n / 2 ^ d % 2 ≡ cond (bit n d) 1 0
+unfolding bit
+digit n d =
+    let q = n / 2 ^ d in
+    let e : q % 2 ≡ cond (bit q 0) 1 0 = omega (arith, low-bit q) in
+    e ∙ ap (λ k. cond (eqb (k % 2) 1) 1 0) (div-one q)
 
 ones-below : (n d : ℕ) → ones n ≡ length (below d (bit n)) + ones (n / 2 ^ d)
-unfolding below bit
+unfolding below
 ones-below n zero = let e : ones n ≡ ones (n / 1) = ap ones (sym (div-one n)) in omega (arith, e)
 ones-below n (suc d) =
     let q = n / 2 ^ d in
     let e : d + 1 ≡ suc d = omega arith in
     let f : ones q ≡ cond (bit n d) 1 0 + ones (n / 2 ^ suc d) =
-    ones-step q ∙ ap (λ r. r + ones (q / 2)) (digit q) ∙ ap (λ k. cond (bit n d) 1 0 + ones k) (shr-shr n d 1 ∙ ap (λ k. n / 2 ^ k) e) in
+    ones-step q ∙ ap (λ r. r + ones (q / 2)) (digit n d) ∙ ap (λ k. cond (bit n d) 1 0 + ones k) (shr-shr n d 1 ∙ ap (λ k. n / 2 ^ k) e) in
     let g : length (below (suc d) (bit n)) ≡ length (below d (bit n)) + cond (bit n d) 1 0 = ap (λ k. length (below k (bit n))) (sym e) ∙ more (bit n) d in
     ones-below n d ∙ (let z : length (below d (bit n)) + ones q ≡ length (below (suc d) (bit n)) + ones (n / 2 ^ suc d) = omega (arith, f, g) in z)
 
@@ -67,14 +66,6 @@ ones-next l i h =
     ∙ ap (λ k. onesOf (take i l) + k) (ones-one (getD l i 0))
 
 module _ (map : List ℕ) where
-  -- The eight states of byte i.
-  in-byte : (i d : ℕ) → d < 8 → inMap map (8 * i + d) ≡ bit (getD map i 0) d
-  unfolding inMap
-  in-byte i d h =
-      let e : (8 * i + d) / 8 ≡ i = omega arith in
-      let f : (8 * i + d) % 8 ≡ d = omega arith in
-      ap (λ k. bit (getD map k 0) ((8 * i + d) % 8)) e ∙ ap (bit (getD map i 0)) f
-
   part-byte : (i d : ℕ) → d ≤ 8 → memberCount (8 * i + d) map ≡ memberCount (8 * i) map + length (below d (bit (getD map i 0)))
   unfolding below
   part-byte i zero h =
@@ -86,7 +77,7 @@ module _ (map : List ℕ) where
       let e : 8 * i + suc d ≡ 8 * i + d + 1 = omega arith in
       let s : d + 1 ≡ suc d = omega arith in
       let f : memberCount (8 * i + d + 1) map ≡ memberCount (8 * i + d) map + cond (bit b d) 1 0 =
-      more (inMap map) (8 * i + d) ∙ ap (λ t. memberCount (8 * i + d) map + cond t 1 0) (in-byte i d (omega arith)) in
+      more (inMap map) (8 * i + d) ∙ ap (λ t. memberCount (8 * i + d) map + cond t 1 0) (map-bit map i d (omega arith)) in
       let g : length (below (suc d) (bit b)) ≡ length (below d (bit b)) + cond (bit b d) 1 0 = ap (λ k. length (below k (bit b))) (sym s) ∙ more (bit b) d in
       ap (λ k. memberCount k map) e ∙ (let z : memberCount (8 * i + d + 1) map ≡ memberCount (8 * i) map + length (below (suc d) (bit b)) = omega (arith, f, g, part-byte i d (omega arith)) in z)
 
@@ -100,34 +91,14 @@ module _ (map : List ℕ) where
       ap (λ k. memberCount k map) e
       ∙ (let z : memberCount (8 * i + 8) map ≡ onesOf (take (suc i) map) = omega (arith, part-byte i 8 (omega arith), byte-ones (getD map i 0) (a i), whole-bytes a i (omega arith), o) in z)
 
--- The states are fewer than eight, or they fill their bytes.
-pub filled : (k : ℕ) → (2 ^ k < 8) ⊎ (2 ^ k % 8 ≡ 0)
-filled zero = inl (omega arith)
-filled (suc zero) = inl (omega arith)
-filled (suc (suc zero)) = inl (omega arith)
-filled (suc (suc (suc k))) = inr (omega (arith, pow-suc 2 (suc (suc k)), pow-suc 2 (suc k), pow-suc 2 k))
-
-module _ (k : ℕ) (map : List ℕ) (P : IsPayload (2 ^ k) map) where
-  all-bytes : memberCount (8 * length map) map ≡ onesOf map
-  all-bytes = whole-bytes map (P .bytes) (length map) (omega arith) ∙ ap onesOf (take-length map)
-
-  bits-clear : 2 ^ k < 8 → (s : ℕ) → 2 ^ k ≤ s → s < 8 → inMap map s ≡ false
-  bits-clear l s h g =
-      let e : s ≡ 8 * 0 + s = omega arith in
-      ap (inMap map) e ∙ in-byte map 0 s g ∙ unused-bits (2 ^ k) (getD map 0 0) (P .bytes 0) .0 (P .clear) s h g
-
-  pub members-ones : memberCount (2 ^ k) map ≡ onesOf map
-  unfolding mapLength
-  members-ones =
-      ⊎-elim
-      (λ (l : 2 ^ k < 8).
-      let n : length map ≡ 1 = omega (arith, P .long) in
-      let e : 2 ^ k + (8 - 2 ^ k) ≡ 8 * length map = omega arith in
-      sym (none-more (inMap map) (2 ^ k) (8 - 2 ^ k) (λ s h g. bits-clear l s h (omega arith))) ∙ ap (λ j. memberCount j map) e ∙ all-bytes)
-      (λ (f : 2 ^ k % 8 ≡ 0).
-      let e : 2 ^ k ≡ 8 * length map = omega (arith, P .long, pow-pos k) in
-      ap (λ j. memberCount j map) e ∙ all-bytes)
-      (filled k)
+-- The bytes have no members but states.
+pub members-ones : (k : ℕ) (map : List ℕ) → IsMap (2 ^ k) map → AreBytes map → memberCount (2 ^ k) map ≡ onesOf map
+members-ones k map M a =
+    let n = 8 * length map in
+    let h : 2 ^ k ≤ n = omega (arith, eighths k, M .long) in
+    let e : 2 ^ k + (n - 2 ^ k) ≡ n = omega arith in
+    sym (none-more (inMap map) (2 ^ k) (n - 2 ^ k) (λ s l g. none-past (2 ^ k) map M a s l (omega (arith, M .long))))
+    ∙ ap (λ j. memberCount j map) e ∙ whole-bytes map a (length map) (omega arith) ∙ ap onesOf (take-length map)
 
 -- The payload of a sheet that says a map.
 payload-bytes : (M : System) (b map : List ℕ) → AreBytes b → b ≡ sheetBytes M (safe map) → AreBytes map
@@ -140,5 +111,4 @@ payload-bytes M b map a e i =
     subst (λ k. k < 256) q (a at)
 
 pub members-are-ones : MembersAreOnes
-members-are-ones M b map a S =
-    members-ones (M .bits) map (record { long = S .fits .0; bytes = payload-bytes M b map a (S .bytes); clear = S .fits .1 })
+members-are-ones M b map a S = members-ones (M .bits) map (S .fits) (payload-bytes M b map a (S .bytes))

@@ -14,7 +14,7 @@ pub safe-counted : SafeCounted
 safe-counted m bytes F =
     let E = F .1 in
     record {
-      ones = members-ones (m .sharedNames + m .rowNames) bytes (record { long = E .long; bytes = E .bytes; clear = E .clear });
+      ones = members-ones (m .sharedNames + m .rowNames) bytes (E .fits) (E .bytes);
       sum = counts-add-up (stateCount m) (settingCount m) bytes (pow-pos (m .sharedNames));
       occur = settings-occur (stateCount m) (settingCount m) bytes (pow-pos (m .sharedNames));
       reached = reachable-counted m bytes E;

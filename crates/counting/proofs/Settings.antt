@@ -1,7 +1,7 @@
 -- The settings that occur, and what a setting is.
 -- Assumes nothing.
 use mathlib.Core.Path.{_≡_, refl, subst}
-use mathlib.Core.Bool.{Bool, true, false, _&&_, false≢true}
+use mathlib.Core.Bool.{Bool, true, _&&_}
 use mathlib.Core.Logic.{inl}
 use mathlib.Core.List.{List, [], _∷_}
 use Prim.Native.Nat.{ℕ, _<_}
@@ -10,20 +10,13 @@ use native.Mathlib.Nat.{mod-lt}
 use lib.Dec.{eqb, ltb}
 use lib.ListN.{length}
 use borrow.Author.Tests.{lt-ltb, ltb-true, eq-eqb, eqb-true}
+use Rattle.notation.proofs.Booleans.{and-split, and-join}
 use Rattle.meaning.specs.Evidence.{inMap}
 use Rattle.meaning.specs.OneRow.{spread}
 use Rattle.meaning.proofs.Number.{number-low}
 use Rattle.counting.specs.Counts.{members, settingOf, membersAt, countAt, settingsIn, Among}
 use Rattle.counting.specs.Promises.{Occur, SettingsOccur, SettingsAreShared}
 use Rattle.counting.proofs.Below.{passed, listed, ascends}
-
-both : (a b : Bool) → a && b ≡ true → (a ≡ true) × (b ≡ true)
-both true b e = (refl, e)
-both false b e = absurd (false≢true e)
-
-pub both-true : (a b : Bool) → a ≡ true → b ≡ true → a && b ≡ true
-both-true true b e f = f
-both-true false b e f = absurd (false≢true e)
 
 -- A list has an element exactly if it is not empty.
 some : (l : List ℕ) → 0 < length l → (t : ℕ) × Among t l
@@ -40,10 +33,10 @@ module _ (settings : ℕ) (bytes : List ℕ) (j s : ℕ) where
   test = inMap bytes s && eqb (settingOf settings s) j
 
   pub has-setting : test ≡ true → (inMap bytes s ≡ true) × (settingOf settings s ≡ j)
-  has-setting e = let p = both (inMap bytes s) (eqb (settingOf settings s) j) e in (p .0, eqb-true (settingOf settings s) j (p .1))
+  has-setting e = let p = and-split (inMap bytes s) (eqb (settingOf settings s) j) e in (p .0, eqb-true (settingOf settings s) j (p .1))
 
   pub at-setting : inMap bytes s ≡ true → settingOf settings s ≡ j → test ≡ true
-  at-setting e f = both-true (inMap bytes s) (eqb (settingOf settings s) j) e (eq-eqb (settingOf settings s) j f)
+  at-setting e f = and-join (inMap bytes s) (eqb (settingOf settings s) j) e (eq-eqb (settingOf settings s) j f)
 
 module _ (states settings : ℕ) (bytes : List ℕ) (pos : 0 < settings) where
   abbrev Had : ℕ → Type 0

@@ -16,7 +16,7 @@ use Rattle.lines.proofs.Stores.{none, behind, rest-fits}
 use Rattle.counting.specs.Counts.{below}
 use Rattle.counting.specs.CountLines.{settingLine, settingLines}
 use Rattle.counting.specs.working.Counting.{table, tableLines}
-use Rattle.counting.proofs.Below.{alike, all-below}
+use Rattle.counting.proofs.Below.{alike, each-below}
 use Rattle.counting.proofs.Tables.{table-at}
 
 lines-append : (f : ℕ → ℕ) (xs ys : List ℕ) → settingLines f (xs ++ ys) ≡ settingLines f xs ++ settingLines f ys
@@ -36,13 +36,13 @@ lines-alike f g [] h = refl
 lines-alike f g (j ∷ js) h = ap (λ n. settingLine j n ++ settingLines f js) (h .0) ∙ ap (λ l. settingLine j (g j) ++ l) (lines-alike f g js (h .1))
 
 -- The lines of a table are those of the counts in it.
-pub table-lines : (f : ℕ → ℕ) (counts : List ℕ) (k : ℕ) → counts ≡ table 256 f → k ≤ 256 → tableLines counts k ≡ settingLines f (below k (λ j. ltb 0 (f j)))
+pub table-lines : (f : ℕ → ℕ) (counts : List ℕ) (k : ℕ) → counts ≡ table f → k ≤ 256 → tableLines counts k ≡ settingLines f (below k (λ j. ltb 0 (f j)))
 table-lines f counts k T h =
     let js = below k (λ j. ltb 0 (f j)) in
-    let there : (j : ℕ) → j < k → getD counts j 0 ≡ f j = λ j l. ap (λ c. getD c j 0) T ∙ table-at 256 f j (omega arith) in
+    let there : (j : ℕ) → j < k → getD counts j 0 ≡ f j = λ j l. ap (λ c. getD c j 0) T ∙ table-at f j (omega arith) in
     ap (settingLines (λ j. getD counts j 0)) (alike (λ j. ltb 0 (getD counts j 0)) (λ j. ltb 0 (f j)) k (λ j l. ap (ltb 0) (there j l)))
     ∙ lines-alike (λ j. getD counts j 0) f js
-    (weaken (λ (j : ℕ). j < k) (λ (j : ℕ). getD counts j 0 ≡ f j) there js (all-below (λ j. ltb 0 (f j)) k k (omega arith)))
+    (weaken (λ (j : ℕ). j < k) (λ (j : ℕ). getD counts j 0 ≡ f j) there js (each-below (λ j. ltb 0 (f j)) k k (omega arith)))
 
 module _ (counts : List ℕ) where
   abbrev value : ℕ → ℕ

@@ -13,8 +13,8 @@ use Rattle.counting.proofs.MapBytes.{few-settings, total-told}
 use Rattle.counting.proofs.TableLines.{table-lines}
 
 -- The table of counts, from the number of states that it was made for.
-pub counts-told : (settings : ℕ) (map counts : List ℕ) {states k : ℕ} → states ≡ k → counts ≡ table 256 (countAt states settings map) → counts ≡ table 256 (countAt k settings map)
-counts-told settings map counts e T = T ∙ ap (λ s. table 256 (countAt s settings map)) e
+pub counts-told : (settings : ℕ) (map counts : List ℕ) {states k : ℕ} → states ≡ k → counts ≡ table (countAt states settings map) → counts ≡ table (countAt k settings map)
+counts-told settings map counts e T = T ∙ ap (λ s. table (countAt s settings map)) e
 
 module _ (bits shared : ℕ) (b : List ℕ) (p n : ℕ) (S : Countable bits shared b p n) where
   abbrev map : List ℕ
@@ -38,11 +38,11 @@ module _ (bits shared : ℕ) (b : List ℕ) (p n : ℕ) (S : Countable bits shar
     total-room f = first-fits (statesLine total) rest (fits f)
 
     module _ {x : List ℕ} {r : ℕ} (P : Puts out from (statesLine total) x r) (settings : ℕ) (s : settings ≡ 2 ^ shared)
-        (counts : List ℕ) (T : counts ≡ table 256 (countAt (2 ^ bits) settings map)) where
+        (counts : List ℕ) (T : counts ≡ table (countAt (2 ^ bits) settings map)) where
       lines : tableLines counts settings ≡ rest
       lines =
           ap (tableLines counts) s
-          ∙ table-lines at counts (2 ^ shared) (T ∙ ap (λ k. table 256 (countAt (2 ^ bits) k map)) s) (few-settings bits shared b p n S)
+          ∙ table-lines at counts (2 ^ shared) (T ∙ ap (λ k. table (countAt (2 ^ bits) k map)) s) (few-settings bits shared b p n S)
 
       pub settings-room : Fits out from (countLines (2 ^ bits) (2 ^ shared) map) → (settings ≤ 256) × Fits x r (tableLines counts settings)
       settings-room f = (subst (λ k. k ≤ 256) (sym s) (few-settings bits shared b p n S), subst (Fits x r) (sym lines) (rest-fits rest P (fits f)))

@@ -1,3 +1,3 @@
 // How many members a map has, in all and for each setting of the shared names, and the lines that tell it.
 pub mod count_lines;
-pub mod members;
+mod members;

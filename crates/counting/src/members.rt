@@ -40,7 +40,7 @@ fn setting_of(settings: usize, s: usize) -> usize
 // How many members each setting has, in one pass over the states.
 pub fn count_settings(b: &[u8], p: usize, n: usize, states: usize, settings: usize) -> Counts
     requires { do ⌜ (p + n ≤ (← ⟦b.len()⟧)) × (n ≤ 512) × (states ≤ 8 * n) × (0 < settings) × (settings ≤ 256) ⌝ }
-    ensures { λ r. ⌜ r ≡ table 256 (countAt states settings (mapIn (now (b .entry)) p n)) ⌝ }
+    ensures { λ r. ⌜ r ≡ table (countAt states settings (mapIn (now (b .entry)) p n)) ⌝ }
 {
     let mut counts = [0u16; 256];
     'states: for s in 0..states {

@@ -42,8 +42,11 @@ module _ (m : Model) where
     pub void-exact : ExactMap m (emptyMap m)
     void-exact =
         record {
-          long = length-replicate {A = ℕ} (mapLength (stateCount m)) 0;
+          fits =
+              record {
+                long = length-replicate {A = ℕ} (mapLength (stateCount m)) 0;
+                clear = unused-bits (stateCount m) (getD (emptyMap m) 0 0) (rw (zeros-at (mapLength (stateCount m)) 0) (omega arith)) .1 (λ j p q. empty-bit 0 j);
+              };
           bytes = λ i. rw (zeros-at (mapLength (stateCount m)) i) (omega arith);
-          clear = unused-bits (stateCount m) (getD (emptyMap m) 0 0) (rw (zeros-at (mapLength (stateCount m)) 0) (omega arith)) .1 (λ j p q. empty-bit 0 j);
           exact = λ t h. (λ e. absurd (true≢false (sym e ∙ empty-has t)), λ r. absurd (v (r .0, r .2 .start)));
         }

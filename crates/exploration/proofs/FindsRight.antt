@@ -82,9 +82,12 @@ module _ (T : Transitions) (m : Model) (A : Agrees T m) where
     unfolding found
     exact-map =
         record {
-          long = map-length b 0 (mapLength (T .size)) ∙ ap mapLength (A .size);
+          fits =
+              record {
+                long = map-length b 0 (mapLength (T .size)) ∙ ap mapLength (A .size);
+                clear = subst (λ (n : ℕ). unusedClear n (getD found 0 0) ≡ true) (R .sized ∙ A .size) (map-clear b (mapLength (T .size)) (some-byte (T .size)));
+              };
           bytes = map-bytes b (mapLength (T .size));
-          clear = subst (λ (n : ℕ). unusedClear n (getD found 0 0) ≡ true) (R .sized ∙ A .size) (map-clear b (mapLength (T .size)) (some-byte (T .size)));
           exact = exactly;
         }
 

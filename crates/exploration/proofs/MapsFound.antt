@@ -10,18 +10,13 @@ use native.Mathlib.Nat.{not-suc-le-zero, le-of-suc-le-suc}
 use lib.ListN.{length, getD, replicate, List·getD-eq-default}
 use Rattle.meaning.specs.Bits.{bit, first, number}
 use Rattle.meaning.specs.Evidence.{inMap}
-use Rattle.meaning.proofs.Number.{bit-number, number-lt, first-length}
+use Rattle.meaning.proofs.Number.{bit-number, number-lt, first-length, first-at}
 use Rattle.sheets.specs.SheetTexts.{AreBytes, unusedClear}
 use Rattle.sheets.proofs.UnusedBits.{unused-bits}
 use Rattle.exploration.specs.working.Written.{bitAt, mapByte, mapFrom}
 use Rattle.exploration.specs.working.Found.{anySet}
 use Rattle.exploration.proofs.Order.{lt-or-ge}
 use Rattle.exploration.proofs.Map.{map-length}
-
-first-at : (k : ℕ) (f : ℕ → Bool) (j : ℕ) → j < k → getD (first k f) j false ≡ f j
-first-at zero f j h = absurd (not-suc-le-zero h)
-first-at (suc k) f zero h = refl
-first-at (suc k) f (suc j) h = first-at k (λ i. f (suc i)) j (le-of-suc-le-suc h)
 
 sum-is : (a b c d e f g h : Bool)
     → cond a 1 0 + 2 * cond b 1 0 + 4 * cond c 1 0 + 8 * cond d 1 0 + 16 * cond e 1 0 + 32 * cond f 1 0 + 64 * cond g 1 0 + 128 * cond h 1 0
@@ -49,7 +44,7 @@ byte-lt b i =
 
 byte-bit : (b : List Bool) (i j : ℕ) → j < 8 → bit (mapByte b i) j ≡ getD b (8 * i + j) false
 unfolding eight
-byte-bit b i j h = ap (λ (n : ℕ). bit n j) (byte-is b i) ∙ bit-number (eight b i) j ∙ first-at 8 (λ x. getD b (8 * i + x) false) j h
+byte-bit b i j h = ap (λ (n : ℕ). bit n j) (byte-is b i) ∙ bit-number (eight b i) j ∙ first-at 8 (λ x. getD b (8 * i + x) false) false j h
 
 map-at : (b : List Bool) (k n i : ℕ) → i < n → getD (mapFrom b k n) i 0 ≡ mapByte b (k + i)
 unfolding mapFrom

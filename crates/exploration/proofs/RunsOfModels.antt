@@ -13,7 +13,7 @@ use Rattle.meaning.specs.Meaning.{State, Choice, Move, step, idle, commandAt, F
 use Rattle.meaning.specs.OneRow.{One, stateNumber, stateCount, wordCount, spread, spreadWord, starts, breaks, next, TraceStep, spreadStep, lastOf}
 use Rattle.meaning.specs.Evidence.{StepFits, TracePasses}
 use Rattle.meaning.specs.working.Conditions.{testE}
-use Rattle.meaning.proofs.Lists.{every-at}
+use Rattle.meaning.proofs.Lists.{every-at, joined}
 use Rattle.meaning.proofs.Number.{stateNumber-lt, spread-stateNumber, stateNumber-spread}
 use Rattle.meaning.proofs.Words.{wordOf, wordOf-lt, step-word}
 use Rattle.meaning.proofs.Fits.{step-fits}
@@ -25,7 +25,7 @@ use Rattle.exploration.specs.working.Transitions.{Transitions, Lawful, m
 use Rattle.exploration.specs.working.Runs.{Run, startsAt, goesOn, final, Valid, steps, startOf, stepsOf}
 use Rattle.exploration.specs.working.Results.{Reached}
 use Rattle.exploration.specs.working.Found.{Agrees}
-use Rattle.exploration.proofs.TraceSteps.{every-snoc, last-snoc, tests-snoc}
+use Rattle.exploration.proofs.TraceSteps.{last-snoc, tests-snoc}
 
 -- The run that goes on by the steps of a trace.
 unfoldable pub onBy : Run → List TraceStep → Run
@@ -74,8 +74,8 @@ module _ (T : Transitions) (m : Model) (A : Agrees T m) where
   unfolding stepsOf
   steps-fit (startsAt s) v = tt
   steps-fit (goesOn r k) v =
-      every-snoc (StepFits m) (stepsOf T r) _ (steps-fit r (v .0))
-      (record { command = a-command (v .1 .0); word = a-word (v .1 .0) (v .1 .1); after = final-below (goesOn r k) v })
+      joined (StepFits m) (stepsOf T r) _ (steps-fit r (v .0))
+      (record { command = a-command (v .1 .0); word = a-word (v .1 .0) (v .1 .1); after = final-below (goesOn r k) v }, tt)
 
   pub steps-end : (r : Run) → lastOf (startOf r) (stepsOf T r) ≡ final T r
   unfolding stepsOf lastOf

@@ -8,7 +8,6 @@ use native.Mathlib.Omega.{arith}
 use lib.ListN.{length, length-append}
 use lib.Dec.{eqb}
 use borrow.Author.Tests.{eq-eqb}
-use Rattle.notation.specs.Regular.{Every}
 use Rattle.meaning.specs.OneRow.{TraceStep, lastOf}
 use Rattle.meaning.specs.working.Conditions.{testE}
 use Rattle.sheets.specs.Sheets.{little, recordBytes, startBytes, stepBytes, stepsBytes}
@@ -17,10 +16,6 @@ use Rattle.exploration.specs.working.Transitions.{Transitions, Move}
 use Rattle.exploration.specs.working.Runs.{Run, startsAt, goesOn, final, steps, startOf, stepOf, stepsOf}
 use Rattle.exploration.specs.working.Written.{runBytes}
 use Rattle.notation.proofs.Booleans.{and-split, and-join}
-
-pub every-snoc : {A : Type 0} (P : A → Type 0) (l : List A) (x : A) → Every P l → P x → Every P (l ++ x ∷ [])
-every-snoc P [] x h p = (p, tt)
-every-snoc P (y ∷ l) x h p = (h .0, every-snoc P l x (h .1) p)
 
 pub last-snoc : (s : ℕ) (l : List TraceStep) (x : TraceStep) → lastOf s (l ++ x ∷ []) ≡ x .after
 unfolding lastOf

@@ -5,24 +5,23 @@ use mathlib.Core.Logic.{_↔_}
 use mathlib.Core.Bool.{true}
 use mathlib.Core.List.{List}
 use Prim.Native.Nat.{ℕ, _<_, _≤_}
-use lib.ListN.{length, getD, replicate}
+use lib.ListN.{length, replicate}
 use Rattle.notation.specs.Model.{Model}
 use Rattle.meaning.specs.Meaning.{State, Move, IsRun, Breaks, last, Safe, Unsafe, CanStart}
 use Rattle.meaning.specs.OneRow.{One, stateNumber, stateCount, TraceStep}
 use Rattle.meaning.specs.Evidence.{inMap, TracePasses, IsVoid, Verdict, safeBy, voidBy, unsafeBy}
 use Rattle.sheets.specs.Sheets.{mapLength}
-use Rattle.sheets.specs.SheetTexts.{AreBytes, unusedClear}
+use Rattle.sheets.specs.SheetTexts.{AreBytes, IsMap}
 use Rattle.exploration.specs.Order.{RunBefore}
 
 -- Some run of the table of one row leads to the state numbered t.
 abbrev pub Reaches : Model → ℕ → Type 0
 Reaches m t = (s : State One) × (xs : List (Move One)) × IsRun m s xs × (stateNumber (last s xs) ≡ t)
 
--- The map has exactly those states. It has its length, its numbers are bytes, and bits that no state uses are 0.
+-- The map has exactly those states. Its numbers are bytes.
 pub record ExactMap (m : Model) (map : List ℕ) : Type 0 where
-  pub long : length map ≡ mapLength (stateCount m)
+  pub fits : IsMap (stateCount m) map
   pub bytes : AreBytes map
-  pub clear : unusedClear (stateCount m) (getD map 0 0) ≡ true
   pub exact : (t : ℕ) → t < stateCount m → (inMap map t ≡ true) ↔ Reaches m t
 
 -- The trace is a run to a state that violates `keep`, and no other such run comes before it.

@@ -5,7 +5,7 @@ use mathlib.Core.HLevel.{Σ-prop-path}
 use mathlib.Core.Bool.{Bool, true, false, cond}
 use mathlib.Core.List.{List, [], _∷_, _++_}
 use Prim.Native.Nat.{ℕ, zero, suc, _+_, _*_, _/_, _%_, _^_, _<_}
-use native.Mathlib.Nat.{zero-div, div-one, pow-suc, zero-add, suc-add, mod-eq-of-lt}
+use native.Mathlib.Nat.{zero-div, div-one, pow-suc, zero-add, suc-add, mod-eq-of-lt, not-suc-le-zero, le-of-suc-le-suc}
 use native.Mathlib.Bridge.{le-prop}
 use native.Mathlib.Omega.{arith}
 use lib.Arith.{lt-one, mod-mul}
@@ -75,16 +75,25 @@ module _ (m : Model) (s : State One) (fit : Fits m s) where
       λ t. record { shared = p t; rows = λ i. (q ∙ ap (s .rows) (sym (one-is i))) t }
 
 -- The other way: the state that a number spreads has that number.
-pub first-length : (k : ℕ) (f : ℕ → Bool) → length (first k f) ≡ k
+pub first-length : {A : Type 0} (k : ℕ) (f : ℕ → A) → length (first k f) ≡ k
 first-length zero f = refl
 first-length (suc k) f = ap suc (first-length k (λ j. f (suc j)))
+
+pub first-same : {A : Type 0} (k : ℕ) (f g : ℕ → A) → ((j : ℕ) → j < k → f j ≡ g j) → first k f ≡ first k g
+first-same zero f g h = refl
+first-same (suc k) f g h = λ i. h zero (omega arith) i ∷ first-same k (λ j. f (suc j)) (λ j. g (suc j)) (λ j l. h (suc j) (omega arith)) i
+
+pub first-at : {A : Type 0} (k : ℕ) (f : ℕ → A) (d : A) (j : ℕ) → j < k → getD (first k f) j d ≡ f j
+first-at zero f d j h = absurd (not-suc-le-zero h)
+first-at (suc k) f d zero h = refl
+first-at (suc k) f d (suc j) h = first-at k (λ i. f (suc i)) d j (le-of-suc-le-suc h)
 
 first-add : (a b : ℕ) (f : ℕ → Bool) → first a f ++ first b (λ j. f (a + j)) ≡ first (a + b) f
 first-add zero b f = rw zero-add (ap (first b) (fun-ext (λ j. ap f (zero-add j))))
 first-add (suc a) b f =
     rw suc-add (ap {B = List Bool} (λ r. f zero ∷ r) (ap (λ (g : ℕ → Bool). first a (λ j. f (suc j)) ++ first b g) (fun-ext (λ j. ap f (suc-add a j))) ∙ first-add a b (λ j. f (suc j))))
 
-low-bit : (n : ℕ) → n / 2 * 2 + cond (bit n zero) 1 0 ≡ n
+pub low-bit : (n : ℕ) → n / 2 * 2 + cond (bit n zero) 1 0 ≡ n
 unfolding bit
 low-bit n = rw div-one (go (n % 2) refl)
   where

@@ -38,10 +38,10 @@ pub record SheetTold (text : List ℕ) (Shows : List ℕ → Type 0) (report : L
   pub lines : report (take n buffer) ≡ reportOf text
 
 -- They are a map, or a trace.
-abbrev MapTold : List ℕ → ℕ → List ℕ → Type 0
+abbrev pub MapTold : List ℕ → ℕ → List ℕ → Type 0
 MapTold text n buffer = SheetTold text (MapShown (readingOf text .code)) (safeReport (readingOf text .code)) n buffer
 
-abbrev TraceTold : List ℕ → ℕ → List ℕ → Type 0
+abbrev pub TraceTold : List ℕ → ℕ → List ℕ → Type 0
 TraceTold text n buffer = SheetTold text (Printable text (readingOf text .code)) (traceReport text (readingOf text .code)) n buffer
 
 -- What the answer tells of the report.
@@ -61,11 +61,12 @@ kind (Unsafe n) = 3
 differ : {A : Type 0} (f g : Finding) → f ≡ g → eqb (kind f) (kind g) ≡ false → A
 differ f g e h = absurd (true≢false (sym (eq-eqb (kind f) (kind g) (ap kind e)) ∙ h))
 
-same-length : (n k : ℕ) → Unsafe n ≡ Unsafe k → n ≡ k
-same-length n k e = cc
-
-same-map-length : (n k : ℕ) → Safe n ≡ Safe k → n ≡ k
-same-map-length n k e = cc
+-- The length of the sheet that an answer tells.
+abbrev lengthIn : Finding → ℕ
+lengthIn (Refused n p) = 0
+lengthIn (Safe n) = n
+lengthIn (Void n) = n
+lengthIn (Unsafe n) = n
 
 -- Every lent buffer has room for the search of every model.
 module _ (text a b c : List ℕ) (la : 4096 ≤ length a) (lb : 4096 ≤ length b) (lc : 40967 ≤ length c) where
@@ -104,7 +105,7 @@ module _ (text a b c : List ℕ) (la : 4096 ≤ length a) (lb : 4096 ≤ length 
     told-found (safeBy map) f =
         record {
           refusal = λ n p e. differ (Refused n p) (Safe _) e refl;
-          safely = λ n d e k. told-map map f n d (same-map-length n _ e) k;
+          safely = λ n d e k. told-map map f n d (ap lengthIn e) k;
           voidly = λ n e. differ (Void n) (Safe _) e refl;
           unsafely = λ n d e k. differ (Unsafe n) (Safe _) e refl;
         }
@@ -120,7 +121,7 @@ module _ (text a b c : List ℕ) (la : 4096 ≤ length a) (lb : 4096 ≤ length 
           refusal = λ n p e. differ (Refused n p) (Unsafe _) e refl;
           safely = λ n d e k. differ (Safe n) (Unsafe _) e refl;
           voidly = λ n e. differ (Void n) (Unsafe _) e refl;
-          unsafely = λ n d e k. told-trace s xs f n d (same-length n _ e) k;
+          unsafely = λ n d e k. told-trace s xs f n d (ap lengthIn e) k;
         }
 
   room : (m : Model) → TextSays text m → Room m a b c

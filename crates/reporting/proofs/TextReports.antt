@@ -22,7 +22,7 @@ use Rattle.evaluation.proofs.Powers.{pow-small}
 use Rattle.reader.specs.declared.Code.{Code}
 use Rattle.reader.specs.Read.{codeOf, nameArray, readingIn, readingOf}
 use Rattle.sheets.specs.Sheets.{System, systemOf, sheetBytes, headerBytes, mapBytes, startBytes, stepsBytes, recordBytes, little}
-use Rattle.sheets.specs.SheetTexts.{twoAt}
+use Rattle.sheets.specs.SheetTexts.{twoAt, AreBytes, IsMap}
 use Rattle.sheets.specs.working.SheetReading.{mapIn, stepsIn}
 use Rattle.acceptance.proofs.TestMeans.{numbers-fit}
 use Rattle.sheets.proofs.SheetWritten.{two-little, steps-there}
@@ -32,7 +32,6 @@ use Rattle.exploration.proofs.FoundShort.{trace-sheet-length}
 use Rattle.verdicts.proofs.SearchTells as Left
 use Rattle.counting.specs.Counts.{settingCount}
 use Rattle.counting.specs.CountLines.{countLines}
-use Rattle.counting.specs.working.Counting.{IsPayload}
 use Rattle.reporting.specs.Reports.{countsLine, safeLine, unsafeLine, startLine, stepLine, stepLines, commandName, verdictLines, reportLines}
 use Rattle.reporting.specs.working.Reporting.{foundFor, reportOf}
 use Rattle.reporting.specs.working.Writing.{nameIn, Named, headerEnd, startIn, stepsOf, traceSteps, payloadStart, payloadLength, safeReport, voidReport, traceReport, MapShown, Printable}
@@ -133,9 +132,8 @@ module _ (text : List ℕ) (x : Tree) (says : TextSaysTree text x) where
           fewBits = regular .fewNames;
           fewShared = regular .fewShared;
           inside = omega (arith, map-sheet-length m map);
-          payload =
-              subst (IsPayload (stateCount m)) (sym (map-read m map))
-              (record { long = exact .long; bytes = exact .bytes; clear = exact .clear });
+          map = subst (IsMap (stateCount m)) (sym (map-read m map)) (exact .fits);
+          bytes = subst AreBytes (sym (map-read m map)) (exact .bytes);
         }
 
     safe-lines : safeReport code (mapSheet m map) ≡ reportLines x (safeBy map)

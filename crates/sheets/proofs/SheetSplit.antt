@@ -10,7 +10,6 @@ use native.Mathlib.Numerals.{add-one}
 use lib.ListN.{length, getD, take, drop, length-drop, drop-of-length-le}
 use lib.Seq.{getD-take, getD-drop, drop-cons, drop-drop, length-take-le}
 use Rattle.meaning.specs.Evidence.{Sheet}
-use Rattle.meaning.specs.OneRow.{TraceStep}
 use Rattle.sheets.specs.SheetTexts.{twoAt, fourAt, isRecord, sameCounts, unusedClear, stepIn, InSystem, SheetSays, AreBytes}
 use Rattle.sheets.specs.Sheets.{System, size, headerLength, mapLength, little, recordBytes, headerBytes, stepBytes, stepsBytes, sheetBytes, mapBytes, startBytes}
 use Rattle.sheets.specs.working.SheetReading.{mapIn, stepsIn, stepCount, StepsStand, TraceStands, MapStands}
@@ -165,7 +164,11 @@ module _ (M : System) (b : List ℕ) where
               (record-split b bytes at 2 (mapLength (size M)) (S .head)
               ∙ ap (λ (l : List ℕ). recordBytes 2 (take (mapLength (size M)) (drop (at + 6) b)) ++ l) end ∙ append-nil _);
           short = short;
-          fits = (length-take-le (mapLength (size M)) (drop (at + 6) b) (omega (arith, S .end)), subst (λ (x : ℕ). unusedClear (size M) x ≡ true) (sym first) (S .clear));
+          fits =
+              record {
+                long = length-take-le (mapLength (size M)) (drop (at + 6) b) (omega (arith, S .end));
+                clear = subst (λ (x : ℕ). unusedClear (size M) x ≡ true) (sym first) (S .clear);
+              };
         }
 
     says-trace : TraceStands (size M) (M .commands) (M .stars) b at → SheetSays M b (theTrace (size M) (M .commands) (M .stars) b at)

@@ -258,7 +258,7 @@ reads-written M few b (safe map) w =
     let e : b ≡ headerBytes M ++ (recordBytes 2 map ++ []) = w .bytes ∙ ap (λ (l : List ℕ). headerBytes M ++ l) (sym (append-nil (recordBytes 2 map))) in
     ap (sheetOf M) e
     ∙ header-read M few (recordBytes 2 map ++ []) (subst (λ (l : List ℕ). length l ≤ 65536) e (w .short))
-    ∙ map-read M few map (w .fits .0) (w .fits .1) (map-short _ _ (few .states) (w .fits .0))
+    ∙ map-read M few map (w .fits .long) (w .fits .clear) (map-short _ _ (few .states) (w .fits .long))
 reads-written M few b (trace s xs) w =
     ap (sheetOf M) (w .bytes)
     ∙ header-read M few (recordBytes 3 (little 2 s) ++ stepsBytes xs) (subst (λ (l : List ℕ). length l ≤ 65536) (w .bytes) (w .short))

@@ -47,9 +47,14 @@ stepFits states commands stars x = ltb (x .command) commands && (ltb (x .word) (
 abbrev pub InSystem : System → TraceStep → Type 0
 InSystem M x = InRange (size M) (M .commands) (λ k. 2 ^ M .stars k) x
 
--- The contents can stand in a sheet for the model: a map has its length and clear unused bits, a trace has its numbers in range.
+-- The bytes can be a map of so many states: they have its length, and bits that no state uses are 0.
+pub record IsMap (states : ℕ) (map : List ℕ) : Type 0 where
+  pub long : length map ≡ mapLength states
+  pub clear : unusedClear states (getD map 0 0) ≡ true
+
+-- The contents can stand in a sheet for the model: a map is one of its states, a trace has its numbers in range.
 abbrev pub SheetFits : System → Sheet → Type 0
-SheetFits M (safe map) = (length map ≡ mapLength (size M)) × (unusedClear (size M) (getD map 0 0) ≡ true)
+SheetFits M (safe map) = IsMap (size M) map
 SheetFits M (trace s xs) = (s < size M) × Every (InSystem M) xs
 
 -- The bytes say these contents: they are the contents' bytes, not too many, and the contents fit the model.

@@ -2,7 +2,7 @@
 -- Assumes nothing.
 use mathlib.Core.Path.{_≡_, refl, sym, ap, _∙_, subst}
 use mathlib.Core.List.{List, []}
-use Prim.Native.Nat.{ℕ, _+_, _*_, _≤_}
+use Prim.Native.Nat.{ℕ, _+_, _≤_}
 use native.Mathlib.Omega.{arith}
 use lib.ListN.{length, take, drop}
 use lib.Seq.{sets, sets-eq, take-append-seam}
@@ -69,7 +69,7 @@ module _ (text : List ℕ) (m : Model) (says : TextSays text m) where
   -- The bytes of a sheet that is found pass.
   module _ (map : List ℕ) (E : ExactMap m map) (h : length (sheetBytes (systemOf m) (safe map)) ≤ sheetRoom (systemOf m)) where
     map-says : SheetSays (systemOf m) (sheetBytes (systemOf m) (safe map)) (safe map)
-    map-says = record { bytes = refl; short = omega (arith, few); fits = (E .long, E .clear) }
+    map-says = record { bytes = refl; short = omega (arith, few); fits = E .fits }
 
     map-means : PassMeans m (sheetBytes (systemOf m) (safe map)) (answerTo text (sheetBytes (systemOf m) (safe map)))
     map-means = let g = all-regular text m says in pass-tells text m says (sheetBytes (systemOf m) (safe map)) (map-sheet-bytes m g map (E .bytes))

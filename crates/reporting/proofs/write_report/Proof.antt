@@ -7,7 +7,7 @@ use lib.Seq.{length-take-le}
 use Rattle.verdicts.specs.working.Searching.{searchOf}
 use Rattle.lines.proofs.Parts.{refusal-fits}
 use Rattle.reporting.proofs.ReportShort.{report-fits, report-put}
-use Rattle.reporting.proofs.Reported.{Told, told-left}
+use Rattle.reporting.proofs.Reported.{MapTold, TraceTold, Told, told-left}
 use Rattle.reporting.proofs.write_report.Statement.{statement}
 use Rattle.reporting.proofs.write_report.Tie as tie
 
@@ -18,6 +18,21 @@ told c =
     let start : tie.Start = search in
     let lent : tie.After-search-arg3 = search in
     told-left (start .args .text .now) (start .args .first .now) (start .args .second .now) (start .args .sheet .now) (omega arith) (omega arith) (omega arith)
+
+-- What stands at the front of the sheet after safe, and after unsafe.
+map-told : (c : tie.After-found2) → let start : tie.Start = search in let after-search : tie.After-search = search in
+    MapTold (start .args .text .now) (c .found2 .given .0 .0) (after-search .search .last .1 .1 .1 .0)
+map-told c =
+    let after-search : tie.After-search = search in
+    let s = after-search .search in
+    told after-search .safely _ (s .last .1 .1 .1 .0) (sym (c .found2 .given .1) ∙ s .ensures .0) (s .ensures .1 .0 .2)
+
+trace-told : (c : tie.After-found3) → let start : tie.Start = search in let after-search : tie.After-search = search in
+    TraceTold (start .args .text .now) (c .found3 .given .0 .0) (after-search .search .last .1 .1 .1 .0)
+trace-told c =
+    let after-search : tie.After-search = search in
+    let s = after-search .search in
+    told after-search .unsafely _ (s .last .1 .1 .1 .0) (sym (c .found3 .given .1) ∙ s .ensures .0) (s .ensures .1 .0 .2)
 
 search-requires : tie.Need-search-requires
 search-requires c κs = search needs
@@ -39,21 +54,14 @@ enum-known-found-2 c = search needs
 slice-aggregate-put-safe : tie.Need-slice-aggregate-put-safe
 slice-aggregate-put-safe c =
     let after-found2 : tie.After-found2 = search in
-    let after-search : tie.After-search = search in
-    let s = after-search .search in
-    let e = sym (after-found2 .found2 .given .1) ∙ s .ensures .0 in
-    let t = told after-search .safely _ (s .last .1 .1 .1 .0) e (s .ensures .1 .0 .2) in
-    sym (length-take-le _ _ (t .within))
+    sym (length-take-le _ _ (map-told after-found2 .within))
 
 put-safe-requires : tie.Need-put-safe-requires
 put-safe-requires c κs =
     let after-found2 : tie.After-found2 = search in
-    let after-search : tie.After-search = search in
     let start : tie.Start = search in
     let a = start .args in
-    let s = after-search .search in
-    let e = sym (after-found2 .found2 .given .1) ∙ s .ensures .0 in
-    let t = told after-search .safely _ (s .last .1 .1 .1 .0) e (s .ensures .1 .0 .2) in
+    let t = map-told after-found2 in
     (t .shown, report-fits (a .text .now) _ (t .lines) (a .out .now) (omega arith))
 
 enum-told : tie.Need-enum-told
@@ -75,21 +83,14 @@ enum-known-found-3 c = search needs
 slice-aggregate-put-unsafe : tie.Need-slice-aggregate-put-unsafe
 slice-aggregate-put-unsafe c =
     let after-found3 : tie.After-found3 = search in
-    let after-search : tie.After-search = search in
-    let s = after-search .search in
-    let e = sym (after-found3 .found3 .given .1) ∙ s .ensures .0 in
-    let t = told after-search .unsafely _ (s .last .1 .1 .1 .0) e (s .ensures .1 .0 .2) in
-    sym (length-take-le _ _ (t .within))
+    sym (length-take-le _ _ (trace-told after-found3 .within))
 
 put-unsafe-requires : tie.Need-put-unsafe-requires
 put-unsafe-requires c κs =
     let after-found3 : tie.After-found3 = search in
-    let after-search : tie.After-search = search in
     let start : tie.Start = search in
     let a = start .args in
-    let s = after-search .search in
-    let e = sym (after-found3 .found3 .given .1) ∙ s .ensures .0 in
-    let t = told after-search .unsafely _ (s .last .1 .1 .1 .0) e (s .ensures .1 .0 .2) in
+    let t = trace-told after-found3 in
     (t .shown, report-fits (a .text .now) _ (t .lines) (a .out .now) (omega arith))
 
 returns : tie.Need-returns
@@ -112,8 +113,7 @@ returns-2 c =
     let start : tie.Start = search in
     let a = start .args in
     let s = after-search .search in
-    let e = sym (after-found2 .found2 .given .1) ∙ s .ensures .0 in
-    let t = told after-search .safely _ (s .last .1 .1 .1 .0) e (s .ensures .1 .0 .2) in
+    let t = map-told after-found2 in
     let w = report-put (a .text .now) _ (t .lines) (a .out .now) (omega (arith, c .before .before .put-safe-arg .given)) (c .put-safe .last .0)
     (c .put-safe .result) (c .put-safe .ensures) in
     (w .0, (w .1, s .ensures .1 .0))
@@ -138,8 +138,7 @@ returns-4 c =
     let start : tie.Start = search in
     let a = start .args in
     let s = after-search .search in
-    let e = sym (after-found3 .found3 .given .1) ∙ s .ensures .0 in
-    let t = told after-search .unsafely _ (s .last .1 .1 .1 .0) e (s .ensures .1 .0 .2) in
+    let t = trace-told after-found3 in
     let w = report-put (a .text .now) _ (t .lines) (a .out .now) (omega (arith, c .before .before .put-unsafe-arg .given)) (c .put-unsafe .last .0)
     (c .put-unsafe .result) (c .put-unsafe .ensures) in
     (w .0, (w .1, s .ensures .1 .0))

@@ -13,7 +13,7 @@ use Rattle.counting.proofs.members.count_settings.Statement.{statement}
 use Rattle.counting.proofs.members.count_settings.Tie as tie
 
 abbrev Inv-states : tie.InvT-states
-Inv-states b p n states settings counts₀ s₀ counts s = (s ≤ states) × (counts ≡ table 256 (countAt s settings (mapIn b p n)))
+Inv-states b p n states settings counts₀ s₀ counts s = (s ≤ states) × (counts ≡ table (countAt s settings (mapIn b p n)))
 
 abbrev μ-states : tie.MeasureT-states
 μ-states b p n states settings counts₀ s₀ counts s = states - s
