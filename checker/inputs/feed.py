@@ -8,10 +8,18 @@ def packed(texts):
     return b"".join(b"%d\n%s\n" % (len(text), text) for text in texts)
 
 
-def answers(program, texts):
+def packed_with_numbers(entries):
+    """Each text as above, then its numbers, in digits, with a newline after
+    each."""
+    return b"".join(packed([text]) + b"".join(b"%d\n" % number
+                                              for number in numbers)
+                    for text, *numbers in entries)
+
+
+def answers(program, data):
     """The program's lines; an unfinished last line is kept as it stands."""
-    run = subprocess.run([program], input=packed(texts),
-                         stdout=subprocess.PIPE, check=False)
+    run = subprocess.run([program], input=data, stdout=subprocess.PIPE,
+                         check=False)
     lines = run.stdout.decode("latin-1").split("\n")
     if lines[-1] == "":
         lines.pop()

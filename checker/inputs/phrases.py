@@ -31,6 +31,11 @@ def list_of(item, count):
     return ";".join([item] * count)
 
 
+def assigned(target, values):
+    """An item for each value, all with one target."""
+    return ";".join(f"{target}:={value}" for value in values)
+
+
 def expression(nodes, operand="1", operator="and"):
     """An expression of exactly that many nodes, ending in an operand."""
     head = "not " if nodes % 2 == 0 else ""

@@ -9,9 +9,10 @@ use native.Mathlib.Omega.{arith}
 use native.Mathlib.Nat.{not-suc-le-zero, le-of-suc-le-suc, eq-or-lt-of-le}
 use native.Mathlib.Numerals.{add-one}
 use lib.ListN.{length, length-append}
-use Rattle.notation.specs.Regular.{Every}
+use Rattle.notation.specs.Regular.{Every, Among}
+use Rattle.notation.proofs.Members.{among-left, among-right, among-split}
 use Rattle.meaning.proofs.Lists.{joined}
-use Rattle.counting.specs.Counts.{below, Among, Ascending, ThereAre}
+use Rattle.counting.specs.Counts.{below, Ascending, ThereAre}
 
 -- How many.
 one-length : (b : Bool) (n : ℕ) → length (cond b (n ∷ []) []) ≡ cond b 1 0
@@ -50,20 +51,6 @@ none-more test n (suc d) h =
     ∙ none-more test n d (λ s a b. h s a (omega arith))
 
 -- Which.
-among-left : (t : ℕ) (xs ys : List ℕ) → Among t xs → Among t (xs ++ ys)
-among-left t [] ys h = absurd h
-among-left t (x ∷ xs) ys (inl e) = inl e
-among-left t (x ∷ xs) ys (inr h) = inr (among-left t xs ys h)
-
-among-right : (t : ℕ) (xs ys : List ℕ) → Among t ys → Among t (xs ++ ys)
-among-right t [] ys h = h
-among-right t (x ∷ xs) ys h = inr (among-right t xs ys h)
-
-among-split : (t : ℕ) (xs ys : List ℕ) → Among t (xs ++ ys) → Among t xs ⊎ Among t ys
-among-split t [] ys h = inr h
-among-split t (x ∷ xs) ys (inl e) = inl (inl e)
-among-split t (x ∷ xs) ys (inr h) = ⊎-elim (λ a. inl (inr a)) (λ b. inr b) (among-split t xs ys h)
-
 among-one : (t n : ℕ) (b : Bool) → Among t (cond b (n ∷ []) []) → (t ≡ n) × (b ≡ true)
 among-one t n true (inl e) = (e, refl)
 among-one t n true (inr h) = absurd h

@@ -9,14 +9,14 @@ use native.Mathlib.Omega.{arith}
 use lib.Dec.{eqb}
 use lib.ListN.{length}
 use Rattle.notation.specs.Model.{Model}
-use Rattle.notation.specs.Regular.{Every}
+use Rattle.notation.specs.Regular.{Every, Among}
 use Rattle.meaning.specs.OneRow.{stateCount}
 use Rattle.meaning.specs.Evidence.{inMap}
 use Rattle.meaning.proofs.Fits.{runs-fit}
 use Rattle.meaning.proofs.Number.{stateNumber-lt}
 use Rattle.meaning.specs.Meaning.{last}
 use Rattle.exploration.specs.Findings.{Reaches, ExactMap}
-use Rattle.counting.specs.Counts.{settingCount, settingOf, Among, Ascending}
+use Rattle.counting.specs.Counts.{settingCount, settingOf, Ascending}
 use Rattle.counting.specs.Promises.{Counted, ReachableCounted, CountedOnce}
 use Rattle.counting.proofs.Below.{there-are}
 use Rattle.counting.proofs.Settings.{has-setting, at-setting}

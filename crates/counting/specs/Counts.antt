@@ -1,7 +1,7 @@
 -- The members of a map: which they are, and how many, in all and for each setting of the shared names.
 -- Assumes nothing.
 use mathlib.Core.Path.{_≡_}
-use mathlib.Core.Logic.{_↔_, _⊎_}
+use mathlib.Core.Logic.{_↔_}
 use mathlib.Core.Bool.{Bool, cond, _&&_}
 use mathlib.Core.List.{List, [], _∷_, _++_}
 use Prim.Native.Nat.{ℕ, zero, suc, _+_, _%_, _^_, _<_}
@@ -9,7 +9,7 @@ use lib.Dec.{eqb, ltb}
 use lib.ListN.{length}
 use lib.Count.{ones}
 use Rattle.notation.specs.Model.{Model}
-use Rattle.notation.specs.Regular.{Every}
+use Rattle.notation.specs.Regular.{Every, Among}
 use Rattle.meaning.specs.Evidence.{inMap}
 
 -- The numbers below n that pass a test, ascending.
@@ -53,11 +53,6 @@ onesOf (x ∷ xs) = ones x + onesOf xs
 unfoldable pub sumOf : List ℕ → ℕ
 sumOf [] = 0
 sumOf (n ∷ ns) = n + sumOf ns
-
--- The number stands in the list.
-abbrev pub Among : ℕ → List ℕ → Type 0
-Among t [] = ⊥
-Among t (n ∷ ns) = (t ≡ n) ⊎ Among t ns
 
 -- Each number of the list is below those behind it.
 abbrev pub Ascending : List ℕ → Type 0

@@ -5,13 +5,14 @@ use mathlib.Core.Logic.{_↔_}
 use mathlib.Core.List.{List, map}
 use Prim.Native.Nat.{ℕ, _<_}
 use Rattle.notation.specs.Model.{Model}
+use Rattle.notation.specs.Regular.{Among}
 use Rattle.meaning.specs.Bits.{number}
 use Rattle.meaning.specs.OneRow.{One, spread, stateCount}
 use Rattle.meaning.specs.Evidence.{safe, safeBy}
 use Rattle.sheets.specs.Sheets.{System, size}
 use Rattle.sheets.specs.SheetTexts.{AreBytes, SheetSays}
 use Rattle.exploration.specs.Findings.{Reaches, ExactMap, Finds}
-use Rattle.counting.specs.Counts.{members, memberCount, settingCount, settingOf, countAt, settingsIn, onesOf, sumOf, Among, Ascending, ThereAre}
+use Rattle.counting.specs.Counts.{members, memberCount, settingCount, settingOf, countAt, settingsIn, onesOf, sumOf, Ascending, ThereAre}
 
 -- The map that a sheet says has as many members as its record's payload has one bits.
 abbrev pub MembersAreOnes : Type 0

@@ -1,19 +1,29 @@
 -- A batch's rows serve the 64 words from a multiple of 64.
 -- Assumes nothing.
-use Prim.Native.Nat.{ℕ, zero, suc, _+_, _*_, _/_, _%_, _^_, _≤_, _<_}
+use Prim.Native.Nat.{ℕ, zero, suc, _+_, _-_, _*_, _/_, _%_, _^_, _≤_, _<_}
 use mathlib.Core.Path.{_≡_, refl, ap, _∙_, subst}
 use mathlib.Core.List.{List}
 use native.Mathlib.Omega.{arith}
 use lib.Dec.{eqb, ltb}
-use lib.ListN.{length, replicate}
+use lib.ListN.{length, replicate, take, drop}
+use lib.Seq.{slice}
 use mathlib.Core.Bool.{Bool, true, false, cond, _&&_}
 use borrow.Author.Tests.{eq-eqb, ne-eqb, lt-ltb, le-ltb}
 use Rattle.evaluation.specs.Promises.{LanesAgree}
 use Rattle.evaluation.specs.working.CodeMachine.{runOf, startOf}
-use Rattle.evaluation.specs.working.Ends.{rowOf, fills, pickOf}
+use Rattle.evaluation.specs.working.Cells.{runCells, noTops}
+use Rattle.evaluation.specs.working.Ends.{startCells, rowOf, fills, pickOf}
 use Rattle.evaluation.specs.working.Batches.{afterOf, cellsAt, filledOf}
+use Rattle.evaluation.proofs.CodeRuns.{part}
 use Rattle.evaluation.proofs.LaneRows.{Have, picked-right}
 use Rattle.evaluation.proofs.LaneEnds.{fills-at, fills-length}
+
+-- The cells after the code words from..to, which a program lends.
+pub cells-right : (ops : List ℕ) (from to s n b : ℕ) {first after : List ℕ} → first ≡ startCells n s → after ≡ runCells (take (to - from) (drop from ops)) b noTops first
+    → after ≡ cellsAt (slice from to ops) s n b
+unfolding cellsAt
+cells-right ops from to s n b {first = cells} e q =
+    q ∙ ap (λ (os : List ℕ). runCells os b noTops cells) (part ops from to) ∙ ap (runCells (slice from to ops) b noTops) e
 
 -- Before the word w the rows are those of its batch, unless w begins another one.
 pub record Ready (os : List ℕ) (s n w : ℕ) (rows : List ℕ) : Type 0 where

@@ -4,14 +4,13 @@ use Prim.Native.Nat.{ℕ, _+_, _/_, _≤_, _<_}
 use mathlib.Core.Path.{_≡_, ap}
 use mathlib.Core.List.{List}
 use mathlib.Core.Bool.{Bool, true, false, cond}
-use native.Mathlib.Numerals.{add-one}
 use native.Mathlib.Omega.{arith}
 use lib.Dec.{eqb}
-use lib.ListN.{length, getD, take, length-take, drop-of-length-le}
-use lib.Seq.{slice, slice-cons}
+use lib.ListN.{length, getD, drop}
 use borrow.Author.Tests.{ne-eqb}
 use Rattle.evaluation.specs.declared.lanes.Tops.{Tops}
 use Rattle.evaluation.specs.working.Cells.{runCells, cellsOf, topsOf, topsKind, cellsKind}
+use Rattle.evaluation.proofs.CodeRuns.{next-word, no-word}
 
 -- A code word of another kind does nothing.
 pub tops-other : (k sp mp : ℕ) → 9 < k → topsKind k sp mp ≡ record { sp = sp; mp = mp }
@@ -46,14 +45,13 @@ cells-other k j b sp mp c h =
       ne-eqb k 9 (λ q. omega arith),
     )
 
--- A run over a part of the code: one word at a time, and none.
-pub turn : (ops : List ℕ) (i to b : ℕ) (t : Tops) (c : List ℕ) → i < to → to ≤ length ops
-    → runCells (slice i to ops) b t c ≡ runCells (slice (i + 1) to ops) b (topsOf (getD ops i 0) t) (cellsOf (getD ops i 0) b t c)
-turn ops i to b t c h l = rw (add-one, slice-cons i to ops 0)
+-- The code words from place i on: one and those behind it, and none.
+module _ (ops : List ℕ) (i b : ℕ) (t : Tops) (c : List ℕ) where
+  pub turn : i < length ops → runCells (drop i ops) b t c ≡ runCells (drop (i + 1) ops) b (topsOf (getD ops i 0) t) (cellsOf (getD ops i 0) b t c)
+  turn h = ap (λ (l : List ℕ). runCells l b t c) (next-word ops i h)
 
-pub done : (ops : List ℕ) (i to b : ℕ) (t : Tops) (c : List ℕ) → to ≤ i → runCells (slice i to ops) b t c ≡ c
-done ops i to b t c h =
-    ap (λ (l : List ℕ). runCells l b t c) (drop-of-length-le (take to ops) {i = i} (simp length-take (omega arith)))
+  pub done : length ops ≤ i → runCells (drop i ops) b t c ≡ c
+  done h = ap (λ (l : List ℕ). runCells l b t c) (no-word ops i h)
 
 -- The tops are within their stacks.
 abbrev pub In : Tops → Type 0

@@ -12,11 +12,11 @@ use Rattle.notation.specs.Model.{Expr, RowItem, skipRow, putRow, Item, skip, fo
 use Rattle.notation.specs.Layout.{exprCode, rowItemCode, rowItemsCode, itemCode, itemsCode, commandCode, STORE, WHEN, OTHERWISE, DONE, PASS}
 use Rattle.notation.specs.Regular.{Every, Scoped, ScopedRow, ScopedItem, ScopedCommand, Low, LowRow, LowItem, LowCommand}
 use Rattle.evaluation.specs.declared.machine.Machine.{Machine}
-use Rattle.evaluation.specs.working.CodeMachine.{kindOf, stepOf, runOf, startOf}
+use Rattle.evaluation.specs.working.CodeMachine.{nodeKind, kindOf, stepOf, runOf, startOf}
 use Rattle.meaning.specs.working.Digits.{put}
 use Rattle.meaning.specs.working.OnNumbers.{withBit, evalAt, rowItemsAt, itemsAt, stepAt}
 use Rattle.evaluation.proofs.CodeRuns.{run-append}
-use Rattle.evaluation.proofs.Values.{mach, mach-cong, num, num-lt, num-and, Below, below-parts, pushes}
+use Rattle.evaluation.proofs.Values.{mach, mach-cong, num, num-lt, num-and, Below, below-parts, runs}
 
 -- The code changes the state by f if the mask on top is on, and nothing else, where the masks below it are a number below n.
 abbrev Does : ℕ → ℕ → List ℕ → (ℕ → ℕ) → Type 0
@@ -79,7 +79,7 @@ module _ (w : ℕ) where
   step-done t m s b = mach-cong refl (half m b) refl
 
   step-pass : (m : Machine) → stepOf PASS w m ≡ m
-  unfolding kindOf
+  unfolding kindOf nodeKind
   step-pass m = refl
 
 -- ---- parts of items
@@ -105,7 +105,7 @@ module _ (w n : ℕ) where
 
 module _ (a b w n : ℕ) (few : a + b ≤ 32) (p : Place) (e : Expr) (o : Scoped a b e) (z : Below (starsExpr p e)) (low : Low e) where
   value : (m s : ℕ) → runOf (exprCode a e) w (mach 0 m s) ≡ mach (0 * 2 + num (evalAt a w s e)) m s
-  value m s = pushes a b w m s few p e o z 0 0 (omega arith) (omega arith)
+  value m s = runs a b w s few p e o z (omega arith) m
 
   does-put : (i : ℕ) → i < 32 → Does w n (exprCode a e ++ ((STORE + i) ∷ [])) (λ s. withBit s i (evalAt a w s e))
   does-put i h q on s l =

@@ -19,7 +19,7 @@ use Rattle.meaning.proofs.Lists.{every-at}
 use Rattle.meaning.proofs.OnNumbers.{step-computed, starts-computed, breaks-computed}
 use Rattle.evaluation.specs.working.CodeMachine.{valueOf}
 use Rattle.evaluation.specs.working.Batches.{afterOf}
-use Rattle.evaluation.specs.working.CodeSystem.{segmentOf, clauseIn, startsIn, breaksIn, nextIn}
+use Rattle.evaluation.specs.working.CodeSystem.{segmentOf, holdsIn, clauseIn, startsIn, breaksIn, nextIn}
 use Rattle.evaluation.specs.Promises.{Computes, FlatComputes}
 use Rattle.evaluation.proofs.Values.{numbered-below, starless-below, holds-right}
 use Rattle.evaluation.proofs.Bounds.{after-right}
@@ -68,7 +68,7 @@ module _ (m : Model) (g : Regular m) (moreCode moreEnds : List ℕ) where
   -- A clause whose expressions are the segments i and i + 1.
   clause-right : (c : Clause) (i s : ℕ) → segmentOf ops ends i ≡ exprCode a (c .whole) → segmentOf ops ends (i + 1) ≡ exprCode a (c .each)
       → ScopedClause a b c → Starless (c .whole) → Starless (c .each) → Low (c .whole) × Low (c .each) → clauseIn ops ends i s ≡ clauseAt a 0 c s
-  unfolding clauseIn clauseAt
+  unfolding clauseIn holdsIn clauseAt
   clause-right c i s e f sc hw he low =
       let few = g .fewNames in
       ap₂ _&&_

@@ -11,7 +11,7 @@ use lib.ListN.{getD, set}
 use lib.Seq.{getD-set-other}
 use borrow.Author.Tests.{ne-eqb, eq-eqb}
 use Rattle.evaluation.specs.declared.machine.Machine.{Machine}
-use Rattle.evaluation.specs.working.CodeMachine.{kindOf, stepOf, runOf}
+use Rattle.evaluation.specs.working.CodeMachine.{nodeKind, kindOf, stepOf, runOf}
 use Rattle.meaning.specs.working.Digits.{digit, put}
 use Rattle.evaluation.specs.declared.lanes.Tops.{Tops}
 use Rattle.evaluation.specs.working.Cells.{ones, starOf, down, mdown, topsKind, cellsKind, topsOf, cellsOf, runCells}
@@ -60,26 +60,26 @@ module _ (l b j sp mp : ℕ) (c : List ℕ) (m : Machine) (hl : l < 64) (hj : j 
   m1 = mask-second l sp mp c st on s hl z
 
   lit : Goal 0
-  unfolding topsKind cellsKind kindOf
+  unfolding topsKind cellsKind kindOf nodeKind
   lit = pushed l sp mp c st on s hl z (j % 2 * ones) (j % 2) (lane-all (j % 2) l (omega arith) hl) (omega arith)
 
   var : Goal 1
-  unfolding topsKind cellsKind kindOf
+  unfolding topsKind cellsKind kindOf nodeKind
   var = pushed l sp mp c st on s hl z (getD c j 0) (digit s j) (sym (z .of-state .same j hj)) (omega arith)
 
   star : Goal 2
-  unfolding topsKind cellsKind kindOf
+  unfolding topsKind cellsKind kindOf nodeKind
   star = pushed l sp mp c st on s hl z (starOf j b) (digit (64 * b + l) j) (lane-star j b l hl) (omega arith)
 
   neg : Goal 3
-  unfolding topsKind cellsKind kindOf
+  unfolding topsKind cellsKind kindOf nodeKind
   neg = topped l sp mp c st on s hl z (bitXor (getD c (32 + sp) 0) ones) (1 - st % 2) (lane-not (getD c (32 + sp) 0) l hl ∙ ap (λ (x : ℕ). 1 - x) (sym t0)) (omega arith)
 
   quarter : (x v : ℕ) → x / 2 / 2 * 2 + v ≡ x / 4 * 2 + v
   quarter x v = omega arith
 
   conj : Goal 4
-  unfolding topsKind cellsKind kindOf
+  unfolding topsKind cellsKind kindOf nodeKind
   conj =
       let v = bitAnd (getD c (32 + down sp) 0) (getD c (32 + sp) 0) in
       let r = (st % 2 + st / 2 % 2) / 2 in
@@ -89,7 +89,7 @@ module _ (l b j sp mp : ℕ) (c : List ℕ) (m : Machine) (hl : l < 64) (hj : j 
       (topped l (down sp) mp (set c (32 + sp) 0) (st / 2) on s hl (popped l sp mp c st on s hl z) v r e (omega arith))
 
   disj : Goal 5
-  unfolding topsKind cellsKind kindOf
+  unfolding topsKind cellsKind kindOf nodeKind
   disj =
       let v = bitOr (getD c (32 + down sp) 0) (getD c (32 + sp) 0) in
       let r = (st % 2 + st / 2 % 2 + 1) / 2 in

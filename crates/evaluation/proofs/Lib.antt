@@ -15,3 +15,6 @@ pub mod Batches
 pub mod OneRowCode
 pub mod Segments
 pub mod FlatForms
+pub mod Within
+pub mod Standing
+pub mod Passes

@@ -1,19 +1,19 @@
 -- The table of one row as the code computes it, one segment at a time.
 -- Assumes nothing.
 use mathlib.Core.Path.{_≡_, refl, sym, ap, _∙_}
-use mathlib.Core.Bool.{Bool, true, false, _&&_}
+use mathlib.Core.Bool.{Bool, true, false}
 use mathlib.Core.List.{List}
 use Prim.Native.Nat.{ℕ, zero, suc, _+_, _-_, _%_, _^_, _<_, _≤_}
 use native.Mathlib.Omega.{arith}
 use lib.Dec.{eqb}
-use lib.ListN.{getD}
+use lib.ListN.{getD, take, drop}
 use lib.Seq.{slice}
 use lib.Pow.{pow-mono}
-use borrow.Author.Tests.{eq-eqb, ne-eqb}
 use Rattle.evaluation.specs.working.CodeMachine.{runOf, startOf, valueOf}
 use Rattle.evaluation.specs.working.Batches.{afterOf}
-use Rattle.evaluation.specs.working.CodeSystem.{beginOf, segmentOf, clauseIn, nextIn, starsIn, Sound, Bounds}
+use Rattle.evaluation.specs.working.CodeSystem.{beginOf, segmentOf, holdsIn, clauseIn, nextIn, starsIn, Sound, Bounds}
 use Rattle.evaluation.specs.declared.plan.Plan.{Plan}
+use Rattle.evaluation.proofs.CodeRuns.{part}
 
 begin-later : (ends : List ℕ) (i : ℕ) → (i ≡ 0 → ⊥) → getD ends (i - 1) 0 ≡ beginOf ends i
 unfolding beginOf
@@ -38,30 +38,31 @@ pub cut : (ops : List ℕ) {ends : List ℕ} {i from to : ℕ} → Bounds ends i
 unfolding segmentOf
 cut ops B = rw (B .begins, B .stops)
 
-and-no : (a b : Bool) → a ≡ false → false ≡ a && b
-and-no a b e = rw e
+-- So they are where a program lends them.
+lent : (ops : List ℕ) {ends : List ℕ} {i from to : ℕ} → Bounds ends i from to → take (to - from) (drop from ops) ≡ segmentOf ops ends i
+lent ops {from = from} {to = to} B = part ops from to ∙ cut ops B
 
-and-go : (a b : Bool) → a ≡ true → b ≡ a && b
-and-go a b e = rw e
+-- An expression, by the value of its segment.
+pub holds-told : (ops : List ℕ) {ends : List ℕ} (s : ℕ) {i from to v : ℕ} → Bounds ends i from to → v ≡ valueOf (take (to - from) (drop from ops)) 0 s → eqb v 1 ≡ holdsIn ops ends i s
+unfolding holdsIn
+holds-told ops s B q = ap (λ (x : ℕ). eqb x 1) (q ∙ ap (λ (os : List ℕ). valueOf os 0 s) (lent ops B))
 
 -- A clause, whose first expression is false or true.
-module _ (ops : List ℕ) {ends : List ℕ} (s : ℕ) {i from to v : ℕ} (B : Bounds ends i from to) (q : v ≡ valueOf (slice from to ops) 0 s) where
-  pub clause-fails : (v ≡ 1 → ⊥) → false ≡ clauseIn ops ends i s
+module _ (ops ends : List ℕ) (i s : ℕ) where
+  pub clause-fails : holdsIn ops ends i s ≡ false → false ≡ clauseIn ops ends i s
   unfolding clauseIn
-  clause-fails h = and-no _ _ (ne-eqb _ _ λ k. h (q ∙ ap (λ (os : List ℕ). valueOf os 0 s) (cut ops B) ∙ k))
+  clause-fails e = rw e
 
-  pub clause-goes : v ≡ 1 → {from to w : ℕ} → Bounds ends (i + 1) from to → w ≡ valueOf (slice from to ops) 0 s → eqb w 1 ≡ clauseIn ops ends i s
+  pub clause-goes : holdsIn ops ends i s ≡ true → (v : Bool) → v ≡ holdsIn ops ends (i + 1) s → v ≡ clauseIn ops ends i s
   unfolding clauseIn
-  clause-goes h D k =
-      ap (λ (x : ℕ). eqb x 1) (k ∙ ap (λ (os : List ℕ). valueOf os 0 s) (cut ops D))
-      ∙ and-go _ _ (eq-eqb _ _ (sym (q ∙ ap (λ (os : List ℕ). valueOf os 0 s) (cut ops B)) ∙ h))
+  clause-goes e v q = rw e q
 
 -- A step, whose state is cut to its names' bits.
 pub step-taken : (ops : List ℕ) {ends : List ℕ} (n s k w : ℕ) {from to a b : ℕ} → Bounds ends (4 + k) from to
-    → a ≡ runOf (slice from to ops) w (startOf s) .state → b ≡ 2 ^ n → a % b ≡ nextIn ops ends n s k w
+    → a ≡ runOf (take (to - from) (drop from ops)) w (startOf s) .state → b ≡ 2 ^ n → a % b ≡ nextIn ops ends n s k w
 unfolding nextIn afterOf
 step-taken ops n s k w {a = a} B q r =
-    ap (λ (x : ℕ). a % x) r ∙ ap (λ (x : ℕ). x % 2 ^ n) (q ∙ ap (λ (os : List ℕ). runOf os w (startOf s) .state) (cut ops B))
+    ap (λ (x : ℕ). a % x) r ∙ ap (λ (x : ℕ). x % 2 ^ n) (q ∙ ap (λ (os : List ℕ). runOf os w (startOf s) .state) (lent ops B))
 
 -- At most 8 stars give at most 256 words.
 pub words-few : {plan : Plan} → Sound plan → (k x n : ℕ) → k < plan .commands → x ≡ getD (plan .stars) k 0 → n ≡ 2 ^ x

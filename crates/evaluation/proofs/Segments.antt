@@ -19,7 +19,7 @@ shifted : (p x : ℕ) (ends : List ℕ) (i : ℕ) → beginFrom p (x ∷ ends) (
 shifted p x ends zero = refl
 shifted p x ends (suc i) = refl
 
-one-cut : (before s after : List ℕ) → slice (length before) (length before + length s) (before ++ s ++ after) ≡ s
+pub one-cut : (before s after : List ℕ) → slice (length before) (length before + length s) (before ++ s ++ after) ≡ s
 one-cut before s after =
     ap (drop (length before)) (take-at (before ++ s) after (length before + length s) (length-append before s)) ∙ drop-append-seam before s
 

@@ -1,4 +1,4 @@
--- Running an expression's code pushes its value.
+-- An expression's code has a node for each of the expression's and pushes its value.
 -- Assumes nothing.
 use Prim.Native.Nat.{ℕ, suc, _+_, _*_, _/_, _%_, _^_, _≤_, _<_}
 use mathlib.Core.Path.{_≡_, refl, sym, ap, _∙_, subst}
@@ -10,16 +10,17 @@ use lib.Dec.{eqb}
 use lib.ListN.{length}
 use lib.Pow.{pow-mono, pow-add}
 use lib.Arith.{digits-lt}
+use borrow.Author.Tests.{ne-eqb}
 use Rattle.notation.specs.Model.{Expr, lit, star, shared, row, neg, conj, disj, Place, outside, Star, starsExpr}
 use Rattle.notation.specs.Layout.{exprCode, LOAD, CHOOSE, NEGATE, BOTH, EITHER}
 use Rattle.notation.specs.Regular.{Every, NumberedFrom, Scoped, Starless, height}
 use Rattle.meaning.specs.Bits.{bit}
 use Rattle.evaluation.specs.declared.machine.Machine.{Machine}
-use Rattle.evaluation.specs.working.CodeMachine.{kindOf, stepOf, runOf, valueOf}
+use Rattle.evaluation.specs.working.CodeMachine.{nodeKind, nodeOf, valuesOf, valueOf, kindOf, stepOf, runOf}
 use Rattle.meaning.specs.working.OnNumbers.{evalAt}
 use Rattle.meaning.proofs.PutBits.{bit-digit}
-use Rattle.meaning.proofs.Lists.{left, right}
-use Rattle.evaluation.proofs.CodeRuns.{run-append}
+use Rattle.meaning.proofs.Lists.{left, right, joined}
+use Rattle.evaluation.proofs.CodeRuns.{values-append}
 
 abbrev pub mach : ℕ → ℕ → ℕ → Machine
 mach t k s = record { stack = t; mask = k; state = s }
@@ -83,87 +84,122 @@ room t d h l =
 taller : (t d : ℕ) (b : Bool) → t < 2 ^ d → t * 2 + num b < 2 ^ (d + 1)
 taller t d b h = subst (λ (x : ℕ). t * 2 + num b < x) (sym (pow-add 2 d 1)) (digits-lt h (num-lt b))
 
--- ---- code words
+-- ---- nodes
 
-module _ (w k s : ℕ) where
-  step-push : (t : ℕ) (b : Bool) → stepOf (num b) w (mach t k s) ≡ mach (t * 2 % 2 ^ 64 + num b) k s
-  unfolding kindOf
-  step-push t false = refl
-  step-push t true = refl
+-- A code word that is a node.
+abbrev pub IsNode : ℕ → Type 0
+IsNode o = o / 32 < 6
 
-  step-load : (t i : ℕ) → i < 32 → stepOf (LOAD + i) w (mach t k s) ≡ mach (t * 2 % 2 ^ 64 + num (bit s i)) k s
-  unfolding kindOf
-  step-load t i h =
+module _ (w s : ℕ) where
+  node-push : (t : ℕ) (b : Bool) → nodeOf (num b) w s t ≡ t * 2 % 2 ^ 64 + num b
+  unfolding nodeKind
+  node-push t false = refl
+  node-push t true = refl
+
+  node-load : (t i : ℕ) → i < 32 → nodeOf (LOAD + i) w s t ≡ t * 2 % 2 ^ 64 + num (bit s i)
+  unfolding nodeKind
+  node-load t i h =
       let p : (32 + i) / 32 ≡ 1 = omega arith in
       let q : (32 + i) % 32 ≡ i = omega arith in
       rw (p, q, bit-digit)
 
-  step-choose : (t i : ℕ) → i < 32 → stepOf (CHOOSE + i) w (mach t k s) ≡ mach (t * 2 % 2 ^ 64 + num (bit w i)) k s
-  unfolding kindOf
-  step-choose t i h =
+  node-choose : (t i : ℕ) → i < 32 → nodeOf (CHOOSE + i) w s t ≡ t * 2 % 2 ^ 64 + num (bit w i)
+  unfolding nodeKind
+  node-choose t i h =
       let p : (64 + i) / 32 ≡ 2 = omega arith in
       let q : (64 + i) % 32 ≡ i = omega arith in
       rw (p, q, bit-digit)
 
-  step-negate : (t : ℕ) (b : Bool) → stepOf NEGATE w (mach (t * 2 + num b) k s) ≡ mach (t * 2 + num (not b)) k s
+  node-negate : (t : ℕ) (b : Bool) → nodeOf NEGATE w s (t * 2 + num b) ≡ t * 2 + num (not b)
+  unfolding nodeKind
+  node-negate t false = omega arith
+  node-negate t true = omega arith
+
+  node-both : (t : ℕ) (a b : Bool) → nodeOf BOTH w s ((t * 2 + num a) * 2 + num b) ≡ t * 2 + num (a && b)
+  unfolding nodeKind
+  node-both t a b =
+      rw (quarter t (num a) (num b) (num-lt a) (num-lt b), second t (num a) (num b) (num-lt a) (num-lt b), first t (num a) (num b) (num-lt b), num-and a b)
+
+  node-either : (t : ℕ) (a b : Bool) → nodeOf EITHER w s ((t * 2 + num a) * 2 + num b) ≡ t * 2 + num (a || b)
+  unfolding nodeKind
+  node-either t a b =
+      rw (quarter t (num a) (num b) (num-lt a) (num-lt b), second t (num a) (num b) (num-lt a) (num-lt b), first t (num a) (num b) (num-lt b), num-or a b)
+
+-- In a command's code, too, a node changes the values alone.
+module _ (w k s : ℕ) where
+  node-step : (o t : ℕ) → IsNode o → stepOf o w (mach t k s) ≡ mach (nodeOf o w s t) k s
   unfolding kindOf
-  step-negate t false = mach-cong (omega arith) refl refl
-  step-negate t true = mach-cong (omega arith) refl refl
+  node-step o t h =
+      rw (ne-eqb (o / 32) 6 (λ q. omega arith), ne-eqb (o / 32) 7 (λ q. omega arith), ne-eqb (o / 32) 8 (λ q. omega arith), ne-eqb (o / 32) 9 (λ q. omega arith))
 
-  step-both : (t : ℕ) (a b : Bool) → stepOf BOTH w (mach ((t * 2 + num a) * 2 + num b) k s) ≡ mach (t * 2 + num (a && b)) k s
-  unfolding kindOf
-  step-both t a b =
-      mach-cong
-      (rw (quarter t (num a) (num b) (num-lt a) (num-lt b), second t (num a) (num b) (num-lt a) (num-lt b), first t (num a) (num b) (num-lt b), num-and a b))
-      refl refl
+  nodes-run : (os : List ℕ) → Every IsNode os → (t : ℕ) → runOf os w (mach t k s) ≡ mach (valuesOf os w s t) k s
+  nodes-run [] h t = refl
+  nodes-run (o ∷ os) h t = ap (runOf os w) (node-step o t (h .0)) ∙ nodes-run os (h .1) (nodeOf o w s t)
 
-  step-either : (t : ℕ) (a b : Bool) → stepOf EITHER w (mach ((t * 2 + num a) * 2 + num b) k s) ≡ mach (t * 2 + num (a || b)) k s
-  unfolding kindOf
-  step-either t a b =
-      mach-cong
-      (rw (quarter t (num a) (num b) (num-lt a) (num-lt b), second t (num a) (num b) (num-lt a) (num-lt b), first t (num a) (num b) (num-lt b), num-or a b))
-      refl refl
+-- ---- expressions: a shared and b row names, the choice word w, the state s
 
--- ---- expressions: a shared and b row names, the choice word w, the mask k, the state s
-
-module _ (a b w k s : ℕ) (few : a + b ≤ 32) (p : Place) where
+module _ (a b w s : ℕ) (few : a + b ≤ 32) (p : Place) where
   -- Where there are d values and room for the expression's, its code pushes its value.
   pub pushes : (e : Expr) → Scoped a b e → Below (starsExpr p e) → (t d : ℕ) → t < 2 ^ d → d + height e ≤ 64
-      → runOf (exprCode a e) w (mach t k s) ≡ mach (t * 2 + num (evalAt a w s e)) k s
+      → valuesOf (exprCode a e) w s t ≡ t * 2 + num (evalAt a w s e)
   unfolding exprCode evalAt height starsExpr
-  pushes (lit false) o z t d h l = step-push w k s t false ∙ mach-cong (rw (room t d h l)) refl refl
-  pushes (lit true) o z t d h l = step-push w k s t true ∙ mach-cong (rw (room t d h l)) refl refl
-  pushes (star i) o z t d h l = step-choose w k s t i (z .0) ∙ mach-cong (rw (room t d h l)) refl refl
-  pushes (shared i) o z t d h l = step-load w k s t i (omega arith) ∙ mach-cong (rw (room t d h l)) refl refl
-  pushes (row i) o z t d h l = step-load w k s t (a + i) (omega arith) ∙ mach-cong (rw (room t d h l)) refl refl
+  pushes (lit false) o z t d h l = node-push w s t false ∙ rw (room t d h l)
+  pushes (lit true) o z t d h l = node-push w s t true ∙ rw (room t d h l)
+  pushes (star i) o z t d h l = node-choose w s t i (z .0) ∙ rw (room t d h l)
+  pushes (shared i) o z t d h l = node-load w s t i (omega arith) ∙ rw (room t d h l)
+  pushes (row i) o z t d h l = node-load w s t (a + i) (omega arith) ∙ rw (room t d h l)
   pushes (neg e) o z t d h l =
-      run-append (exprCode a e) (NEGATE ∷ []) w (mach t k s)
-      ∙ ap (stepOf NEGATE w) (pushes e o z t d h l)
-      ∙ step-negate w k s t (evalAt a w s e)
+      values-append (exprCode a e) (NEGATE ∷ []) w s t
+      ∙ ap (nodeOf NEGATE w s) (pushes e o z t d h l)
+      ∙ node-negate w s t (evalAt a w s e)
   pushes (conj e f) o z t d h l =
       let u = evalAt a w s e in
       let v = evalAt a w s f in
       let y = below-parts (starsExpr p e) (starsExpr p f) z in
-      run-append (exprCode a e) (exprCode a f ++ (BOTH ∷ [])) w (mach t k s)
-      ∙ ap (runOf (exprCode a f ++ (BOTH ∷ [])) w) (pushes e (o .0) (y .0) t d h (omega arith))
-      ∙ run-append (exprCode a f) (BOTH ∷ []) w (mach (t * 2 + num u) k s)
-      ∙ ap (stepOf BOTH w) (pushes f (o .1) (y .1) (t * 2 + num u) (d + 1) (taller t d u h) (omega arith))
-      ∙ step-both w k s t u v
+      values-append (exprCode a e) (exprCode a f ++ (BOTH ∷ [])) w s t
+      ∙ ap (valuesOf (exprCode a f ++ (BOTH ∷ [])) w s) (pushes e (o .0) (y .0) t d h (omega arith))
+      ∙ values-append (exprCode a f) (BOTH ∷ []) w s (t * 2 + num u)
+      ∙ ap (nodeOf BOTH w s) (pushes f (o .1) (y .1) (t * 2 + num u) (d + 1) (taller t d u h) (omega arith))
+      ∙ node-both w s t u v
   pushes (disj e f) o z t d h l =
       let u = evalAt a w s e in
       let v = evalAt a w s f in
       let y = below-parts (starsExpr p e) (starsExpr p f) z in
-      run-append (exprCode a e) (exprCode a f ++ (EITHER ∷ [])) w (mach t k s)
-      ∙ ap (runOf (exprCode a f ++ (EITHER ∷ [])) w) (pushes e (o .0) (y .0) t d h (omega arith))
-      ∙ run-append (exprCode a f) (EITHER ∷ []) w (mach (t * 2 + num u) k s)
-      ∙ ap (stepOf EITHER w) (pushes f (o .1) (y .1) (t * 2 + num u) (d + 1) (taller t d u h) (omega arith))
-      ∙ step-either w k s t u v
+      values-append (exprCode a e) (exprCode a f ++ (EITHER ∷ [])) w s t
+      ∙ ap (valuesOf (exprCode a f ++ (EITHER ∷ [])) w s) (pushes e (o .0) (y .0) t d h (omega arith))
+      ∙ values-append (exprCode a f) (EITHER ∷ []) w s (t * 2 + num u)
+      ∙ ap (nodeOf EITHER w s) (pushes f (o .1) (y .1) (t * 2 + num u) (d + 1) (taller t d u h) (omega arith))
+      ∙ node-either w s t u v
+
+  -- An expression's code has nodes only.
+  all-nodes : (e : Expr) → Scoped a b e → Below (starsExpr p e) → Every IsNode (exprCode a e)
+  unfolding exprCode starsExpr
+  all-nodes (lit false) o z = (omega arith, tt)
+  all-nodes (lit true) o z = (omega arith, tt)
+  all-nodes (star i) o z = (let h = z .0 in omega arith, tt)
+  all-nodes (shared i) o z = (omega arith, tt)
+  all-nodes (row i) o z = (omega arith, tt)
+  all-nodes (neg e) o z = joined IsNode (exprCode a e) (NEGATE ∷ []) (all-nodes e o z) (omega arith, tt)
+  all-nodes (conj e f) o z =
+      let y = below-parts (starsExpr p e) (starsExpr p f) z in
+      joined IsNode (exprCode a e) (exprCode a f ++ (BOTH ∷ [])) (all-nodes e (o .0) (y .0))
+      (joined IsNode (exprCode a f) (BOTH ∷ []) (all-nodes f (o .1) (y .1)) (omega arith, tt))
+  all-nodes (disj e f) o z =
+      let y = below-parts (starsExpr p e) (starsExpr p f) z in
+      joined IsNode (exprCode a e) (exprCode a f ++ (EITHER ∷ [])) (all-nodes e (o .0) (y .0))
+      (joined IsNode (exprCode a f) (EITHER ∷ []) (all-nodes f (o .1) (y .1)) (omega arith, tt))
+
+  -- In a command's code, where no value was before, it leaves its value alone on the stack.
+  pub runs : (e : Expr) → Scoped a b e → Below (starsExpr p e) → height e ≤ 64 → (k : ℕ)
+      → runOf (exprCode a e) w (mach 0 k s) ≡ mach (0 * 2 + num (evalAt a w s e)) k s
+  runs e o z l k =
+      nodes-run w k s (exprCode a e) (all-nodes e o z) 0 ∙ ap (λ (t : ℕ). mach t k s) (pushes e o z 0 0 (omega arith) (omega arith))
 
 -- The value of an expression's code is the expression's value.
 pub value-right : (a b w s : ℕ) (p : Place) (e : Expr) → a + b ≤ 32 → Scoped a b e → Below (starsExpr p e) → height e ≤ 64
     → valueOf (exprCode a e) w s ≡ cond (evalAt a w s e) 1 0
 value-right a b w s p e few o z h =
-    ap (λ (m : Machine). m .stack % 2) (pushes a b w 1 s few p e o z 0 0 (omega arith) (omega arith)) ∙ low (evalAt a w s e)
+    ap (λ (t : ℕ). t % 2) (pushes a b w s few p e o z 0 0 (omega arith) (omega arith)) ∙ low (evalAt a w s e)
   where
     low : (v : Bool) → (0 * 2 + num v) % 2 ≡ num v
     low false = refl

@@ -3,6 +3,7 @@ ghost use mathlib.Core.Path.{_≡_};
 ghost use Prim.Native.Nat.{_<_, _≤_};
 ghost use lib.ListN.{length, replicate};
 ghost use lib.Seq.{slice};
+ghost use Rattle.evaluation.specs.working.CodeMachine.{passesOf};
 ghost use Rattle.evaluation.specs.working.Cells.{starOf, cellsOf, topsOf, runCells, noTops};
 ghost use Rattle.evaluation.specs.working.Ends.{fills, startCells, rowOf, pickOf};
 ghost use Rattle.evaluation.specs.working.Batches.{cellsAt, filledOf};
@@ -113,17 +114,18 @@ fn step(cells: &mut [u64; 128], t: Tops, op: u16, batch: u32) -> Tops
     }
 }
 
-// The code words from..to of ops, one after another.
-fn run(ops: &[u16], from: usize, to: usize, batch: u32, cells: &mut [u64; 128])
-    requires { ⌜ (from ≤ to) × (to ≤ length (now ops)) ⌝ }
-    ensures { λ r. ⌜ now (cells .exit) ≡ runCells (slice from to (now (ops .entry))) batch noTops (now (cells .entry)) ⌝ }
+// A command's code, one pass to a code word: how many passes it took.
+fn run(code: &[u16], batch: u32, cells: &mut [u64; 128]) -> usize
+    ensures { λ r. ⌜ now (cells .exit) ≡ runCells (now (code .entry)) batch noTops (now (cells .entry)) ⌝ }
+    ensures passes { λ r. ⌜ r ≡ passesOf (now (code .entry)) ⌝ }
 {
     let mut t = Tops { sp: 0, mp: 0 };
-    let mut i = from;
-    while i < to {
-        t = step(cells, t, ops[i], batch);
-        i += 1;
+    let mut words: usize = 0;
+    'passes: while words < code.len() {
+        t = step(cells, t, code[words], batch);
+        words += 1;
     }
+    words
 }
 
 // The cells where a run begins: the state's n bits in every lane, and the mask on.
@@ -138,16 +140,6 @@ fn start(state: u32, n: usize) -> [u64; 128]
         cells[i] = ((state >> (i as u32)) % 2) as u64 * ONES;
         i += 1;
     }
-    cells
-}
-
-// The cells after a command's code, for the words 64 * batch to 64 * batch + 63.
-fn batch(ops: &[u16], from: usize, to: usize, state: u32, n: usize, batch: u32) -> [u64; 128]
-    requires { ⌜ (from ≤ to) × (to ≤ length (now ops)) × (n ≤ 32) ⌝ }
-    ensures { λ r. ⌜ r ≡ cellsAt (slice from to (now (ops .entry))) state n batch ⌝ }
-{
-    let mut cells = start(state, n);
-    run(ops, from, to, batch, &mut cells);
     cells
 }
 
@@ -186,7 +178,7 @@ pub fn pick(rows: &[u64; 16], l: u32) -> u32
     ((rows[r] >> (l / 16 * 16)) % 65536) as u32
 }
 
-// The rows of a batch.
+// The rows of batch b, the words 64 * b to 64 * b + 63, from the code of a command: how many passes it took.
 fn batch_rows(
     rows: &mut [u64; 16],
     ops: &[u16],
@@ -195,12 +187,15 @@ fn batch_rows(
     state: u32,
     n: usize,
     b: u32,
-)
+) -> usize
     requires { ⌜ (from ≤ to) × (to ≤ length (now ops)) × (n ≤ 16) ⌝ }
     ensures { λ r. ⌜ now (rows .exit) ≡ fills (rowOf (cellsAt (slice from to (now (ops .entry))) state n b) n) 16 (now (rows .entry)) ⌝ }
+    ensures passes { λ r. ⌜ r ≡ passesOf (slice from to (now (ops .entry))) ⌝ }
 {
-    let cells = batch(ops, from, to, state, n, b);
+    let mut cells = start(state, n);
+    let passes = run(&ops[from..to], b, &mut cells);
     rows_of(&cells, n, rows);
+    passes
 }
 
 // The rows of the first batch, with which a loop over words begins.

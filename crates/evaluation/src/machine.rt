@@ -1,15 +1,26 @@
 // The machine that runs code words with one choice word: values and masks are stacks of bits, the top in bit 0.
+// Its loops go over the code once, with one pass to a code word, and count their passes.
 ghost use mathlib.Core.Path.{_≡_};
-ghost use Prim.Native.Nat.{_<_, _≤_};
-ghost use lib.ListN.{length};
-ghost use lib.Seq.{slice};
-ghost use Rattle.evaluation.specs.working.CodeMachine.{stepOf, runOf, startOf, valueOf};
+ghost use Prim.Native.Nat.{_<_};
+ghost use Rattle.evaluation.specs.working.CodeMachine.{nodeOf, stepOf, runOf, startOf, valueOf, passesOf};
 ghost use Rattle.meaning.specs.working.Digits.{put};
 
-pub struct Machine {
-    pub stack: u64,
-    pub mask: u32,
+struct Machine {
+    stack: u64,
+    mask: u32,
+    state: u32,
+}
+
+// The value of an expression, 0 or 1, and the passes that it took.
+pub struct Valued {
+    pub value: u32,
+    pub passes: usize,
+}
+
+// The state after a command, and the passes that it took.
+pub struct Ran {
     pub state: u32,
+    pub passes: usize,
 }
 
 // s with bit j set to v.
@@ -20,7 +31,41 @@ fn put_bit(s: u32, j: u32, v: u32) -> u32
     (((s >> j) / 2 * 2 + v) << j) + s % (1 << j)
 }
 
-// One code word: kind op / 32, argument op % 32. The bits are joined by sums and halves.
+// The values after a node of an expression: kind op / 32, argument op % 32. The bits are joined by sums and halves. Code words that are no node leave the values.
+fn node(st: u64, op: u16, state: u32, word: u32) -> u64
+    ensures { λ r. ⌜ r ≡ nodeOf op word state st ⌝ }
+{
+    let k = op / 32;
+    let j = (op % 32) as u32;
+    match k {
+        0 => (st << 1) + (j % 2) as u64,
+        1 => (st << 1) + ((state >> j) % 2) as u64,
+        2 => (st << 1) + ((word >> j) % 2) as u64,
+        3 => st / 2 * 2 + (1 - st % 2),
+        4 => st / 4 * 2 + (st % 2 + st / 2 % 2) / 2,
+        5 => st / 4 * 2 + (st % 2 + st / 2 % 2 + 1) / 2,
+        _ => st,
+    }
+}
+
+// The value of an expression's code: one pass to a node.
+pub fn value(code: &[u16], state: u32, word: u32) -> Valued
+    ensures { λ r. ⌜ r .value ≡ valueOf (now (code .entry)) word state ⌝ }
+    ensures passes { λ r. ⌜ r .passes ≡ passesOf (now (code .entry)) ⌝ }
+{
+    let mut stack: u64 = 0;
+    let mut nodes: usize = 0;
+    'passes: while nodes < code.len() {
+        stack = node(stack, code[nodes], state, word);
+        nodes += 1;
+    }
+    Valued {
+        value: (stack % 2) as u32,
+        passes: nodes,
+    }
+}
+
+// One code word of a command: kind op / 32, argument op % 32. A node changes the values alone.
 fn step(m: Machine, op: u16, word: u32) -> Machine
     ensures { λ r. ⌜ r ≡ stepOf op word m ⌝ }
 {
@@ -30,36 +75,6 @@ fn step(m: Machine, op: u16, word: u32) -> Machine
     let k = op / 32;
     let j = (op % 32) as u32;
     match k {
-        0 => Machine {
-            stack: (st << 1) + (j % 2) as u64,
-            mask: on,
-            state: s,
-        },
-        1 => Machine {
-            stack: (st << 1) + ((s >> j) % 2) as u64,
-            mask: on,
-            state: s,
-        },
-        2 => Machine {
-            stack: (st << 1) + ((word >> j) % 2) as u64,
-            mask: on,
-            state: s,
-        },
-        3 => Machine {
-            stack: st / 2 * 2 + (1 - st % 2),
-            mask: on,
-            state: s,
-        },
-        4 => Machine {
-            stack: st / 4 * 2 + (st % 2 + st / 2 % 2) / 2,
-            mask: on,
-            state: s,
-        },
-        5 => Machine {
-            stack: st / 4 * 2 + (st % 2 + st / 2 % 2 + 1) / 2,
-            mask: on,
-            state: s,
-        },
         6 => {
             if on % 2 == 0 {
                 return Machine {
@@ -89,47 +104,31 @@ fn step(m: Machine, op: u16, word: u32) -> Machine
             mask: on / 2,
             state: s,
         },
-        _ => m,
+        _ => Machine {
+            stack: node(st, op, s, word),
+            mask: on,
+            state: s,
+        },
     }
 }
 
-// The code words from..to of ops, one after another.
-fn run_from(ops: &[u16], from: usize, to: usize, m0: Machine, word: u32) -> Machine
-    requires { ⌜ (from ≤ to) × (to ≤ length (now ops)) ⌝ }
-    ensures { λ r. ⌜ r ≡ runOf (slice from to (now (ops .entry))) word m0 ⌝ }
+// The state after a command's code: one pass to a code word.
+pub fn run(code: &[u16], state: u32, word: u32) -> Ran
+    ensures { λ r. ⌜ r .state ≡ runOf (now (code .entry)) word (startOf state) .state ⌝ }
+    ensures passes { λ r. ⌜ r .passes ≡ passesOf (now (code .entry)) ⌝ }
 {
-    let mut m = m0;
-    let mut i = from;
-    while i < to {
-        m = step(m, ops[i], word);
-        i += 1;
-    }
-    m
-}
-
-// The state after a command's code.
-pub fn run(ops: &[u16], from: usize, to: usize, state: u32, word: u32) -> u32
-    requires { ⌜ (from ≤ to) × (to ≤ length (now ops)) ⌝ }
-    ensures { λ r. ⌜ r ≡ runOf (slice from to (now (ops .entry))) word (startOf state) .state ⌝ }
-{
-    let m = Machine {
+    let mut m = Machine {
         stack: 0,
         mask: 1,
         state: state,
     };
-    run_from(ops, from, to, m, word).state
-}
-
-// The value of an expression's code, 0 or 1.
-pub fn value(ops: &[u16], from: usize, to: usize, state: u32, word: u32) -> u32
-    requires { ⌜ (from ≤ to) × (to ≤ length (now ops)) ⌝ }
-    ensures { λ r. ⌜ r ≡ valueOf (slice from to (now (ops .entry))) word state ⌝ }
-{
-    let m = Machine {
-        stack: 0,
-        mask: 1,
-        state: state,
-    };
-    let st = run_from(ops, from, to, m, word).stack;
-    (st % 2) as u32
+    let mut words: usize = 0;
+    'passes: while words < code.len() {
+        m = step(m, code[words], word);
+        words += 1;
+    }
+    Ran {
+        state: m.state,
+        passes: words,
+    }
 }

@@ -1,7 +1,7 @@
 // The table of one row, computed from a model's code: start states, states that violate `keep`, and steps.
 ghost use mathlib.Core.Path.{_≡_};
 ghost use Prim.Native.Nat.{_+_, _^_, _<_, _≤_};
-ghost use Rattle.evaluation.specs.working.CodeSystem.{clauseIn, startsIn, breaksIn, nextIn, starsIn, Sound, Bounds};
+ghost use Rattle.evaluation.specs.working.CodeSystem.{holdsIn, clauseIn, startsIn, breaksIn, nextIn, starsIn, Sound, Bounds};
 use crate::machine::run;
 use crate::machine::value;
 use crate::numbers::count;
@@ -35,18 +35,29 @@ pub fn word_count(plan: Plan, k: usize) -> usize
     power(count(plan.stars[k]))
 }
 
+// Whether the expression whose code is segment i holds in a state.
+fn holds(ops: &[u16; 2048], plan: Plan, i: usize, s: usize) -> bool
+    requires { ⌜ (i < 4) × (s < 4096) × Sound plan ⌝ }
+    ensures { λ r. ⌜ r ≡ holdsIn (now (ops .entry)) (plan .ends) i s ⌝ }
+{
+    let code = segment(plan, i);
+    let from = code.from;
+    let to = code.to;
+    // A part can be lent of a slice, but not of an array behind a reference.
+    let words: &[u16] = ops;
+    value(&words[from..to], s as u32, 0).value == 1
+}
+
 // Whether both expressions of a clause hold in a state, whose code is the segments i and i + 1.
 fn clause_holds(ops: &[u16; 2048], plan: Plan, i: usize, s: usize) -> bool
     requires { ⌜ (i < 3) × (s < 4096) × Sound plan ⌝ }
     ensures { λ r. ⌜ r ≡ clauseIn (now (ops .entry)) (plan .ends) i s ⌝ }
 {
-    let state = s as u32;
-    let whole = segment(plan, i);
-    if value(ops, whole.from, whole.to, state, 0) != 1 {
+    let whole = holds(ops, plan, i, s);
+    if !whole {
         return false;
     }
-    let each = segment(plan, i + 1);
-    value(ops, each.from, each.to, state, 0) == 1
+    holds(ops, plan, i + 1, s)
 }
 
 // Whether s is a start state.
@@ -71,6 +82,9 @@ pub fn step(ops: &[u16; 2048], plan: Plan, s: usize, k: usize, w: usize) -> usiz
     ensures { λ r. ⌜ r ≡ nextIn (now (ops .entry)) (plan .ends) (plan .bits) s k w ⌝ }
 {
     let code = segment(plan, 4 + k);
-    let after = run(ops, code.from, code.to, s as u32, w as u32) as usize;
+    let from = code.from;
+    let to = code.to;
+    let words: &[u16] = ops;
+    let after = run(&words[from..to], s as u32, w as u32).state as usize;
     after % power(plan.bits)
 }

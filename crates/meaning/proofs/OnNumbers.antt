@@ -131,20 +131,33 @@ step-stays m g s k w h lt = rw (← (step-computed m g s k w h lt)) (next-stays 
 starless-same : (g r : List Bool) (c d : ℕ → Bool) (e : Expr) → Starless e → eval (rowScope c g r) e ≡ eval (rowScope d g r) e
 starless-same g r c d e h = eval-same (λ (x : Star). ⊥) outside c d (λ j q. absurd q) g r e (rw h tt)
 
+-- What an expression sees of the one-row state numbered s: the shared bits alone, and the row's as well.
+module _ (m : Model) (s w : ℕ) (h : s < stateCount m) where
+  numbered : number (spread m One s .shared ++ spread m One s .rows theRow) ≡ s
+  unfolding stateNumber
+  numbered = stateNumber-spread m s h
+
+  pub eval-outside : (e : Expr) → Scoped (m .sharedNames) 0 e → eval (tableScope (bit w) (spread m One s .shared)) e ≡ evalAt (m .sharedNames) w s e
+  eval-outside e o =
+      let q = spread m One s in
+      eval-out (m .sharedNames) (m .rowNames) w (q .shared) (spread-fits m One s .sharedBits) (q .rows theRow) e o
+      ∙ ap (λ (x : ℕ). evalAt (m .sharedNames) w x e) numbered
+
+  pub eval-inside : (e : Expr) → Scoped (m .sharedNames) (m .rowNames) e
+      → eval (rowScope (bit w) (spread m One s .shared) (spread m One s .rows theRow)) e ≡ evalAt (m .sharedNames) w s e
+  eval-inside e o =
+      let q = spread m One s in
+      eval-in (m .sharedNames) (m .rowNames) w (q .shared) (spread-fits m One s .sharedBits) (q .rows theRow) e o
+      ∙ ap (λ (x : ℕ). evalAt (m .sharedNames) w x e) numbered
+
 clause-at : (m : Model) (c : Clause) (s w : ℕ) → s < stateCount m → ScopedClause (m .sharedNames) (m .rowNames) c → Starless (c .whole) → Starless (c .each)
     → wholeOf c (spread m One s) && eachOf c (spread m One s) theRow ≡ clauseAt (m .sharedNames) w c s
-unfolding clauseAt stateNumber
+unfolding clauseAt
 clause-at m c s w h sc hw he =
     let q = spread m One s in
-    let f = spread-fits m One s in
-    let n : number (q .shared ++ q .rows theRow) ≡ s = stateNumber-spread m s h in
     ap₂ _&&_
-    (starless-same (q .shared) [] noStar (bit w) (c .whole) hw
-    ∙ eval-out (m .sharedNames) (m .rowNames) w (q .shared) (f .sharedBits) (q .rows theRow) (c .whole) (sc .whole)
-    ∙ ap (λ (x : ℕ). evalAt (m .sharedNames) w x (c .whole)) n)
-    (starless-same (q .shared) (q .rows theRow) noStar (bit w) (c .each) he
-    ∙ eval-in (m .sharedNames) (m .rowNames) w (q .shared) (f .sharedBits) (q .rows theRow) (c .each) (sc .each)
-    ∙ ap (λ (x : ℕ). evalAt (m .sharedNames) w x (c .each)) n)
+    (starless-same (q .shared) [] noStar (bit w) (c .whole) hw ∙ eval-outside m s w h (c .whole) (sc .whole))
+    (starless-same (q .shared) (q .rows theRow) noStar (bit w) (c .each) he ∙ eval-inside m s w h (c .each) (sc .each))
 
 pub starts-computed : StartsComputed
 unfolding starts

@@ -14,11 +14,14 @@ pub mod Descents
 pub mod Readers
 pub mod Texts
 pub mod FlatFormTells
+pub mod Members
+pub mod Standing
 pub mod Parts
 pub mod Stars
 pub mod Scopes
 pub mod Counts
 pub mod Limits
+pub mod Nodes
 pub mod Heights
 pub mod Regular
 pub mod Cases

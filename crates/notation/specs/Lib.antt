@@ -6,5 +6,6 @@ pub mod Model
 pub mod Texts
 pub mod Layout
 pub mod Regular
+pub mod Expressions
 pub mod Promises
 pub mod working

@@ -9,10 +9,11 @@ use lib.ListN.{length}
 use Rattle.notation.specs.Bytes.{bytes, letter, wordByte, blankByte}
 use Rattle.notation.specs.Tokens.{barredByte}
 use Rattle.notation.specs.Notation.{Tree}
-use Rattle.notation.specs.Rules.{elem}
-use Rattle.notation.specs.Model.{Model}
+use Rattle.notation.specs.Rules.{elem, limitOf, NODES}
+use Rattle.notation.specs.Model.{Model, Expr, Place}
 use Rattle.notation.specs.Layout.{layoutOf}
-use Rattle.notation.specs.Regular.{Regular}
+use Rattle.notation.specs.Regular.{Regular, Among}
+use Rattle.notation.specs.Expressions.{nodesIn, nodeCount, expressions, StandsIn}
 use Rattle.notation.specs.Texts.{TextSaysTree, TextSays, TextRefused, longestText}
 use Rattle.notation.specs.working.Machine.{read, refused}
 use Rattle.notation.specs.working.Answer.{answer}
@@ -64,6 +65,14 @@ RefusedIffAnswer = (text : List ℕ) (n i : ℕ) → TextRefused text n i ↔ (a
 -- A model that a text says has its names in range, its stars numbered in text order, and no more names, commands and stars than the limits allow.
 abbrev pub AllRegular : Type 0
 AllRegular = (text : List ℕ) (m : Model) → TextSays text m → Regular m
+
+-- The list of a model's expressions has all that stand in it, and no others.
+abbrev pub ExpressionsListed : Type 0
+ExpressionsListed = (m : Model) (e : Expr) → Among e (expressions m) ↔ ((p : Place) × StandsIn m p e)
+
+-- The nodes of a model's expressions are as many as its text counts, and that is within the limit.
+abbrev pub NodesCounted : Type 0
+NodesCounted = (text : List ℕ) (m : Model) (t : TextSays text m) → (nodesIn (expressions m) ≡ nodeCount t) × (nodeCount t ≤ limitOf NODES)
 
 -- The flat form tells the model: two models that texts say and that have the same flat form are the same.
 abbrev pub LayoutTells : Type 0

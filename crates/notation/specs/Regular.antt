@@ -2,6 +2,7 @@
 -- than the limits allow, and its expressions and its flat form are bounded. (Items and nodes are counted in texts, not in models.)
 -- Assumes nothing.
 use mathlib.Core.Path.{_≡_}
+use mathlib.Core.Logic.{_⊎_}
 use mathlib.Core.List.{List, [], _∷_}
 use Prim.Native.Nat.{ℕ, suc, _+_, _≤_, _<_, max}
 use lib.ListN.{length}
@@ -13,6 +14,11 @@ use Rattle.notation.specs.Layout.{layoutOf, longestCode}
 abbrev pub Every : {A : Type 0} → (A → Type 0) → List A → Type 0
 Every P [] = Unit {0}
 Every P (x ∷ xs) = P x × Every P xs
+
+-- It is one of the elements.
+abbrev pub Among : {A : Type 0} → A → List A → Type 0
+Among x [] = ⊥
+Among x (y ∷ ys) = (x ≡ y) ⊎ Among x ys
 
 -- The stars are numbered from i on, in the order of the list.
 abbrev pub NumberedFrom : ℕ → List Star → Type 0

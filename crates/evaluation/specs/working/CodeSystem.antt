@@ -20,9 +20,13 @@ beginOf ends (suc i) = getD ends i 0
 unfoldable pub segmentOf : List ℕ → List ℕ → ℕ → List ℕ
 segmentOf ops ends i = slice (beginOf ends i) (getD ends i 0) ops
 
--- Whether both expressions of a clause hold in the state s, whose code is the segments i and i + 1.
+-- Whether the expression whose code is segment i holds in the state s.
+unfoldable pub holdsIn : List ℕ → List ℕ → ℕ → ℕ → Bool
+holdsIn ops ends i s = eqb (valueOf (segmentOf ops ends i) 0 s) 1
+
+-- Whether both expressions of a clause hold, whose code is the segments i and i + 1.
 unfoldable pub clauseIn : List ℕ → List ℕ → ℕ → ℕ → Bool
-clauseIn ops ends i s = eqb (valueOf (segmentOf ops ends i) 0 s) 1 && eqb (valueOf (segmentOf ops ends (i + 1)) 0 s) 1
+clauseIn ops ends i s = holdsIn ops ends i s && holdsIn ops ends (i + 1) s
 
 -- Whether s is a start state, and whether it violates `keep`.
 unfoldable pub startsIn : List ℕ → List ℕ → ℕ → Bool

@@ -16,7 +16,7 @@ returns c =
     let start : tie.Start = search in
     let a = start .args in
     filled-new (slice (a .from) (a .to) (a .ops .now)) (a .state) (a .n) (a .w) (a .rows .now) _ (then1 .if1 .taken) (then2 .if2 .taken)
-    (c .batch-rows .ensures)
+    (c .batch-rows .ensures .0)
 
 returns-2 : tie.Need-returns-2
 returns-2 c =

@@ -2,8 +2,8 @@
 -- Assumes nothing.
 use native.Mathlib.Omega.{arith}
 use lib.Pow.{pow-pos}
-use Rattle.evaluation.proofs.OneRowCode.{step-taken}
 use borrow.Author.Needs.{needs}
+use Rattle.evaluation.proofs.OneRowCode.{step-taken}
 use Rattle.evaluation.proofs.one_row.step.Statement.{statement}
 use Rattle.evaluation.proofs.one_row.step.Tie as tie
 
@@ -12,6 +12,18 @@ add-segment c = search needs
 
 segment-requires : tie.Need-segment-requires
 segment-requires c κs = search needs
+
+mul-run : tie.Need-mul-run
+mul-run c = search needs
+
+sub-run : tie.Need-sub-run
+sub-run c = search needs
+
+part-run-start : tie.Need-part-run-start
+part-run-start c = search needs
+
+part-run-end : tie.Need-part-run-end
+part-run-end c = search needs
 
 cast-run : tie.Need-cast-run
 cast-run c = search needs
@@ -37,7 +49,8 @@ returns : tie.Need-returns
 returns c =
     let start : tie.Start = search in
     let after-segment : tie.After-segment = search in
-    step-taken _ (start .args .plan .bits) _ _ _ (after-segment .segment .ensures) (c .before .run .ensures) (c .power .ensures)
+    let after-run : tie.After-run = search in
+    step-taken _ (start .args .plan .bits) _ _ _ (after-segment .segment .ensures) (after-run .run .ensures .0) (c .power .ensures)
 
 pub step-spec : {M : Type 1} → statement M
 step-spec =
@@ -45,6 +58,10 @@ step-spec =
     (tie.spec
     add-segment
     segment-requires
+    mul-run
+    sub-run
+    part-run-start
+    part-run-end
     cast-run
     cast-run-2
     run-requires

@@ -1,0 +1,38 @@
+-- The elements of lists that are joined.
+-- Assumes nothing.
+use mathlib.Core.Path.{refl, subst}
+use mathlib.Core.Logic.{_⊎_, inl, inr, ⊎-elim}
+use mathlib.Core.List.{List, [], _∷_, _++_, flatMap}
+use Rattle.notation.specs.Regular.{Among}
+
+module _ {A : Type 0} where
+  pub among-left : (t : A) (xs ys : List A) → Among t xs → Among t (xs ++ ys)
+  among-left t [] ys h = absurd h
+  among-left t (x ∷ xs) ys (inl e) = inl e
+  among-left t (x ∷ xs) ys (inr h) = inr (among-left t xs ys h)
+
+  pub among-right : (t : A) (xs ys : List A) → Among t ys → Among t (xs ++ ys)
+  among-right t [] ys h = h
+  among-right t (x ∷ xs) ys h = inr (among-right t xs ys h)
+
+  pub among-split : (t : A) (xs ys : List A) → Among t (xs ++ ys) → Among t xs ⊎ Among t ys
+  among-split t [] ys h = inr h
+  among-split t (x ∷ xs) ys (inl e) = inl (inl e)
+  among-split t (x ∷ xs) ys (inr h) = ⊎-elim (λ a. inl (inr a)) (λ b. inr b) (among-split t xs ys h)
+
+-- What a function gives of an element is in what it gives of them all, and nothing else is.
+module _ {A B : Type 0} (f : A → List B) where
+  pub among-all : (x : A) (y : B) (xs : List A) → Among x xs → Among y (f x) → Among y (flatMap f xs)
+  unfolding flatMap
+  among-all x y [] h k = absurd h
+  among-all x y (z ∷ zs) (inl e) k = among-left y (f z) (flatMap f zs) (subst (λ u. Among y (f u)) e k)
+  among-all x y (z ∷ zs) (inr h) k = among-right y (f z) (flatMap f zs) (among-all x y zs h k)
+
+  pub among-some : (y : B) (xs : List A) → Among y (flatMap f xs) → (x : A) × Among x xs × Among y (f x)
+  unfolding flatMap
+  among-some y [] h = absurd h
+  among-some y (z ∷ zs) h =
+      ⊎-elim
+      (λ a. (z, inl refl, a))
+      (λ b. let s = among-some y zs b in (s .0, inr (s .1), s .2))
+      (among-split y (f z) (flatMap f zs) h)
