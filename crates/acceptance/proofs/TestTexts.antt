@@ -4,8 +4,7 @@ use mathlib.Core.Path.{_≡_, refl, sym, ap, _∙_, subst}
 use mathlib.Core.List.{List, _++_, map}
 use Prim.Native.Nat.{ℕ, _+_, _<_, _≤_}
 use native.Mathlib.Omega.{arith}
-use lib.ListN.{length, getD, drop, replicate, length-map, length-replicate, List·getD-append}
-use lib.Seq.{sets-eq}
+use lib.ListN.{length, getD, drop, replicate, length-map, List·getD-append}
 use Rattle.notation.specs.Tokens.{Name}
 use Rattle.notation.specs.Model.{Model, stars}
 use Rattle.notation.specs.Layout.{layoutOf}
@@ -21,6 +20,7 @@ use Rattle.reader.specs.declared.Answer.the-variants as A
 use Rattle.reader.specs.declared.Code.{Code}
 use Rattle.reader.specs.declared.Reading.{Reading}
 use Rattle.reader.specs.Read.{filled, codeOf, readingIn, readingOf}
+use Rattle.reader.proofs.Arrays.{filled-front}
 use Rattle.evaluation.specs.Promises.{Computes}
 use Rattle.evaluation.specs.working.CodeSystem.{starsIn, Sound}
 use Rattle.evaluation.proofs.FlatForms.{flat-computes, ends-counted, mapped}
@@ -31,11 +31,6 @@ use Rattle.acceptance.specs.working.Test.{testIn, testOf, planOf}
 use Rattle.conditions.specs.declared.outcome.Outcome.{Outcome}
 use Rattle.conditions.specs.declared.outcome.Outcome.the-variants.{Refused}
 use Rattle.acceptance.proofs.Alike.{outcome-alike}
-
--- What an array holds: the list, and zeros behind it.
-filled-front : (n : ℕ) (l : List ℕ) → length l ≤ n → filled n l ≡ l ++ drop (length l) (replicate n 0)
-filled-front n l h =
-    sets-eq l (replicate n 0) 0 (omega (arith, length-replicate {A = ℕ} n 0)) ∙ (let q : 0 + length l ≡ length l = omega arith in ap (λ (k : ℕ). l ++ drop k (replicate n 0)) q)
 
 -- The flat form of a model in arrays is ready for the test, and the outcome over it is that of the model.
 pub record Flat (c : Code) (m : Model) : Type 0 where

@@ -24,7 +24,7 @@ use Rattle.evaluation.proofs.Within.{ahead, stands-within}
 use Rattle.evaluation.proofs.Standing.{Known, known}
 
 -- An expression's code has a code word for each of its nodes.
-pub nodes-coded : (a : ℕ) (e : Expr) → length (exprCode a e) ≡ nodes e
+nodes-coded : (a : ℕ) (e : Expr) → length (exprCode a e) ≡ nodes e
 unfolding exprCode nodes
 nodes-coded a (lit false) = refl
 nodes-coded a (lit true) = refl

@@ -87,7 +87,7 @@ taller t d b h = subst (λ (x : ℕ). t * 2 + num b < x) (sym (pow-add 2 d 1)) (
 -- ---- nodes
 
 -- A code word that is a node.
-abbrev pub IsNode : ℕ → Type 0
+abbrev IsNode : ℕ → Type 0
 IsNode o = o / 32 < 6
 
 module _ (w s : ℕ) where
@@ -140,7 +140,7 @@ module _ (w k s : ℕ) where
 
 module _ (a b w s : ℕ) (few : a + b ≤ 32) (p : Place) where
   -- Where there are d values and room for the expression's, its code pushes its value.
-  pub pushes : (e : Expr) → Scoped a b e → Below (starsExpr p e) → (t d : ℕ) → t < 2 ^ d → d + height e ≤ 64
+  pushes : (e : Expr) → Scoped a b e → Below (starsExpr p e) → (t d : ℕ) → t < 2 ^ d → d + height e ≤ 64
       → valuesOf (exprCode a e) w s t ≡ t * 2 + num (evalAt a w s e)
   unfolding exprCode evalAt height starsExpr
   pushes (lit false) o z t d h l = node-push w s t false ∙ rw (room t d h l)

@@ -16,10 +16,10 @@ pub record Within (piece all : List ℕ) : Type 0 where
   pub after : List ℕ
   pub here : all ≡ before ++ piece ++ after
 
-pub itself : (p : List ℕ) → Within p p
+itself : (p : List ℕ) → Within p p
 itself p = record { before = []; after = []; here = sym (append-nil p) }
 
-pub behind : (xs : List ℕ) {p q : List ℕ} → Within p q → Within p (xs ++ q)
+behind : (xs : List ℕ) {p q : List ℕ} → Within p q → Within p (xs ++ q)
 behind xs {p} {q} w = record {
   before = xs ++ w .before;
   after = w .after;

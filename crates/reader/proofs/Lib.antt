@@ -1,3 +1,4 @@
+pub mod Arrays
 pub mod NameRules
 pub mod DeclaredNames
 pub mod NameLists

@@ -1,0 +1,2 @@
+-- The law of the reader's code words.
+pub mod ReadValued
