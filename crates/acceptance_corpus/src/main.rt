@@ -1,6 +1,6 @@
 // Reads pairs of a text and a sheet from standard input, and writes an answer line for each.
 // Text and sheet each come as a length in digits, a newline, the bytes and a newline. At anything else the input ends.
-// An answer is `safe holds`, `trace holds`, the letter of the condition that fails, or `refused NUMBER PLACE`.
+// An answer is `safe holds`, `void`, `trace holds`, the letter of the condition that fails, or `refused NUMBER PLACE`.
 use acceptance::test;
 use streams::bounds::fitting;
 use streams::input::Head;

@@ -8,6 +8,7 @@ use lib.ListN.{length, getD, take, drop, length-drop}
 use lib.Seq.{getD-drop, length-take-le}
 use lib.Pow.{pow-mono}
 use lib.Count.{ones}
+use Rattle.notation.specs.Regular.{sumOver}
 use Rattle.evaluation.proofs.Powers.{pow-small}
 use Rattle.sheets.specs.Sheets.{mapLength}
 use Rattle.sheets.proofs.SheetOpened.{eighths}
@@ -18,7 +19,7 @@ use Rattle.counting.proofs.Ones.{ones-next, members-ones}
 
 module _ (b : List ℕ) (p : ℕ) where
   pub ones-begun : 0 ≡ onesOf (mapIn b p 0)
-  unfolding mapIn onesOf
+  unfolding mapIn sumOver
   ones-begun = refl
 
   pub ones-read : (i : ℕ) → p + i < length b → (total : ℕ) → total ≡ onesOf (mapIn b p i) → (n : ℕ) → n ≡ ones (getD b (p + i) 0) → total + n ≡ onesOf (mapIn b p (i + 1))

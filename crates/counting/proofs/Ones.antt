@@ -12,6 +12,8 @@ use lib.Pow.{shr-shr}
 use lib.ListN.{length, getD, take}
 use lib.Seq.{take-suc, take-length, getD-append-add}
 use lib.Count.{ones, ones-step}
+use Rattle.notation.specs.Regular.{sumOver}
+use Rattle.notation.proofs.Members.{sum-append}
 use Rattle.meaning.specs.Bits.{bit}
 use Rattle.meaning.proofs.Number.{low-bit}
 use Rattle.meaning.specs.Evidence.{inMap, safe}
@@ -50,19 +52,14 @@ byte-ones x h =
     let e : length (below 8 (bit x)) + ones 0 ≡ length (below 8 (bit x)) = omega arith in
     sym (ones-below x 8 ∙ ap (λ k. length (below 8 (bit x)) + ones k) z ∙ e)
 
-pub ones-append : (xs ys : List ℕ) → onesOf (xs ++ ys) ≡ onesOf xs + onesOf ys
-unfolding onesOf
-ones-append [] ys = omega arith
-ones-append (x ∷ xs) ys = let e = ones-append xs ys in omega (arith, e)
-
 pub ones-one : (x : ℕ) → onesOf (x ∷ []) ≡ ones x
-unfolding onesOf
+unfolding sumOver
 ones-one x = omega arith
 
 -- One byte more.
 pub ones-next : (l : List ℕ) (i : ℕ) → i < length l → onesOf (take (i + 1) l) ≡ onesOf (take i l) + ones (getD l i 0)
 ones-next l i h =
-    ap (λ k. onesOf (take k l)) (add-one i) ∙ ap onesOf (take-suc l i 0 h) ∙ ones-append (take i l) (getD l i 0 ∷ [])
+    ap (λ k. onesOf (take k l)) (add-one i) ∙ ap onesOf (take-suc l i 0 h) ∙ sum-append ones (take i l) (getD l i 0 ∷ [])
     ∙ ap (λ k. onesOf (take i l) + k) (ones-one (getD l i 0))
 
 module _ (map : List ℕ) where
@@ -82,7 +79,7 @@ module _ (map : List ℕ) where
       ap (λ k. memberCount k map) e ∙ (let z : memberCount (8 * i + d + 1) map ≡ memberCount (8 * i) map + length (below (suc d) (bit b)) = omega (arith, f, g, part-byte i d (omega arith)) in z)
 
   whole-bytes : AreBytes map → (i : ℕ) → i ≤ length map → memberCount (8 * i) map ≡ onesOf (take i map)
-  unfolding below onesOf
+  unfolding below sumOver
   whole-bytes a zero h = refl
   whole-bytes a (suc i) h =
       let e : 8 * suc i ≡ 8 * i + 8 = omega arith in

@@ -13,6 +13,7 @@ use Rattle.notation.specs.Regular.{Every, Among}
 use Rattle.meaning.specs.OneRow.{stateCount}
 use Rattle.meaning.specs.Evidence.{inMap}
 use Rattle.meaning.proofs.Fits.{runs-fit}
+use Rattle.meaning.proofs.Lists.{every-among}
 use Rattle.meaning.proofs.Number.{stateNumber-lt}
 use Rattle.meaning.specs.Meaning.{last}
 use Rattle.exploration.specs.Findings.{Reaches, ExactMap}
@@ -21,23 +22,17 @@ use Rattle.counting.specs.Promises.{Counted, ReachableCounted, CountedOn
 use Rattle.counting.proofs.Below.{there-are}
 use Rattle.counting.proofs.Settings.{has-setting, at-setting}
 
--- What is behind the first is above it.
-above : (n t : ℕ) (ns : List ℕ) → Every (λ (k : ℕ). n < k) ns → Among t ns → n < t
-above n t [] e a = absurd a
-above n t (x ∷ xs) e (inl q) = omega (arith, e .0, q)
-above n t (x ∷ xs) e (inr a) = above n t xs (e .1) a
-
 -- Two ascending lists of the same numbers begin alike, and so do what follows in both.
 heads : (x y : ℕ) (xs ys : List ℕ) → Every (λ (k : ℕ). x < k) xs → Every (λ (k : ℕ). y < k) ys → Among x (y ∷ ys) → Among y (x ∷ xs) → x ≡ y
 heads x y xs ys e f (inl p) q = p
 heads x y xs ys e f (inr p) (inl q) = sym q
-heads x y xs ys e f (inr p) (inr q) = absurd (omega (arith, above y x ys f p, above x y xs e q))
+heads x y xs ys e f (inr p) (inr q) = absurd (omega (arith, every-among (λ (k : ℕ). y < k) x ys f p, every-among (λ (k : ℕ). x < k) y xs e q))
 
 tails : (x y : ℕ) (xs ys : List ℕ) → x ≡ y → Every (λ (k : ℕ). x < k) xs → ((t : ℕ) → Among t (x ∷ xs) → Among t (y ∷ ys)) → (t : ℕ) → Among t xs → Among t ys
 tails x y xs ys e f h t a = go (h t (inr a))
   where
     go : Among t (y ∷ ys) → Among t ys
-    go (inl q) = absurd (omega (arith, above x t xs f a, q, e))
+    go (inl q) = absurd (omega (arith, every-among (λ (k : ℕ). x < k) t xs f a, q, e))
     go (inr b) = b
 
 same-length : (xs ys : List ℕ) → Ascending xs → Ascending ys → ((t : ℕ) → Among t xs → Among t ys) → ((t : ℕ) → Among t ys → Among t xs) → length xs ≡ length ys

@@ -2,14 +2,16 @@
 -- Assumes nothing.
 use mathlib.Core.Path.{_≡_, refl, sym, ap, _∙_}
 use mathlib.Core.Bool.{Bool, true, false, cond, _&&_}
-use mathlib.Core.List.{List, [], _∷_, _++_, map, map-append}
+use mathlib.Core.List.{List, [], _∷_}
 use Prim.Native.Nat.{ℕ, zero, suc, _+_, _%_, _≤_, _<_}
 use native.Mathlib.Omega.{arith}
 use native.Mathlib.Nat.{mod-lt}
 use lib.Dec.{eqb, ltb}
 use borrow.Author.Tests.{lt-ltb, ltb-true, ltb-false, eqb-true, eqb-false}
+use Rattle.notation.specs.Regular.{sumOver}
+use Rattle.notation.proofs.Members.{sum-append}
 use Rattle.meaning.specs.Evidence.{inMap}
-use Rattle.counting.specs.Counts.{below, memberCount, settingOf, countAt, sumOf}
+use Rattle.counting.specs.Counts.{below, memberCount, settingOf, countAt}
 use Rattle.counting.specs.Promises.{CountsAddUp}
 use Rattle.counting.proofs.Below.{more}
 
@@ -18,23 +20,17 @@ unfoldable sumUpTo : (ℕ → ℕ) → ℕ → ℕ
 sumUpTo f zero = 0
 sumUpTo f (suc n) = sumUpTo f n + f n
 
-sum-append : (xs ys : List ℕ) → sumOf (xs ++ ys) ≡ sumOf xs + sumOf ys
-unfolding sumOf
-sum-append [] ys = omega arith
-sum-append (x ∷ xs) ys = let e = sum-append xs ys in omega (arith, e)
-
 -- Values that are 0 may be left out.
-without-zeros : (f : ℕ → ℕ) (n : ℕ) → sumOf (map f (below n (λ j. ltb 0 (f j)))) ≡ sumUpTo f n
-unfolding below sumOf sumUpTo
+without-zeros : (f : ℕ → ℕ) (n : ℕ) → sumOver f (below n (λ j. ltb 0 (f j))) ≡ sumUpTo f n
+unfolding below sumOver sumUpTo
 without-zeros f zero = refl
 without-zeros f (suc n) =
     let l = below n (λ j. ltb 0 (f j)) in
-    let e : sumOf (map f (l ++ cond (ltb 0 (f n)) (n ∷ []) [])) ≡ sumOf (map f l) + sumOf (map f (cond (ltb 0 (f n)) (n ∷ []) [])) =
-    ap sumOf (map-append f l (cond (ltb 0 (f n)) (n ∷ []) [])) ∙ sum-append (map f l) (map f (cond (ltb 0 (f n)) (n ∷ []) [])) in
-    let g : sumOf (map f (cond (ltb 0 (f n)) (n ∷ []) [])) ≡ f n = last (ltb 0 (f n)) refl in
+    let e = sum-append f l (cond (ltb 0 (f n)) (n ∷ []) []) in
+    let g : sumOver f (cond (ltb 0 (f n)) (n ∷ []) []) ≡ f n = last (ltb 0 (f n)) refl in
     omega (arith, e, g, without-zeros f n)
   where
-    last : (b : Bool) → ltb 0 (f n) ≡ b → sumOf (map f (cond b (n ∷ []) [])) ≡ f n
+    last : (b : Bool) → ltb 0 (f n) ≡ b → sumOver f (cond b (n ∷ []) []) ≡ f n
     last true q = let z : f n + 0 ≡ f n = omega arith in z
     last false q = let z : f n ≤ 0 = ltb-false 0 (f n) q in omega (arith, z)
 

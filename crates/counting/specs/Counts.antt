@@ -9,7 +9,7 @@ use lib.Dec.{eqb, ltb}
 use lib.ListN.{length}
 use lib.Count.{ones}
 use Rattle.notation.specs.Model.{Model}
-use Rattle.notation.specs.Regular.{Every, Among}
+use Rattle.notation.specs.Regular.{Every, Among, sumOver}
 use Rattle.meaning.specs.Evidence.{inMap}
 
 -- The numbers below n that pass a test, ascending.
@@ -45,14 +45,8 @@ abbrev pub settingsIn : ℕ → ℕ → List ℕ → List ℕ
 settingsIn states settings map = below settings (λ j. ltb 0 (countAt states settings map j))
 
 -- The number of one bits in bytes.
-unfoldable pub onesOf : List ℕ → ℕ
-onesOf [] = 0
-onesOf (x ∷ xs) = ones x + onesOf xs
-
--- The sum of numbers.
-unfoldable pub sumOf : List ℕ → ℕ
-sumOf [] = 0
-sumOf (n ∷ ns) = n + sumOf ns
+abbrev pub onesOf : List ℕ → ℕ
+onesOf bytes = sumOver ones bytes
 
 -- Each number of the list is below those behind it.
 abbrev pub Ascending : List ℕ → Type 0

@@ -2,17 +2,17 @@
 -- Assumes nothing.
 use mathlib.Core.Path.{_≡_}
 use mathlib.Core.Logic.{_↔_}
-use mathlib.Core.List.{List, map}
+use mathlib.Core.List.{List}
 use Prim.Native.Nat.{ℕ, _<_}
 use Rattle.notation.specs.Model.{Model}
-use Rattle.notation.specs.Regular.{Among}
+use Rattle.notation.specs.Regular.{Among, sumOver}
 use Rattle.meaning.specs.Bits.{number}
 use Rattle.meaning.specs.OneRow.{One, spread, stateCount}
 use Rattle.meaning.specs.Evidence.{safe, safeBy}
 use Rattle.sheets.specs.Sheets.{System, size}
 use Rattle.sheets.specs.SheetTexts.{AreBytes, SheetSays}
 use Rattle.exploration.specs.Findings.{Reaches, ExactMap, Finds}
-use Rattle.counting.specs.Counts.{members, memberCount, settingCount, settingOf, countAt, settingsIn, onesOf, sumOf, Ascending, ThereAre}
+use Rattle.counting.specs.Counts.{members, memberCount, settingCount, settingOf, countAt, settingsIn, onesOf, Ascending, ThereAre}
 
 -- The map that a sheet says has as many members as its record's payload has one bits.
 abbrev pub MembersAreOnes : Type 0
@@ -20,7 +20,7 @@ MembersAreOnes = (M : System) (b bytes : List ℕ) → AreBytes b → SheetSays 
 
 -- The counts of the settings that occur add up to it.
 abbrev pub CountsAddUp : Type 0
-CountsAddUp = (states settings : ℕ) (bytes : List ℕ) → 0 < settings → sumOf (map (countAt states settings bytes) (settingsIn states settings bytes)) ≡ memberCount states bytes
+CountsAddUp = (states settings : ℕ) (bytes : List ℕ) → 0 < settings → sumOver (countAt states settings bytes) (settingsIn states settings bytes) ≡ memberCount states bytes
 
 -- A setting is listed exactly if a member has it; the list ascends, so that none is listed twice.
 pub record Occur (states settings : ℕ) (bytes : List ℕ) : Type 0 where
@@ -49,7 +49,7 @@ CountedOnce = (P : ℕ → Type 0) (n k : ℕ) → ThereAre n P → ThereAre k P
 -- All of it, of what is found of a safe model: the counts in its report.
 pub record SafeCounts (m : Model) (bytes : List ℕ) : Type 0 where
   pub ones : memberCount (stateCount m) bytes ≡ onesOf bytes
-  pub sum : sumOf (map (countAt (stateCount m) (settingCount m) bytes) (settingsIn (stateCount m) (settingCount m) bytes)) ≡ memberCount (stateCount m) bytes
+  pub sum : sumOver (countAt (stateCount m) (settingCount m) bytes) (settingsIn (stateCount m) (settingCount m) bytes) ≡ memberCount (stateCount m) bytes
   pub occur : Occur (stateCount m) (settingCount m) bytes
   pub reached : Counted m bytes
 

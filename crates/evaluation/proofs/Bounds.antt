@@ -3,7 +3,7 @@
 use Prim.Native.Nat.{ℕ, _+_, _%_, _^_, _≤_, _<_}
 use mathlib.Core.Path.{_≡_, ap, _∙_}
 use mathlib.Core.List.{List, [], _∷_}
-use mathlib.Core.Bool.{Bool, true, false, cond}
+use mathlib.Core.Bool.{Bool, cond}
 use native.Mathlib.Nat.{mod-eq-of-lt}
 use native.Mathlib.Omega.{arith}
 use Rattle.notation.specs.Model as M
@@ -13,13 +13,9 @@ use Rattle.notation.specs.Regular.{Every, ScopedRow, ScopedItem, ScopedCommand,
 use Rattle.meaning.specs.working.OnNumbers.{withBit, evalAt, rowItemsAt, itemsAt, stepAt}
 use Rattle.evaluation.specs.working.Batches.{afterOf}
 use Rattle.meaning.proofs.PutBits.{put-lt}
+use Rattle.meaning.proofs.Lists.{taken}
 use Rattle.evaluation.proofs.Values.{num, num-lt, Below}
 use Rattle.evaluation.proofs.Effects.{step-right}
-
--- One of two, each of which has the property.
-chosen : {A : Type 0} (P : A → Type 0) (v : Bool) (x y : A) → P x → P y → P (cond v x y)
-chosen P false x y p q = q
-chosen P true x y p q = p
 
 module _ (a b w n : ℕ) (few : a + b ≤ n) where
   put-below : (s j : ℕ) (v : Bool) → j < n → s < 2 ^ n → withBit s j v < 2 ^ n
@@ -40,12 +36,12 @@ module _ (a b w n : ℕ) (few : a + b ≤ n) where
       items-below xs (o .1) (withBit s j (evalAt a w s e)) (put-below s j (evalAt a w s e) (let q = o .0 .0 in omega arith) h)
   items-below (for e ys ns ∷ xs) o s h =
       items-below xs (o .1) (rowItemsAt a w (cond (evalAt a w s e) ys ns) s)
-      (chosen (λ zs. rowItemsAt a w zs s < 2 ^ n) (evalAt a w s e) ys ns (rows-below ys (o .0 .1) s h) (rows-below ns (o .0 .2) s h))
+      (taken (λ zs. rowItemsAt a w zs s < 2 ^ n) (evalAt a w s e) ys ns (rows-below ys (o .0 .1) s h) (rows-below ns (o .0 .2) s h))
 
   pub step-below : (k : Command) → ScopedCommand a b k → (s : ℕ) → s < 2 ^ n → stepAt a w k s < 2 ^ n
   unfolding stepAt
   step-below k o s h =
-      chosen (λ xs. itemsAt a w xs s < 2 ^ n) (evalAt a w s (k .test)) (k .doItems) (k .elseItems)
+      taken (λ xs. itemsAt a w xs s < 2 ^ n) (evalAt a w s (k .test)) (k .doItems) (k .elseItems)
       (items-below (k .doItems) (o .doItems) s h) (items-below (k .elseItems) (o .elseItems) s h)
 
   -- The state after a command's code is the command's one-row step.

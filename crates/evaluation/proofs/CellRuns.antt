@@ -3,13 +3,13 @@
 use Prim.Native.Nat.{ℕ, _+_, _/_, _≤_, _<_}
 use mathlib.Core.Path.{_≡_, ap}
 use mathlib.Core.List.{List}
-use mathlib.Core.Bool.{Bool, true, false, cond}
 use native.Mathlib.Omega.{arith}
 use lib.Dec.{eqb}
 use lib.ListN.{length, getD, drop}
 use borrow.Author.Tests.{ne-eqb}
 use Rattle.evaluation.specs.declared.lanes.Tops.{Tops}
 use Rattle.evaluation.specs.working.Cells.{runCells, cellsOf, topsOf, topsKind, cellsKind}
+use Rattle.meaning.proofs.Lists.{taken}
 use Rattle.evaluation.proofs.CodeRuns.{next-word, no-word}
 
 -- A code word of another kind does nothing.
@@ -57,22 +57,18 @@ module _ (ops : List ℕ) (i b : ℕ) (t : Tops) (c : List ℕ) where
 abbrev pub In : Tops → Type 0
 In t = (t .sp < 64) × (t .mp < 32)
 
-each : (b : Bool) (x y : Tops) → In x → In y → In (cond b x y)
-each true x y p q = p
-each false x y p q = q
-
 pub tops-in : (op : ℕ) (t : Tops) → In t → In (topsOf op t)
 unfolding topsKind
 tops-in op t h =
     let k = op / 32 in
-    each (eqb k 0) _ _ (omega arith, omega arith)
-    (each (eqb k 1) _ _ (omega arith, omega arith)
-    (each (eqb k 2) _ _ (omega arith, omega arith)
-    (each (eqb k 3) _ _ (omega arith, omega arith)
-    (each (eqb k 4) _ _ (omega arith, omega arith)
-    (each (eqb k 5) _ _ (omega arith, omega arith)
-    (each (eqb k 6) _ _ (omega arith, omega arith)
-    (each (eqb k 7) _ _ (omega arith, omega arith)
-    (each (eqb k 8) _ _ (omega arith, omega arith)
-    (each (eqb k 9) _ _ (omega arith, omega arith)
+    taken In (eqb k 0) _ _ (omega arith, omega arith)
+    (taken In (eqb k 1) _ _ (omega arith, omega arith)
+    (taken In (eqb k 2) _ _ (omega arith, omega arith)
+    (taken In (eqb k 3) _ _ (omega arith, omega arith)
+    (taken In (eqb k 4) _ _ (omega arith, omega arith)
+    (taken In (eqb k 5) _ _ (omega arith, omega arith)
+    (taken In (eqb k 6) _ _ (omega arith, omega arith)
+    (taken In (eqb k 7) _ _ (omega arith, omega arith)
+    (taken In (eqb k 8) _ _ (omega arith, omega arith)
+    (taken In (eqb k 9) _ _ (omega arith, omega arith)
     (omega arith, omega arith))))))))))

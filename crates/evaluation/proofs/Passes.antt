@@ -9,7 +9,7 @@ use lib.ListN.{length, length-append}
 use lib.Seq.{slice}
 use Rattle.notation.specs.Model.{Model, Expr, lit, star, shared, row, neg, conj, disj, Place, outside, inside}
 use Rattle.notation.specs.Layout.{exprCode, layoutOf, NEGATE, BOTH, EITHER}
-use Rattle.notation.specs.Regular.{Regular}
+use Rattle.notation.specs.Regular.{Regular, sumOver}
 use Rattle.notation.specs.Expressions.{nodes, nodesIn, expressions, StandsIn}
 use Rattle.notation.proofs.Regular.{all-regular}
 use Rattle.notation.proofs.Nodes.{nodes-counted}
@@ -38,7 +38,7 @@ nodes-coded a (disj e f) =
     omega (arith, length-append (exprCode a e) (exprCode a f ++ (EITHER ∷ [])), length-append (exprCode a f) (EITHER ∷ []), nodes-coded a e, nodes-coded a f)
 
 all-coded : (a : ℕ) (es : List Expr) → passesIn a es ≡ nodesIn es
-unfolding passesIn nodesIn
+unfolding sumOver
 all-coded a [] = refl
 all-coded a (e ∷ es) = omega (arith, nodes-coded a e, all-coded a es)
 

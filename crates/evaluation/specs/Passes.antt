@@ -2,14 +2,15 @@
 -- Assumes nothing.
 use mathlib.Core.Path.{_≡_}
 use mathlib.Core.Bool.{cond}
-use mathlib.Core.List.{List, [], _∷_, _++_}
-use Prim.Native.Nat.{ℕ, _+_, _<_, _≤_}
+use mathlib.Core.List.{List, _++_}
+use Prim.Native.Nat.{ℕ, _<_, _≤_}
 use lib.ListN.{length}
 use lib.Seq.{slice}
 use Rattle.notation.specs.Model.{Model, Expr, Place, outside, inside}
 use Rattle.notation.specs.Rules.{limitOf, NODES}
 use Rattle.notation.specs.Texts.{TextSays}
 use Rattle.notation.specs.Layout.{exprCode, layoutOf}
+use Rattle.notation.specs.Regular.{sumOver}
 use Rattle.notation.specs.Expressions.{nodes, nodeCount, expressions, StandsIn}
 use Rattle.meaning.specs.Meaning.{Scope, tableScope, rowScope, eval}
 use Rattle.meaning.specs.OneRow.{One, theRow, stateCount, spread, spreadWord}
@@ -35,9 +36,8 @@ pub record ValuedAmong (m : Model) (p : Place) (e : Expr) (ops : List ℕ) : Typ
   pub values : Values m p e (slice from to ops)
 
 -- How many passes expressions take together, where there are a shared names.
-unfoldable pub passesIn : ℕ → List Expr → ℕ
-passesIn a [] = 0
-passesIn a (e ∷ es) = passesOf (exprCode a e) + passesIn a es
+abbrev pub passesIn : ℕ → List Expr → ℕ
+passesIn a es = sumOver (λ e. passesOf (exprCode a e)) es
 
 -- Every expression of a model that a text says is valued so, whatever follows the model's code; and once through all of them takes as many passes as the text counts nodes.
 pub record AllValued (m : Model) {text : List ℕ} (t : TextSays text m) : Type 0 where

@@ -1,9 +1,11 @@
--- The elements of lists that are joined.
+-- The elements of lists that are joined, and sums over them.
 -- Assumes nothing.
-use mathlib.Core.Path.{refl, subst}
+use mathlib.Core.Path.{_≡_, refl, subst}
 use mathlib.Core.Logic.{_⊎_, inl, inr, ⊎-elim}
 use mathlib.Core.List.{List, [], _∷_, _++_, flatMap}
-use Rattle.notation.specs.Regular.{Among}
+use Prim.Native.Nat.{ℕ, _+_}
+use native.Mathlib.Omega.{arith}
+use Rattle.notation.specs.Regular.{Among, sumOver}
 
 module _ {A : Type 0} where
   pub among-left : (t : A) (xs ys : List A) → Among t xs → Among t (xs ++ ys)
@@ -19,6 +21,11 @@ module _ {A : Type 0} where
   among-split t [] ys h = inr h
   among-split t (x ∷ xs) ys (inl e) = inl (inl e)
   among-split t (x ∷ xs) ys (inr h) = ⊎-elim (λ a. inl (inr a)) (λ b. inr b) (among-split t xs ys h)
+
+pub sum-append : {A : Type 0} (f : A → ℕ) (xs ys : List A) → sumOver f (xs ++ ys) ≡ sumOver f xs + sumOver f ys
+unfolding sumOver
+sum-append f [] ys = omega arith
+sum-append f (x ∷ xs) ys = omega (arith, sum-append f xs ys)
 
 -- What a function gives of an element is in what it gives of them all, and nothing else is.
 module _ {A B : Type 0} (f : A → List B) where

@@ -14,19 +14,16 @@ use Rattle.notation.specs.Model.{Model}
 use Rattle.notation.specs.Texts.{exprOf, nameOf, placeOf, among, rowItemOf, rowItemsOf, itemOf, itemsOf, commandOf, clauseOf, wordsOf, modelOf}
 use Rattle.notation.specs.Expressions.{nodes, nodesIn, inRowItem, inItem, inCommand, expressions}
 use Rattle.notation.specs.Promises.{NodesCounted}
+use Rattle.notation.specs.Regular.{sumOver}
+use Rattle.notation.proofs.Members.{sum-append}
 use Rattle.notation.proofs.Counts.{count-append, total-few, several-all, joined-all}
 
 -- ---- nodes of lists
 
-nodes-both : (xs ys : List M.Expr) → nodesIn (xs ++ ys) ≡ nodesIn xs + nodesIn ys
-unfolding nodesIn
-nodes-both [] ys = omega arith
-nodes-both (x ∷ xs) ys = omega (arith, nodes-both xs ys)
-
 nodes-all : {A : Type 0} (f : A → List M.Expr) (xs ys : List A) → nodesIn (flatMap f (xs ++ ys)) ≡ nodesIn (flatMap f xs) + nodesIn (flatMap f ys)
-unfolding flatMap nodesIn
+unfolding flatMap sumOver
 nodes-all f [] ys = omega arith
-nodes-all f (x ∷ xs) ys = omega (arith, nodes-both (f x) (flatMap f (xs ++ ys)), nodes-both (f x) (flatMap f xs), nodes-all f xs ys)
+nodes-all f (x ∷ xs) ys = omega (arith, sum-append nodes (f x) (flatMap f (xs ++ ys)), sum-append nodes (f x) (flatMap f xs), nodes-all f xs ys)
 
 -- ---- nodes of parts
 
@@ -61,19 +58,19 @@ module _ (ws vs : List Word) where
   RowsNodes ps xs = (k : ℕ) → count NODES ps ≡ nodesIn (flatMap inRowItem (rowItemsOf ws vs xs k .is))
 
   row-nodes : (ps qs : List Part) (x : T.RowItem) (xs : List T.RowItem) → RowItemIs ps x → RowsNodes qs xs → RowsNodes (ps ++ qs) (x ∷ xs)
-  unfolding view elem count rowItemOf rowItemsOf inRowItem flatMap nodesIn
+  unfolding view elem count rowItemOf rowItemsOf inRowItem flatMap sumOver
   row-nodes _ qs _ xs isSkip h k = omega (arith, h k)
   row-nodes _ qs _ xs (isSet {ps = ps} {e = e} w x) h k = omega (arith, count-append NODES ps qs, expression-nodes x k, h (exprOf ws vs e k .next))
 
   rows-nodes : {ps : List Part} {xs : List T.RowItem} → Joined RowItemIs ps xs → RowsNodes ps xs
-  unfolding view elem count rowItemsOf flatMap nodesIn
+  unfolding view elem count rowItemsOf flatMap sumOver
   rows-nodes is = joined-all RowsNodes row-nodes (λ k. refl) (λ qs xs h k. omega (arith, h k)) is
 
   abbrev ItemsNodes : List Part → List T.Item → Type 0
   ItemsNodes ps xs = (k : ℕ) → count NODES ps ≡ nodesIn (flatMap inItem (itemsOf ws vs xs k .is))
 
   item-nodes : (ps qs : List Part) (x : T.Item) (xs : List T.Item) → ItemIs ps x → ItemsNodes qs xs → ItemsNodes (ps ++ qs) (x ∷ xs)
-  unfolding view elem count itemOf itemsOf inItem flatMap nodesIn
+  unfolding view elem count itemOf itemsOf inItem flatMap sumOver
   item-nodes _ qs _ xs isSkip h k = omega (arith, h k)
   item-nodes _ qs _ xs (isSet {ps = ps} {e = e} w x) h k = omega (arith, count-append NODES ps qs, expression-nodes x k, h (exprOf ws vs e k .next))
   item-nodes _ qs _ xs (isFor {cs = cs} {ps = ps} {qs = rs} {e = e} {xs = ys} {ys = ns} x is js) h k =
@@ -88,16 +85,16 @@ module _ (ws vs : List Word) where
         rows-nodes is (a .next),
         rows-nodes js (b .next),
         h (c .next),
-        nodes-both (flatMap inRowItem (b .is ++ c .is)) (flatMap inItem (itemsOf ws vs xs (c .next) .is)),
+        sum-append nodes (flatMap inRowItem (b .is ++ c .is)) (flatMap inItem (itemsOf ws vs xs (c .next) .is)),
         nodes-all inRowItem (b .is) (c .is),
       )
 
   items-nodes : {ps : List Part} {xs : List T.Item} → Joined ItemIs ps xs → ItemsNodes ps xs
-  unfolding view elem count itemsOf flatMap nodesIn
+  unfolding view elem count itemsOf flatMap sumOver
   items-nodes is = joined-all ItemsNodes item-nodes (λ k. refl) (λ qs xs h k. omega (arith, h k)) is
 
   command-nodes : {cs : List Part} {x : T.Command} → CommandIs cs x → count NODES cs ≡ nodesIn (inCommand (commandOf ws vs x))
-  unfolding view elem count nameCounts commandOf inCommand nodesIn
+  unfolding view elem count nameCounts commandOf inCommand sumOver
   command-nodes (isCommand {cs = cs} {ps = ps} {qs = qs} {e = e} {xs = xs} {ys = ys} w x is js) =
       let a = exprOf ws vs e 0 in
       let b = itemsOf ws vs xs (a .next) in
@@ -115,11 +112,11 @@ module _ (ws vs : List Word) where
         count-append NODES cs ds,
         command-nodes i,
         h,
-        nodes-both (inCommand (commandOf ws vs x)) (flatMap inCommand (map (commandOf ws vs) xs)),
+        sum-append nodes (inCommand (commandOf ws vs x)) (flatMap inCommand (map (commandOf ws vs) xs)),
       )
 
   commands-nodes : {cs : List Part} {xs : List T.Command} → Several CommandIs cs xs → CommandsNodes cs xs
-  unfolding count flatMap nodesIn
+  unfolding count flatMap sumOver
   commands-nodes is = several-all CommandsNodes command-more refl is
 
   clause-nodes : {k : ℕ} {ps : List Part} {x : T.Clause} → ClauseIs k ps x → count NODES ps ≡ nodes (clauseOf ws vs x .whole) + nodes (clauseOf ws vs x .each)
@@ -139,7 +136,7 @@ declared-nodes s (n ∷ ns) = rw (none s, declared-nodes s ns)
     none commandName = refl
 
 text-nodes : {ps : List Part} {x : T.Tree} → TextIs ps x → nodesIn (expressions (modelOf x)) ≡ count NODES ps
-unfolding view elem count modelOf expressions nodesIn
+unfolding view elem count modelOf expressions sumOver
 text-nodes (isText {ss = ss} {ks = ks} {cs = cs} ws vs i j is) =
     omega (
       arith,

@@ -5,7 +5,7 @@ use Prim.Native.Nat.{ℕ, _+_}
 use Rattle.notation.specs.Model.{Expr, lit, star, shared, row, neg, conj, disj, RowItem, skipRow, putRow, Item, skip, put, for, Command, Model, Place, outside, inside}
 use Rattle.notation.specs.Rules.{NODES, count}
 use Rattle.notation.specs.Texts.{TextSays}
-use Rattle.notation.specs.Regular.{Among}
+use Rattle.notation.specs.Regular.{Among, sumOver}
 
 -- How many nodes an expression has: every name, constant, star, `not`, `and` and `or` is one.
 unfoldable pub nodes : Expr → ℕ
@@ -18,9 +18,8 @@ nodes (conj a b) = nodes a + (nodes b + 1)
 nodes (disj a b) = nodes a + (nodes b + 1)
 
 -- How many nodes expressions have together.
-unfoldable pub nodesIn : List Expr → ℕ
-nodesIn [] = 0
-nodesIn (e ∷ es) = nodes e + nodesIn es
+abbrev pub nodesIn : List Expr → ℕ
+nodesIn es = sumOver nodes es
 
 -- How many nodes a text counts that says a model.
 abbrev pub nodeCount : {text : List ℕ} {m : Model} → TextSays text m → ℕ

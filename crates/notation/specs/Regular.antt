@@ -20,6 +20,11 @@ abbrev pub Among : {A : Type 0} → A → List A → Type 0
 Among x [] = ⊥
 Among x (y ∷ ys) = (x ≡ y) ⊎ Among x ys
 
+-- The numbers that a function gives of the elements, added up.
+unfoldable pub sumOver : {A : Type 0} → (A → ℕ) → List A → ℕ
+sumOver f [] = 0
+sumOver f (x ∷ xs) = f x + sumOver f xs
+
 -- The stars are numbered from i on, in the order of the list.
 abbrev pub NumberedFrom : ℕ → List Star → Type 0
 NumberedFrom i [] = Unit {0}

@@ -1,10 +1,12 @@
 -- `put_segment` meets its contract: each turn goes on by a code word or more, of which each has room for two numbers.
 -- Assumes nothing.
 use Prim.Native.Nat.{ℕ, _+_, _-_, _*_, _≤_}
-use mathlib.Core.Path.{_≡_}
+use mathlib.Core.Path.{_≡_, ap, _∙_}
 use mathlib.Core.List.{List}
 use native.Mathlib.Omega.{arith}
-use lib.ListN.{length, take, drop, length-take, length-drop}
+use lib.ListN.{length, take, drop}
+use lib.Seq.{length-slice}
+use Rattle.evaluation.proofs.CodeRuns.{part}
 use Rattle.value_corpus.proofs.put_segment.Statement.{statement}
 use Rattle.value_corpus.proofs.put_segment.Tie as tie
 
@@ -26,8 +28,8 @@ abbrev After-expression-end : Type 0
 After-expression-end = tie.After-expression-end Inv-expressions μ-expressions
 
 -- How long a part of the code is.
-part-length : (ops : List ℕ) (at end : ℕ) → at ≤ end → end ≤ length ops → length (take (end - at) (drop at ops)) ≡ end - at
-part-length ops at end h l = omega (arith, length-take (end - at) (drop at ops), length-drop at ops)
+part-length : (ops : List ℕ) (at end : ℕ) → end ≤ length ops → length (take (end - at) (drop at ops)) ≡ end - at
+part-length ops at end h = ap length (part ops at end) ∙ length-slice at end ops h
 
 expressions-holds : tie.Need-expressions-holds Inv-expressions μ-expressions
 expressions-holds c = (omega arith, omega arith, omega arith, omega arith)
@@ -52,7 +54,7 @@ put-expression-requires c κs =
     let start : Start = search in
     let at-expressions : At-expressions = search in
     let found : After-expression-end = search in
-    let long = part-length (start .args .ops .now) (at-expressions .expressions .told .at) (found .expression-end .result) (omega arith) (omega arith) in
+    let long = part-length (start .args .ops .now) (at-expressions .expressions .told .at) (found .expression-end .result) (omega arith) in
     (omega (arith, long), omega (arith, long), omega arith, omega arith)
 
 expressions-less : tie.Need-expressions-less Inv-expressions μ-expressions
