@@ -9,7 +9,7 @@ completionsdir = $(prefix)/share/bash-completion/completions
 # The command's own folder, which `make uninstall` removes whole.
 home = $(libdir)/nutseason
 
-commands := report sheet admit
+commands := report reserve sheet admit
 programs := $(commands:%=target/bin/%)
 libraries := target/staticlib/libloader.a target/staticlib/libworkbench.a
 sources := crates.txt $(shell find crates -name '*.rt' -o -name '*.antt')

@@ -25,9 +25,9 @@ def header(commands):
     return record(1, bytes([len(models.SHARED), len(models.ROW), commands]))
 
 
-def map_sheet(first, others):
-    """Of 16 commands: the map's first byte, and what its others are."""
-    return (header(models.COMMANDS)
+def map_sheet(commands, first, others):
+    """The map's first byte, and what its others are."""
+    return (header(commands)
             + record(2, bytes([first] + [others] * (models.STATES // 8 - 1))))
 
 
@@ -43,13 +43,29 @@ def wide(code):
     text, words = models.wide("1 each 1", *code)
     return Input(f"{models.BITS} bits, {models.COMMANDS} commands of"
                  f" {models.STARS} stars and {words} code words", text,
-                 map_sheet(0xff, 0xff), "s")
+                 map_sheet(models.COMMANDS, 0xff, 0xff), "s")
+
+
+def longest_command():
+    """Every state with one command, whose code is the longest."""
+    text, words = models.longest_command()
+    return Input(f"{models.BITS} bits, 1 command of {models.FILLING_STARS}"
+                 f" stars and {words} code words", text,
+                 map_sheet(1, 0xff, 0xff), "s")
 
 
 def count(bits):
     steps = (1 << bits) - 1
     return Input(f"trace of {steps:,} steps, 1 command",
                  models.short_count(bits), trace(1, [(0, 0)] * steps), "t")
+
+
+def longest_count():
+    """Every state is met, and once more on the way back."""
+    steps = models.STATES - 1
+    last = 0, (1 << models.FILLING_STARS) - 1
+    return Input(f"trace of {steps:,} steps, 1 command as long as can be",
+                 models.longest_count(), trace(1, [last] * steps), "t")
 
 
 def starry_count(bits):
@@ -71,16 +87,19 @@ VOID = Input("G without a start state, map of none", models.VOID, VOID_SHEET,
              "v")
 DEEPEST = H._replace(title="H in parentheses", text=models.DEEPEST_H)
 WIDE = wide(models.SHORT)
+LONGEST_COMMAND = longest_command()
 COUNT = count(models.BITS)
+LONGEST_COUNT = longest_count()
 STARRY = starry_count(4)
 LONG_TEXT = long_text()
 
 TO_READ = [G, LONG_TEXT]
-TO_SEARCH = [G, H, WIDE, wide(models.LONG), COUNT, starry_count(models.BITS),
-             LONG_TEXT]
+TO_SEARCH = [G, H, WIDE, wide(models.LONG), LONGEST_COMMAND, COUNT,
+             LONGEST_COUNT, starry_count(models.BITS), LONG_TEXT]
 
 # Those that C, one word at a time, is through with in two seconds.
-QUICK = [G, H, VOID, DEEPEST, WIDE, COUNT, STARRY, LONG_TEXT]
+QUICK = [G, H, VOID, DEEPEST, WIDE, LONGEST_COMMAND, COUNT, LONGEST_COUNT,
+         STARRY, LONG_TEXT]
 
 
 def changed(given, place, byte, answer):
@@ -103,7 +122,8 @@ OTHERS = [changed(H, 1, 0x22, "A"), changed(H, 1, 0xff, "B"),
                          answer="F"),
           # Only the last word of the last command leaves it.
           STARRY._replace(title="map of the start state",
-                          sheet=map_sheet(1, 0), answer="C")]
+                          sheet=map_sheet(models.COMMANDS, 1, 0),
+                          answer="C")]
 
 
 def refused(number, marked):

@@ -22,6 +22,16 @@ SHORT = ("S := @; for @ do R := @; R := @ else R := @ end", "S := @"), 29
 LOOP = "for @ do R := @ else R := @ end"
 LONG = (f"S := @; {LOOP}; {LOOP}; {LOOP}", f"{LOOP}; {LOOP}"), 62
 
+# The most code of one command: 256 items, and all nodes but the four that
+# `start` and `keep` have at the least. With so many stars its choice words are
+# as many as the product runs at once.
+LONGEST = ("; ".join([LOOP] * 85), "S := @"), 1020
+FILLING_STARS = 6
+
+# As many items and nodes as fit beside a counter. They change nothing.
+IDLE_LOOP = "for @ do R := R and (R or @) else skip end"
+IDLE_LOOPS, IDLE_NODES = 80, 322
+
 G = ("shared m. row w x.\nstart m each not x.\nkeep 1 each not (w and x).\n"
      "command grant if m do\n"
      "for 1 do w := *; x := * else skip end else skip.")
@@ -55,13 +65,13 @@ def expression(rng, names, nodes):
                       for part in parts)
 
 
-def with_stars(rng, expressions):
+def with_stars(rng, expressions, stars):
     """The expressions with so many operands of them turned into stars."""
     places = [(i, j) for i, text in enumerate(expressions)
               for j, byte in enumerate(text)
               if byte in SHARED + ROW and not in_word(text, j)]
     starred = [list(text) for text in expressions]
-    for i, j in rng.sample(places, STARS):
+    for i, j in rng.sample(places, stars):
         starred[i][j] = "*"
     return ["".join(text) for text in starred]
 
@@ -70,13 +80,13 @@ def in_word(text, j):
     return text[j - 1:j].isalpha() or text[j + 1:j + 2].isalpha()
 
 
-def command(rng, name, items, nodes):
+def command(rng, name, items, nodes, stars=STARS):
     """A command of so many expression nodes, and its count of code words."""
     whole = f"command {name} if @ do {items[0]} else {items[1]}."
     kinds = scopes(whole)
     sizes = shares(rng, nodes, len(kinds))
     made = with_stars(rng, [expression(rng, names, size)
-                            for names, size in zip(kinds, sizes)])
+                            for names, size in zip(kinds, sizes)], stars)
     words = (nodes + 3 + whole.count(":=") + whole.count("skip")
              + 3 * whole.count("for"))
     pieces = whole.split("@")
@@ -117,6 +127,15 @@ def wide(keep, items, nodes):
     return text, words.pop()
 
 
+def longest_command():
+    """12 names and one command, with its code words. All states start, and so
+    runs reach all of them."""
+    made, words = command(random.Random(SEED), "k", *LONGEST, FILLING_STARS)
+    text = model("1 each 1", "1 each 1", [made])
+    assert len(text) <= LONGEST_TEXT
+    return text, words
+
+
 def long_text():
     """As many bytes as a text may have: the longest names, alike up to their
     last letter, and blanks. The one start state breaks the property."""
@@ -136,12 +155,22 @@ def raised(j):
     return f"{bit} := {bit} and not ({lower}) or not {bit} and {lower}"
 
 
-def counter(test):
+def counter(test, before=""):
     """A command that adds 1 to the state's number where the test holds."""
     downwards = [raised(j) for j in reversed(range(BITS))]
     row, shared = downwards[:len(ROW)], downwards[len(ROW):]
-    return (f"command tick if {test} do for 1 do {'; '.join(row)}"
+    return (f"command tick if {test} do {before}for 1 do {'; '.join(row)}"
             f" else skip end; {'; '.join(shared)} else skip.")
+
+
+def idle_loops():
+    """What fills up a command and changes nothing."""
+    rng = random.Random(SEED)
+    sizes = iter(shares(rng, IDLE_NODES, 2 * IDLE_LOOPS))
+    loops = [IDLE_LOOP.replace("R", ROW[j % len(ROW)])
+             for j in range(IDLE_LOOPS)]
+    return re.sub("@", lambda _: expression(rng, SHARED + ROW, next(sizes)),
+                  "; ".join(loops) + "; ")
 
 
 def idle(j):
@@ -161,6 +190,15 @@ def count_up(commands, bits):
 
 def short_count(bits):
     return count_up([counter("1")], bits)
+
+
+def longest_count():
+    """The counter needs the last choice word, and its code is as long as the
+    limits allow."""
+    text = count_up([counter(" and ".join("*" * FILLING_STARS),
+                             idle_loops())], BITS)
+    assert len(text) <= LONGEST_TEXT
+    return text
 
 
 def starry_count(bits):

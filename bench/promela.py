@@ -1,16 +1,9 @@
-"""From a model to Promela: its table of one row, with the property asserted.
+"""From a model to Promela: its table of one row, the property asserted."""
 
-The second checker's reader is used, so that there is no third one.
-"""
-
-import os
 import sys
 
-sys.path.append(os.path.join(os.path.dirname(__file__), os.pardir, "checker"))
-
-from reader.model import (Assignment, Chain, Constant, For, Not, Refusal,
-                          Row, Star)
-from reader.reading import read
+from reading import (Assignment, Chain, Constant, For, Not, Refusal, Row, Star,
+                     read)
 
 SIGNS = {"and": " && ", "or": " || "}
 

@@ -1,6 +1,7 @@
 /* The search in plain C: the sheet has the trace of the first breaking run, or
  * the map of the states that runs reach, of which there are none where nothing
- * starts. */
+ * starts. With a map the number of trials is returned too: of states, commands
+ * and choice words by which a step was tried. */
 #include <stdio.h>
 #include <stdlib.h>
 
@@ -12,6 +13,7 @@
 static uint16_t *queue;         /* in the order of their meeting */
 static uint16_t *parent;        /* whence, plus 1; 0 is not met */
 static int met;
+static uint64_t trials;
 
 /* Puts a state in the queue; whether it breaks the property. */
 static int enqueue(uint32_t state, uint32_t whence)
@@ -37,6 +39,7 @@ static int search(int lanes)
                 if (!parent[target] && enqueue(target, state))
                     return 1;
             }
+            trials += words;
         }
     }
     return 0;
@@ -140,11 +143,13 @@ uint64_t twin_search(const uint8_t *bytes, size_t size,
     parent = second;
     sheet = room;
     met = 0;
+    trials = 0;
     clear(parent);
     put_counts();
     int found = search(lanes);
     int written = found ? put_trace(lanes) : put_map();
     clear(queue);
     clear(parent);
-    return (found ? 'u' : met ? 's' : 'v') | (uint64_t)written << 8;
+    return (found ? 'u' : met ? 's' : 'v') | (uint64_t)written << 8
+         | (found ? 0 : trials) << 24;
 }

@@ -1,11 +1,12 @@
 """Explains the report of a model's text to a person.
 
-python3 -B explain PROGRAM FILE [--html OUT]
+python3 -B explain PROGRAMS FILE [--html OUT]
 
-PROGRAM is the built report program, and what it says of the text in FILE is
-all that is known of the verdict. The explanation is printed; with --html its
-first line alone, and the whole is written to OUT as one page. The status is 0
-for a safe model, 1 for an unsafe or void one, 2 for anything else.
+PROGRAMS is the folder of the built programs report and reserve, and what they
+say of the text in FILE is all that is known of the verdict and of the trials
+of a search. The explanation is printed; with --html its first line alone, and
+the whole is written to OUT as one page. The status is 0 for a safe model, 1
+for an unsafe or void one, 2 for anything else.
 """
 
 import sys

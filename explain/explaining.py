@@ -1,5 +1,5 @@
-"""From a text to its explanation: runs the report program, and prints what
-its report means or writes it as a page."""
+"""From a text to its explanation: runs the programs report and reserve, and
+prints what they say in words or writes it as a page."""
 
 import contextlib
 import os
@@ -10,6 +10,7 @@ import traceback
 import page
 import plain
 from refusals import LONGEST_TEXT
+from reservations import Unreserved, search_of
 from texts import model_of
 from traces import Refused, Safe, Unreadable, Unsafe, Void, report_of
 
@@ -27,15 +28,17 @@ def shown(path):
     return "".join(c if c.isprintable() else ascii(c)[1:-1] for c in name)
 
 
-def explained_by(form, file, text, report):
-    """What a form of output, plain or page, says of a report."""
+def explained_by(form, file, text, report, reserved=None):
+    """What a form of output, plain or page, says of a report and of what is
+    reserved for a text that is not refused."""
     if isinstance(report, Refused):
         return form.refused(file, text, report)
     model = model_of(text)
     if report.counts != model.counts:
         raise Unreadable
+    search = search_of(reserved, model)
     say = {Safe: form.safe, Void: form.void, Unsafe: form.unsafe}
-    return say[type(report)](file, text, report, model)
+    return say[type(report)](file, text, report, model, search)
 
 
 def read(path):
@@ -44,10 +47,10 @@ def read(path):
         return file.read(LONGEST_TEXT + 1)
 
 
-def reported(program, text):
-    run = subprocess.run([program], input=text, stdout=subprocess.PIPE,
-                         check=False)
-    return report_of(run.stdout)
+def asked(programs, name, text):
+    """What a program says of the text, in its bytes."""
+    return subprocess.run([os.path.join(programs, name)], input=text,
+                          stdout=subprocess.PIPE, check=False).stdout
 
 
 def show(lines):
@@ -62,14 +65,17 @@ def show(lines):
         raise Stopped(why) from fault
 
 
-def explain(program, path, out):
+def explain(programs, path, out):
     file, text = shown(path), read(path)
-    report = reported(program, text)
-    lines = explained_by(plain, file, text, report)
+    report = report_of(asked(programs, "report", text))
+    said = [file, text, report]
+    if not isinstance(report, Refused):
+        said.append(asked(programs, "reserve", text))
+    lines = explained_by(plain, *said)
     if out is None:
         show(lines)
     else:
-        write(out, path, explained_by(page, file, text, report))
+        write(out, path, explained_by(page, *said))
         show(lines[:1])
     return STATUS[type(report)]
 
@@ -92,13 +98,15 @@ def tell(fault):
             print(fault, file=sys.stderr)
 
 
-def main(program, path, out=None):
+def main(programs, path, out=None):
     try:
-        return explain(program, path, out)
+        return explain(programs, path, out)
     except Stopped as stop:
         fault = str(stop)
     except Unreadable:
         fault = "the report program gave no report of this text"
+    except Unreserved:
+        fault = "the reserve program gave no reservation of this text"
     except Exception:
         # Python's own status for this is 1, which would say unsafe.
         fault = f"explain went wrong\n{traceback.format_exc()}"

@@ -32,15 +32,15 @@ def refused(file, text, report):
                  sentences.refused(file, report.number, said), main)
 
 
-def safe(file, text, report, model):
+def safe(file, text, report, model, search):
     main = [f"<p>{escape(sentences.evidence(file))}</p>",
-            settings_section(report, model),
+            settings_section(report, model), search_section(search),
             text_section(text, command_marks(model))]
     return whole(sentences.verdict(file, "safe", report.counts),
                  sentences.SAFE, "\n".join(main))
 
 
-def void(file, text, report, model):
+def void(file, text, report, model, search):
     parts = tried(model)
     first, *_, last = model.start.whole
     mark = (first.place, last.end, "mark", "")
@@ -48,17 +48,19 @@ def void(file, text, report, model):
             clause_section("Why nothing starts",
                            sentences.contradiction(parts), model.start,
                            parts, sentences.can_hold),
+            search_section(search),
             text_section(text, [mark, *command_marks(model)])]
     return whole(sentences.verdict(file, "void", report.counts),
                  sentences.VOID, "\n".join(main))
 
 
-def unsafe(file, text, report, model):
+def unsafe(file, text, report, model, search):
     lines = lines_of(report, model)
     main = [player(text, lines, model), steps_section(lines, model),
             clause_section("What breaks", sentences.BREAKS, model.keep,
                            judged(report, model), sentences.held,
                            sentences.COPIES),
+            search_section(search),
             f"<script>\n{part('page.js')}</script>"]
     return whole(sentences.verdict(file, "unsafe", report.counts),
                  sentences.unsafe(report.steps), "\n".join(main))
@@ -140,6 +142,11 @@ def cell(before, after):
     if before == after:
         return f"<td>{after}</td>"
     return f"<td><b>{before}{CHANGE}{after}</b></td>"
+
+
+def search_section(search):
+    return ("<section>\n<h2>What a search takes</h2>\n"
+            f"<p>{coded(sentences.search(search))}</p>\n</section>")
 
 
 def clause_section(heading, title, clause, sides, how, note=""):

@@ -20,29 +20,31 @@ def refused(file, text, report):
     return lines + [said.rule]
 
 
-def safe(file, text, report, model):
+def safe(file, text, report, model, search):
     lines = setting_lines(report, model, LONGEST_BAR)
     return [f"{sentences.verdict(file, 'safe', report.counts)}. "
             f"{sentences.SAFE} {sentences.evidence(file)}",
-            "", sentences.reached(report), "", *settings_table(lines, model)]
+            "", sentences.reached(report), "", *settings_table(lines, model),
+            "", sentences.search(search)]
 
 
-def void(file, text, report, model):
+def void(file, text, report, model, search):
     parts = tried(model)
     return [f"{sentences.verdict(file, 'void', report.counts)}. "
             f"{sentences.VOID} {sentences.evidence(file)}",
             "", sentences.contradiction(parts),
-            *clause(model.start, parts, sentences.can_hold)]
+            *clause(model.start, parts, sentences.can_hold),
+            "", sentences.search(search)]
 
 
-def unsafe(file, text, report, model):
+def unsafe(file, text, report, model, search):
     lines = lines_of(report, model)
     return [f"{sentences.verdict(file, 'unsafe', report.counts)}. "
             f"{sentences.unsafe(report.steps)}",
             "", *table(lines, model), *notes(text, lines, model),
             "", sentences.BREAKS,
             *clause(model.keep, judged(report, model), sentences.held),
-            "", sentences.COPIES]
+            "", sentences.COPIES, "", sentences.search(search)]
 
 
 def settings_table(lines, model):

@@ -2,6 +2,10 @@
 
 from shlex import quote
 
+from reservations import rounded_up
+
+# In nanoseconds.
+MILLISECOND, SECOND = 10 ** 6, 10 ** 9
 SAFE = ("No run of any length, over a table of one row or more, breaks the "
         "property.")
 VOID = ("No state satisfies `start`, so no table of one row or more has a "
@@ -56,6 +60,31 @@ def reached(report):
     names = "the shared name" if shared == 1 else "the shared names"
     return (f"{said}, at {len(report.settings):,} of {1 << shared:,} settings "
             f"of {names}:")
+
+
+def search(taken):
+    """What a search takes at most, and what of it is proved."""
+    return (f"A search makes at most {counted(taken.trials, 'trial')}; a "
+            "trial runs one command from one state with one choice word. "
+            "That number is proved. Once the text is read, the search takes "
+            f"at most {lasting(taken.nanoseconds)}. That is reckoned from "
+            "what was measured on one machine, and is not proved.")
+
+
+def lasting(nanoseconds):
+    """A time with the unit that fits, rounded up."""
+    if rounded_up(nanoseconds, MILLISECOND) < 1000:
+        return f"{tenths(nanoseconds, MILLISECOND)} ms"
+    said = tenths(nanoseconds, SECOND)
+    return f"{said} second{'' if said == '1' else 's'}"
+
+
+def tenths(nanoseconds, unit):
+    """Below 10 of the unit in tenths, from there on in whole ones."""
+    count = rounded_up(10 * nanoseconds, unit)
+    if count < 100 and count % 10:
+        return f"{count // 10}.{count % 10}"
+    return f"{rounded_up(nanoseconds, unit):,}"
 
 
 def contradiction(parts):

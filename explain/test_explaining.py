@@ -1,5 +1,5 @@
-"""Statuses, the file of a page, and what happens where there is no report,
-with a stand-in for the report program that prints a stored report."""
+"""Statuses, the file of a page, and what happens where there is no report or
+no reservation, with stand-ins for the programs that print stored ones."""
 
 import contextlib
 import io
@@ -10,7 +10,7 @@ from errno import EBADF, ENOSPC, EPIPE
 from pathlib import Path
 from unittest import mock
 
-from explaining import main, shown
+from explaining import asked, main, shown
 from stored import cases
 
 CASES = {case.name: case for case in cases()}
@@ -35,6 +35,22 @@ NO_COUNTS = (
     "states 7|at 0 1|at 1 4|at 3 2|start 0", "states 7|at a 1|at 1 4|at 3 2",
     "states 7\r|at 0 1\r|at 1 4\r|at 3 2\r",
 )
+# What is not quite the reservation of 4 names and of commands with 0, 2, 2
+# and 0 stars, which is entries 16, bytes 167, trials 160.
+NO_RESERVATIONS = (
+    "", "refused 3 0|", "entries 16|", "entries 16|bytes 167|",
+    "entries 16|bytes 167|trials 160", "entries 16|bytes 167|trials 160||",
+    "entries 16|bytes 167|trials 160|safe|", "entries 16|trials 160|",
+    "bytes 167|entries 16|trials 160|", "entries 8|bytes 87|trials 80|",
+    "entries 32|bytes 327|trials 320|", "entries 16|bytes 167|trials 159|",
+    "entries 16|bytes 167|trials 161|", "entries 16|bytes 167|trials 64|",
+    "entries 16|bytes 167|trials 0160|", "entries 016|bytes 167|trials 160|",
+    "entries 16|bytes -167|trials 160|", "entries 16|bytes 167|trials +160|",
+    "entries 16|bytes |trials 160|", "entries  16|bytes 167|trials 160|",
+    "entries 16 |bytes 167|trials 160|", "Entries 16|bytes 167|trials 160|",
+    "entries 16 bytes 167 trials 160|", "entries 0x10|bytes 167|trials 160|",
+    "entries 16\r|bytes 167\r|trials 160\r|",
+)
 
 
 @contextlib.contextmanager
@@ -57,28 +73,36 @@ class Explaining(unittest.TestCase):
         made = tempfile.TemporaryDirectory()
         self.addCleanup(made.cleanup)
         self.folder = Path(made.name)
+        self.programs = self.folder / "programs"
+        self.programs.mkdir()
         self.text = self.folder / "model.text"
         self.out = self.folder / "page.html"
 
-    def explain(self, case, output, report=None, out=None):
-        """Status and standard error. The stand-in gives its report only to a
-        text that it is handed whole."""
-        self.text.write_bytes(case.text)
-        said = self.folder / "said"
-        said.write_bytes(case.report if report is None else report)
-        program = self.folder / "program"
+    def stand_in(self, name, said):
+        """A program that says this only of a text that it is handed whole."""
+        stored = self.folder / f"{name}.said"
+        stored.write_bytes(said)
+        program = self.programs / name
         program.write_text(f"#!/bin/sh\ncmp -s - '{self.text}' && "
-                           f"cat '{said}'\n")
+                           f"cat '{stored}'\n")
         program.chmod(0o755)
+
+    def explain(self, case, output, report=None, out=None, reserved=None):
+        """Status and standard error."""
+        self.text.write_bytes(case.text)
+        self.stand_in("report", case.report if report is None else report)
+        self.stand_in("reserve",
+                      case.reservation if reserved is None else reserved)
         with (standard_output(output),
               contextlib.redirect_stderr(io.StringIO()) as error):
-            status = main(str(program), str(self.text), out)
+            status = main(str(self.programs), str(self.text), out)
         return status, error.getvalue()
 
-    def run_on(self, case, report=None, out=None):
+    def run_on(self, case, report=None, out=None, reserved=None):
         """Status, standard output and standard error."""
         with tempfile.TemporaryFile() as output:
-            status, error = self.explain(case, output.fileno(), report, out)
+            status, error = self.explain(case, output.fileno(), report, out,
+                                         reserved)
             output.seek(0)
             return status, output.read().decode(), error
 
@@ -120,6 +144,27 @@ class Explaining(unittest.TestCase):
                 status, said, error = self.run_on(case, report, out)
                 self.assertEqual((status, said), (2, ""), report)
                 self.assertIn("gave no report of this text", error)
+
+    def test_no_reservation(self):
+        case = CASES["safe_settings"]
+        self.assertEqual(case.reservation,
+                         b"entries 16\nbytes 167\ntrials 160\n")
+        for lines in NO_RESERVATIONS:
+            reserved = lines.replace("|", "\n").encode()
+            for out in (None, str(self.out)):
+                status, said, error = self.run_on(case, out=out,
+                                                  reserved=reserved)
+                self.assertEqual((status, said), (2, ""), reserved)
+                self.assertIn("gave no reservation of this text", error)
+
+    def test_programs_that_are_asked(self):
+        """Of a refused text there is nothing to reserve."""
+        for name, programs in (("tab", ["report"]),
+                               ("void_both", ["report", "reserve"])):
+            with mock.patch("explaining.asked", wraps=asked) as called:
+                self.run_on(CASES[name])
+            self.assertEqual([call.args[1] for call in called.mock_calls],
+                             programs)
 
     def test_no_page(self):
         for out, why in ((self.folder, "cannot write"),

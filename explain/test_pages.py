@@ -64,8 +64,8 @@ class Page(HTMLParser):
             self.rows[-1][-1] += data
 
 
-def page_of(text, report):
-    return explained_by(page, "FILE", text, report_of(report))
+def page_of(text, report, reservation=None):
+    return explained_by(page, "FILE", text, report_of(report), reservation)
 
 
 def steps_of(rows):
@@ -83,7 +83,7 @@ class Pages(unittest.TestCase):
     def test_every_case(self):
         for case in cases():
             with self.subTest(case.name):
-                said = page_of(case.text, case.report)
+                said = page_of(*case.said)
                 self.stands_alone(said)
                 self.says(Page(said), case)
 
@@ -104,7 +104,7 @@ class Pages(unittest.TestCase):
         if unsafe:
             rest = rest[rest.index(BREAKS):]
         if isinstance(report, Safe):
-            rest = rest[:2]
+            rest = rest[:2] + rest[-1:]
         for line in first.split(". ") + rest:
             for piece in line.strip().split("  "):
                 self.assertIn(piece.strip(), found.read)
@@ -117,7 +117,7 @@ class Pages(unittest.TestCase):
         refusal is there."""
         for case in cases():
             with self.subTest(case.name):
-                lines = Page(page_of(case.text, case.report)).lines
+                lines = Page(page_of(*case.said)).lines
                 shown = "\n".join(lines)
                 for byte, escape in (("\t", "\\t"), ("\r", "\\r"),
                                      ("\xe9", "\\xc3\\xa9")):
@@ -131,7 +131,7 @@ class Pages(unittest.TestCase):
     def test_start_is_marked_where_nothing_starts(self):
         for case in cases():
             if b"void" in case.report:
-                said = page_of(case.text, case.report)
+                said = page_of(*case.said)
                 marks = re.findall("<mark>(.*)</mark>", said)
                 text = case.text.decode()
                 start = text[text.index("start"):text.index("keep")]
@@ -143,13 +143,12 @@ class Pages(unittest.TestCase):
         self.assertIn("refused 1: the text is over 16,384 bytes", found.read)
 
     def test_steps(self):
-        runs = [(case.text, case.report) for case in cases()
-                if b"unsafe" in case.report]
+        runs = [case.said for case in cases() if b"unsafe" in case.report]
         self.assertEqual(len(runs), 3)
-        for text, report in [*runs, counter()]:
-            heads, names, *rows = Page(page_of(text, report)).rows
+        for said in [*runs, counter()]:
+            heads, names, *rows = Page(page_of(*said)).rows
             self.assertEqual(heads[:3], ["step", "command", "choices"])
-            meant = report_of(report)
+            meant = report_of(said[1])
             steps = [(number, step.command, step.word, step.after)
                      for number, step in enumerate(meant.steps, 1)]
             self.assertEqual(list(steps_of(rows)),
@@ -158,12 +157,12 @@ class Pages(unittest.TestCase):
 
     def test_settings(self):
         """The cells are those of the plain table, where bars are marks."""
-        safe = [(case.text, case.report) for case in cases()
-                if case.name.startswith("safe")]
+        safe = [case.said for case in cases() if case.name.startswith("safe")]
         self.assertEqual(len(safe), 4)
-        for text, report in [*safe, all_settings()]:
-            heads, *rows = Page(page_of(text, report)).rows
-            lines = explained_by(plain, "FILE", text, report_of(report))[4:]
+        for text, report, reservation in [*safe, all_settings()]:
+            heads, *rows = Page(page_of(text, report, reservation)).rows
+            lines = explained_by(plain, "FILE", text, report_of(report),
+                                 reservation)[4:-2]
             cells = [[*before, *last.split()] for *before, last in
                      (map(str.strip, line.split(" | ")) for line in lines)]
             self.assertEqual(heads, cells[0])
@@ -177,9 +176,8 @@ class Pages(unittest.TestCase):
 
     def test_bars(self):
         """One in each row, in percent of the longest, for eyes alone."""
-        for text, report in [*((case.text, case.report) for case in cases()),
-                             all_settings()]:
-            found, meant = Page(page_of(text, report)), report_of(report)
+        for said in [*(case.said for case in cases()), all_settings()]:
+            found, meant = Page(page_of(*said)), report_of(said[1])
             counts = ([setting.states for setting in meant.settings]
                       if isinstance(meant, Safe) else [])
             charts = [attributes for tag, attributes in found.tags
@@ -196,17 +194,16 @@ class Pages(unittest.TestCase):
 
     def test_small_shares_are_escaped(self):
         case = next(case for case in cases() if case.name == "safe_rare")
-        self.assertIn("<td>&lt;0.1%</td>", page_of(case.text, case.report))
+        self.assertIn("<td>&lt;0.1%</td>", page_of(*case.said))
 
     def test_no_column_without_shared_names(self):
         case = next(case for case in cases() if case.name == "safe_rows")
-        self.assertEqual(Page(page_of(case.text, case.report)).rows,
+        self.assertEqual(Page(page_of(*case.said)).rows,
                          [["setting", "states", "share"],
                           ["0", "3", "100%", ""]])
 
     def test_changes_are_marked(self):
-        text, report = counter()
-        _, _, *rows = Page(page_of(text, report)).rows
+        _, _, *rows = Page(page_of(*counter())).rows
         for before, after in zip(rows, rows[1:]):
             for was, now in zip(before[3:], after[3:]):
                 self.assertEqual(now, now[-1] if was[-1] == now[-1]
@@ -217,7 +214,7 @@ class Pages(unittest.TestCase):
         command, and its stars are numbered in text order."""
         case = next(case for case in cases() if case.name == "several_steps")
         pieces, stars = {}, {}
-        found = Page(page_of(case.text, case.report))
+        found = Page(page_of(*case.said))
         for attributes, said in found.spans:
             name = attributes["data-command"]
             pieces[name] = pieces.get(name, "") + said
@@ -233,7 +230,7 @@ class Pages(unittest.TestCase):
 
     def test_script_finds_its_parts(self):
         case = next(case for case in cases() if case.name == "several_steps")
-        said = page_of(case.text, case.report)
+        said = page_of(*case.said)
         ids = {attributes.get("id") for _, attributes in Page(said).tags}
         sought = re.findall(r'part\("(\w+)"\)', said)
         sought += re.findall(r"^    (\w+): \(\) => show", said, re.MULTILINE)
@@ -253,7 +250,7 @@ class Pages(unittest.TestCase):
     def test_markup_in_a_path(self):
         case = next(case for case in cases() if case.name == "safe")
         said = explained_by(page, "<b>&.text", case.text,
-                            report_of(case.report))
+                            report_of(case.report), case.reservation)
         found = Page(said)
         self.assertNotIn("b", [tag for tag, _ in found.tags])
         self.assertIn("<b>&.text: safe", found.read)

@@ -8,8 +8,8 @@ from stored import MOST_SETTINGS, MOST_STEPS, all_settings, cases, counter
 from traces import report_of
 
 
-def said(text, report):
-    return explained_by(plain, "FILE", text, report_of(report))
+def said(text, report, reservation=None):
+    return explained_by(plain, "FILE", text, report_of(report), reservation)
 
 
 class Stored(unittest.TestCase):
@@ -17,7 +17,7 @@ class Stored(unittest.TestCase):
         numbers = set()
         for case in cases():
             with self.subTest(case.name):
-                lines = said(case.text, case.report)
+                lines = said(*case.said)
                 self.assertEqual("\n".join(lines) + "\n", case.plain)
             numbers.add(case.report.split()[1] if b"refused" in case.report
                         else case.report.split()[4])
@@ -48,8 +48,8 @@ class Stored(unittest.TestCase):
         """The table has every setting, with all names."""
         lines = said(*all_settings())
         self.assertIn("2,944 of 4,096 states, at 256 of 256", lines[2])
-        self.assertEqual(len(lines[5:]), MOST_SETTINGS)
-        for number, line in enumerate(lines[5:]):
+        self.assertEqual(len(lines[5:-2]), MOST_SETTINGS)
+        for number, line in enumerate(lines[5:-2]):
             shown, names, reached = line.split(" | ")
             self.assertEqual(int(shown), number)
             self.assertEqual(names.strip().split(", "),
@@ -63,8 +63,10 @@ class Stored(unittest.TestCase):
     def test_no_names_at_all(self):
         lines = said(b"shared. row. start 1 each 1. keep 1 each 1. "
                      b"command c if 1 do skip else skip.",
-                     b"model 0 0 1\nsafe\nstates 1\nat 0 1\n")
-        self.assertEqual(lines[2:], [
+                     b"model 0 0 1\nsafe\nstates 1\nat 0 1\n",
+                     b"entries 1\nbytes 17\ntrials 1\n")
+        self.assertIn("at most 1 trial; ", lines[-1])
+        self.assertEqual(lines[2:-2], [
             "Runs over a table of one row reach 1 of 1 state. There are no "
             "shared names, so there is one setting, 0:", "",
             "setting | states  share", f"      0 |      1   100%  {'#' * 24}"])

@@ -1,13 +1,14 @@
-/* Nutseason for programs in C: the reader and the acceptance test (libloader.a), and the search (libworkbench.a).
- * They are installed as libnutseason_loader.a and libnutseason_workbench.a; `pkg-config --libs nutseason` names both.
+/* Nutseason for programs in C: the reader and the acceptance test (libloader.a), and the search with its reservations
+ * (libworkbench.a). They are installed as libnutseason_loader.a and libnutseason_workbench.a;
+ * `pkg-config --libs nutseason` names both.
  *
  * Every function is proved: it ends on all inputs, touches nothing but what it is handed, keeps nothing between
  * calls, and needs no heap. It answers with one number. The low byte says which answer it is, and the rest,
- * number / 256, is a place, a length or three counts; it is 0 where there is nothing to say.
+ * number / 256, is a place, three counts, or a length with a number of trials; it is 0 where there is nothing to say.
  *
  * What a caller owes: a pointer with its length is memory that the call may read, and write where it is not const;
- * a table is aligned as its type asks; no two of the arguments overlap where one of them is written; and nothing
- * else writes them during the call. A pointer whose length is 0 is not followed.
+ * a table or list is aligned as its type asks; no two of the arguments overlap where one of them is written; and
+ * nothing else writes them during the call. A pointer whose length is 0 is not followed.
  *
  * The refusals, with what their place says. Places count bytes from 0.
  *
@@ -18,7 +19,7 @@
  *    5  a name that is not declared, or of the wrong kind           the name
  *    6  a star after `start` or `keep`                              the star
  *    7  one name, command, item, node, star or depth too many       the token that is too many
- *    8  a lent table or the lent sheet buffer is too short          0
+ *    8  a lent table, sheet buffer or list of needs is too short    0
  *    9  the sheet's records are not in form                         the record, or 65536 where the sheet is too long
  *   10  a number in the sheet does not fit the model                the record
  */
@@ -32,7 +33,8 @@
 extern "C" {
 #endif
 
-/* The largest that can be asked for: a longer text or sheet is refused by its length alone, and no search needs more room. */
+/* The largest that can be asked for: a longer text or sheet is refused by its length alone, and no search needs more
+ * room. What a search of one text needs, nutseason_reserve tells. */
 enum {
     NUTSEASON_LONGEST_TEXT = 16384,
     NUTSEASON_LONGEST_SHEET = 65536,
@@ -46,10 +48,22 @@ static inline unsigned nutseason_answer(uint64_t said)
     return (unsigned)(said & 255);
 }
 
-/* The place, the length or the counts that come with it. */
+/* The place or the counts that come with it. What comes with the verdict of a search, the next two tell. */
 static inline uint64_t nutseason_rest(uint64_t said)
 {
     return said >> 8;
+}
+
+/* After 's', 'v' or 'u' of nutseason_search: how many bytes its sheet has. */
+static inline size_t nutseason_length(uint64_t said)
+{
+    return (size_t)(said >> 8 & 65535);
+}
+
+/* After 's' of nutseason_search: how many trials it made; after 'v' and 'u' 0. */
+static inline uint64_t nutseason_trials(uint64_t said)
+{
+    return said >> 24;
 }
 
 /* Reads a text. 'm': it says a model, and the next three bytes of the answer are its counts of shared names
@@ -64,12 +78,21 @@ uint64_t nutseason_read(const uint8_t *text, size_t text_len);
  * 9 and 10: that of the sheet. A design is to be admitted after 's' alone. */
 uint64_t nutseason_test(const uint8_t *text, size_t text_len, const uint8_t *sheet, size_t sheet_len);
 
-/* Searches the table of one row. With k names there are 2^k states: each table needs that many entries, and the
- * sheet buffer 7 + 10 * 2^k bytes. 's', 'v' or 'u': the model is safe, void or unsafe, the buffer begins with its
- * sheet, of the length that comes with the answer, and the first 2^k entries of both tables are 0; all else is as it
- * was, and nutseason_test then answers 's', 'v' or 't' to the same text and that sheet. A void model has no start
- * state, and its sheet the map without members. 1 to 8: the call is refused, with the place, and every buffer is as
- * it was. What the buffers hold beforehand does not matter. */
+/* Tells from a text alone what a search of its model takes at most. With k names there are 2^k states. 'r': needs[0]
+ * is the entries of each table, 2^k; needs[1] the bytes of the sheet buffer, 7 + 10 * 2^k; and needs[2] the trials,
+ * where a trial runs one command from one state with one choice word: 2^k times the choice words of all commands, of
+ * which a command with j stars has 2^j. What stands in the list beyond these three stays. With that room no search of
+ * the text is refused; with an entry or a byte less it is, by 8. 1 to 7: the text's refusal, with the place; 8: the
+ * text is read, but the list has fewer than three entries. The list is then as it was. */
+uint64_t nutseason_reserve(const uint8_t *text, size_t text_len, uint64_t *needs, size_t needs_len);
+
+/* Searches the table of one row, with the room that nutseason_reserve tells, or more. 's', 'v' or 'u': the model is
+ * safe, void or unsafe, the buffer begins with its sheet, which is nutseason_length(said) bytes long, and the first
+ * 2^k entries of both tables are 0; all else is as it was, and nutseason_test then answers 's', 'v' or 't' to the same
+ * text and that sheet. A void model has no start state, and its sheet the map without members. After 's',
+ * nutseason_trials(said) is the number of trials made, the members of the map times the choice words of all commands;
+ * after 'v' none were made, and after 'u' none are told. 1 to 8: the call is refused, with the place, and every buffer
+ * is as it was. What the buffers hold beforehand does not matter. */
 uint64_t nutseason_search(const uint8_t *text, size_t text_len, uint16_t *first, size_t first_len,
                           uint16_t *second, size_t second_len, uint8_t *sheet, size_t sheet_len);
 

@@ -34,9 +34,16 @@ def quiet(count):
     return model(numbered("s", min(count, 8)), numbered("r", count - 8))
 
 
+def starred(counts):
+    """A command for each count, which has so many stars and changes
+    nothing."""
+    return [command(f"c{j}", stars(count) or "1")
+            for j, count in enumerate(counts)]
+
+
 def idle(count):
     """So many commands of eight stars, which change nothing."""
-    return [command(f"c{j}", stars(8)) for j in range(count)]
+    return starred([8] * count)
 
 
 def sixteen(*changing, keep=("1", "1")):

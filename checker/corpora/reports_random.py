@@ -2,6 +2,7 @@
 
 import random
 
+from evidence.reservations import most_trials
 from inputs.cases import table_of
 from inputs.random_models import Writer
 from inputs.random_texts import spelled
@@ -12,16 +13,12 @@ LARGER_MODELS = 60
 MOST_STEPS = 6000
 
 
-def steps_of(table):
-    return table.states * sum(map(table.words, range(table.commands)))
-
-
 def larger_text(rng, most):
     """A model with few enough steps for this checker."""
     while True:
         text = spelled(rng, Writer(rng).tokens(), "tight")
         table = table_of(text)
-        if table.names >= 3 and steps_of(table) <= most:
+        if table.names >= 3 and most_trials(table) <= most:
             return text
 
 

@@ -7,24 +7,25 @@ from corpora.pairs_models import exactly
 from corpora.reports_runs import counter, names_of
 from inputs.cases import H
 from inputs.graphs import any_of
-from inputs.phrases import command, loop, model
+from inputs.phrases import SKIPPING, command, loop, model
 from inputs.random_settings import spread_text
 
 SPREAD_MODELS = 60
 MOST_STEPS = 3000
 
 
-def resting(shared, row, here):
+def resting(shared, row, here, commands=(SKIPPING,)):
     """The states where an expression holds start, and nothing changes; all
     others break."""
     shared, row = names_of(shared, row)
-    return model(" ".join(shared), " ".join(row), ("1", here), ("1", here))
+    return model(" ".join(shared), " ".join(row), ("1", here), ("1", here),
+                 commands)
 
 
-def these(shared, row, states):
+def these(shared, row, states, commands=(SKIPPING,)):
     names = sum(names_of(shared, row), [])
     return resting(shared, row, any_of(exactly(names, state) or "1"
-                                       for state in states))
+                                       for state in states), commands)
 
 
 def below(names, count):

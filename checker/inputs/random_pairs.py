@@ -2,8 +2,8 @@
 
 import random
 
-from corpora.reports_random import steps_of
 from evidence.one_row import OneRow
+from evidence.reservations import most_trials
 from inputs.random_models import Writer
 from inputs.random_sheets import random_sheet
 from inputs.random_texts import random_texts
@@ -20,7 +20,8 @@ def model_text(rng):
         text = (small_text(rng) if rng.random() < 0.5
                 else " ".join(Writer(rng).tokens())).encode()
         said = read(text)
-        if not isinstance(said, Refusal) and steps_of(OneRow(said)) <= MOST_STEPS:
+        if (not isinstance(said, Refusal)
+                and most_trials(OneRow(said)) <= MOST_STEPS):
             return text
 
 

@@ -5,6 +5,7 @@ import random
 from corpora.reports_order import random_graph
 from corpora.reports_random import larger_text
 from inputs.random_settings import spread_text
+from inputs.random_stars import starry_text
 from inputs.random_texts import random_texts
 from inputs.small_models import small_text
 from reader.model import Refusal
@@ -19,8 +20,10 @@ def random_models(count, seed):
     texts = []
     while len(texts) < count:
         kind = rng.random()
-        if kind < 0.4:
+        if kind < 0.3:
             text = small_text(rng).encode()
+        elif kind < 0.4:
+            text = starry_text(rng, MOST_STEPS).encode()
         elif kind < 0.63:
             text = random_graph(rng).encode()
         elif kind < 0.77:

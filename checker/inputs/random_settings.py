@@ -2,7 +2,7 @@
 names, often with more states at some settings than at others."""
 
 from corpora.pairs_models import exactly
-from corpora.reports_random import steps_of
+from evidence.reservations import most_trials
 from evidence.searching import search
 from inputs.cases import table_of
 from inputs.graphs import any_of
@@ -32,7 +32,7 @@ def spread_text(rng, most):
         tokens = with_clause(writer.tokens(), "keep", "1")
         tokens = with_clause(tokens, "start", some if names else "1")
         table = table_of(" ".join(tokens))
-        if table.names >= 3 and steps_of(table) <= most:
+        if table.names >= 3 and most_trials(table) <= most:
             left = sorted(set(every) - search(table))
             if left:
                 broken = exactly(names, rng.choice(left))

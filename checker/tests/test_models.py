@@ -1,12 +1,15 @@
-"""The designs in models/: their stored reports are those of this checker, and
-tables of two and three rows agree with them."""
+"""The designs in models/: their stored reports are those of this checker,
+tables of two and three rows agree with them, and no search makes more trials
+than are reserved."""
 
 import pathlib
 import unittest
 
 from evidence.one_row import OneRow
 from evidence.report import report
+from evidence.reservations import reserved
 from evidence.searching import search
+from evidence.trials import made, returned
 from reader.reading import read
 from rows.copied_runs import copied_run_holds
 from rows.tables import can_start, goes_wrong, walked
@@ -27,6 +30,11 @@ class Models(unittest.TestCase):
     def verdict(self, name):
         """By the stored report, without the number of steps."""
         return self.stored(name).splitlines()[1].split()[0]
+
+    def states(self, name):
+        """As the stored report tells them; none but where it says safe."""
+        lines = self.stored(name).splitlines()
+        return int(lines[2].split()[1]) if lines[1] == "safe" else 0
 
     def is_stored_unsafe(self, name):
         return self.verdict(name) == "unsafe"
@@ -50,6 +58,20 @@ class Models(unittest.TestCase):
                 self.assertEqual(can_start(model, 2),
                                  self.verdict(name) != "void", name)
         self.assertGreaterEqual(count, 9)
+
+    def test_trials(self):
+        """The words tried at a state are those of the stars that stand
+        between one word `command` and the next."""
+        for name, text in self.texts.items():
+            table = OneRow(read(text))
+            commands = text.split(b"command")[1:]
+            self.assertEqual(len(commands), table.commands, name)
+            words = sum(2 ** each.count(b"*") for each in commands)
+            size = 2 ** table.names
+            self.assertEqual(reserved(text),
+                             (size, 7 + 10 * size, size * words), name)
+            self.assertEqual(returned(table), self.states(name) * words, name)
+            self.assertLessEqual(made(table)[0], size * words, name)
 
     def test_traces_in_every_row(self):
         for name in filter(self.is_stored_unsafe, self.texts):

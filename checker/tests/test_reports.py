@@ -13,6 +13,7 @@ from corpora.reports_order import ORDER
 from evidence.acceptance import HOLDS, answer
 from evidence.one_row import OneRow
 from evidence.report import report, searched, sheet
+from evidence.reservations import most_trials
 from evidence.searching import search
 from inputs.cases import G, G_SHEET, G_VOID, H
 from inputs.feed import packed
@@ -204,8 +205,7 @@ class Reports(unittest.TestCase):
             if len(lines) > 600 or lines[0].startswith("refused "):
                 continue
             table = OneRow(read(text))
-            if table.states * sum(map(table.words, range(table.commands))
-                                  ) > MOST_WALKED:
+            if most_trials(table) > MOST_WALKED:
                 continue
             self.assertEqual(answer(text, sheet(text)),
                              HOLDS[lines[1].split()[0]], label)

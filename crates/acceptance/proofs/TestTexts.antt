@@ -1,6 +1,6 @@
 -- The test of a text: its refusal, or the outcome that the flat form of its model gives.
 -- Assumes nothing.
-use mathlib.Core.Path.{_≡_, refl, sym, ap, _∙_, subst}
+use mathlib.Core.Path.{_≡_, sym, ap, _∙_, subst}
 use mathlib.Core.List.{List, _++_, map}
 use Prim.Native.Nat.{ℕ, _+_, _<_, _≤_}
 use native.Mathlib.Omega.{arith}
@@ -11,16 +11,14 @@ use Rattle.notation.specs.Layout.{layoutOf}
 use Rattle.notation.specs.Regular.{Regular}
 use Rattle.notation.specs.Texts.{modelOf, namesOf}
 use Rattle.notation.specs.working.Machine as N
-use Rattle.notation.specs.working.Answer.{answer}
-use Rattle.notation.proofs.Texts.{says-iff-answer}
-use Rattle.notation.proofs.Regular.{all-regular}
 use Rattle.meaning.specs.Meaning.{commandAt, idle}
 use Rattle.meaning.proofs.Lists.{every-at}
 use Rattle.reader.specs.declared.Answer.the-variants as A
 use Rattle.reader.specs.declared.Code.{Code}
 use Rattle.reader.specs.declared.Reading.{Reading}
-use Rattle.reader.specs.Read.{filled, codeOf, readingIn, readingOf}
+use Rattle.reader.specs.Read.{filled, codeOf, readingOf}
 use Rattle.reader.proofs.Arrays.{filled-front}
+use Rattle.reader.proofs.ReadTexts.{read-as, refused-as, regular}
 use Rattle.evaluation.specs.Promises.{Computes}
 use Rattle.evaluation.specs.working.CodeSystem.{starsIn, Sound}
 use Rattle.evaluation.proofs.FlatForms.{flat-computes, ends-counted, mapped}
@@ -83,35 +81,22 @@ pub record Said (text : List ℕ) (c : Code) : Type 0 where
   pub flat : Flat c model
   pub test : (b : List ℕ) → outcomeOf (systemOf model) b ≡ testOf text b
 
-module _ (text b : List ℕ) (r : Reading) where
-  read-said : (o : N.Outcome) → r ≡ readingIn o → answer text ≡ o → A.Read ≡ r .answer → Said text (r .code)
-  unfolding readingIn testIn testOf
-  read-said (N.read x) e q h =
+module _ (text b : List ℕ) (r : Reading) (e : r ≡ readingOf text) where
+  pub was-read : A.Read ≡ r .answer → Said text (r .code)
+  unfolding testIn testOf
+  was-read h =
+      let R = read-as text r e h in
       record {
-        model = modelOf x;
-        flat =
-            subst (λ (c : Code). Flat c (modelOf x)) (sym (ap (λ (z : Reading). z .code) e))
-            (flat (modelOf x) (all-regular text (modelOf x) (record { tree = x; says = says-iff-answer text x .1 q; meant = refl })) (namesOf x));
-        test = λ c. sym (ap (λ (o : N.Outcome). testIn o c) q);
+        model = modelOf (R .tree);
+        flat = subst (λ (c : Code). Flat c (modelOf (R .tree))) (sym (R .code)) (flat (modelOf (R .tree)) (regular R) (namesOf (R .tree)));
+        test = λ c. sym (ap (λ (o : N.Outcome). testIn o c) (R .told));
       }
-  read-said (N.refused n i) e q h = let y : A.Read ≡ A.Refused n i = h ∙ ap (λ (z : Reading). z .answer) e in let z : _≡_ {A = ℕ} 0 1 = cc in absurd (omega arith)
 
-  refused-said : (n i : ℕ) (o : N.Outcome) → r ≡ readingIn o → answer text ≡ o → A.Refused n i ≡ r .answer → Refused n i ≡ testOf text b
-  unfolding readingIn testIn testOf
-  refused-said n i (N.read x) e q h = let y : A.Refused n i ≡ A.Read = h ∙ ap (λ (z : Reading). z .answer) e in let z : _≡_ {A = ℕ} 0 1 = cc in absurd (omega arith)
-  refused-said n i (N.refused k j) e q h =
-      let y : A.Refused n i ≡ A.Refused k j = h ∙ ap (λ (z : Reading). z .answer) e in
-      let z : Refused n i ≡ Refused k j = cc in
-      z ∙ sym (ap (λ (o : N.Outcome). testIn o b) q)
+  -- The outcome for a text that was read is that over its code, and for one that was refused it is the refusal.
+  pub test-read : A.Read ≡ r .answer → (o : Outcome)
+      → o ≡ outcomeOf (systemIn (r .code .ops) (planOf (r .code))) b → o ≡ testOf text b
+  test-read h o q = let s = was-read h in q ∙ s .flat .same b ∙ s .test b
 
-  module _ (e : r ≡ readingOf text) where
-    pub was-read : A.Read ≡ r .answer → Said text (r .code)
-    was-read h = read-said (answer text) e refl h
-
-    -- The outcome for a text that was read is that over its code, and for one that was refused it is the refusal.
-    pub test-read : A.Read ≡ r .answer → (o : Outcome)
-        → o ≡ outcomeOf (systemIn (r .code .ops) (planOf (r .code))) b → o ≡ testOf text b
-    test-read h o q = let s = was-read h in q ∙ s .flat .same b ∙ s .test b
-
-    pub test-refused : (n i : ℕ) → A.Refused n i ≡ r .answer → Refused n i ≡ testOf text b
-    test-refused n i h = refused-said n i (answer text) e refl h
+  pub test-refused : (n i : ℕ) → A.Refused n i ≡ r .answer → Refused n i ≡ testOf text b
+  unfolding testIn testOf
+  test-refused n i h = sym (ap (λ (o : N.Outcome). testIn o b) (refused-as text r e n i h))

@@ -1,4 +1,4 @@
--- The numbers below a bound that pass a test: how many, which, and in what order.
+-- The numbers below a bound that pass a test: which, and in what order.
 -- Assumes nothing.
 use mathlib.Core.Path.{_≡_, refl, sym, ap, _∙_, subst}
 use mathlib.Core.Bool.{Bool, true, false, cond}
@@ -7,39 +7,13 @@ use mathlib.Core.List.{List, [], _∷_, _++_}
 use Prim.Native.Nat.{ℕ, zero, suc, _+_, _≤_, _<_}
 use native.Mathlib.Omega.{arith}
 use native.Mathlib.Nat.{not-suc-le-zero, le-of-suc-le-suc, eq-or-lt-of-le}
-use native.Mathlib.Numerals.{add-one}
-use lib.ListN.{length, length-append}
+use lib.ListN.{length}
 use Rattle.notation.specs.Regular.{Every, Among}
 use Rattle.notation.proofs.Members.{among-left, among-right, among-split}
 use Rattle.meaning.proofs.Lists.{joined}
-use Rattle.counting.specs.Counts.{below, Ascending, ThereAre}
-
--- How many.
-one-length : (b : Bool) (n : ℕ) → length (cond b (n ∷ []) []) ≡ cond b 1 0
-one-length true n = refl
-one-length false n = refl
-
-pub more : (test : ℕ → Bool) (n : ℕ) → length (below (n + 1) test) ≡ length (below n test) + cond (test n) 1 0
-unfolding below
-more test n =
-    ap (λ k. length (below k test)) (add-one n) ∙ length-append (below n test) (cond (test n) (n ∷ []) [])
-    ∙ ap (λ k. length (below n test) + k) (one-length (test n) n)
-
-pub most : (test : ℕ → Bool) (n : ℕ) → length (below n test) ≤ n
-unfolding below
-most test zero = omega arith
-most test (suc n) = go (test n) (most test n)
-  where
-    go : (b : Bool) → length (below n test) ≤ n → length (below n test ++ cond b (n ∷ []) []) ≤ suc n
-    go true h = omega (arith, length-append (below n test) (n ∷ []))
-    go false h = omega (arith, length-append (below n test) [])
-
--- Tests that agree below the bound.
-pub alike : (f g : ℕ → Bool) (n : ℕ) → ((s : ℕ) → s < n → f s ≡ g s) → below n f ≡ below n g
-unfolding below
-alike f g zero h = refl
-alike f g (suc n) h =
-    ap (λ l. l ++ cond (f n) (n ∷ []) []) (alike f g n (λ s k. h s (omega arith))) ∙ ap (λ b. below n g ++ cond b (n ∷ []) []) (h n (omega arith))
+use Rattle.exploration.specs.Members.{below}
+use Rattle.exploration.proofs.Members.{more}
+use Rattle.counting.specs.Counts.{Ascending, ThereAre}
 
 -- Numbers that fail the test add nothing.
 pub none-more : (test : ℕ → Bool) (n d : ℕ) → ((s : ℕ) → n ≤ s → s < n + d → test s ≡ false) → length (below (n + d) test) ≡ length (below n test)

@@ -13,9 +13,11 @@ use Rattle.meaning.proofs.Lists.{weaken}
 use Rattle.lines.specs.Lines.{decimalOf}
 use Rattle.lines.proofs.Digits.{digits-below}
 use Rattle.lines.proofs.LineLengths.{two-words, three-words}
-use Rattle.counting.specs.Counts.{memberCount, settingOf, countAt, settingsIn}
+use Rattle.exploration.specs.Members.{memberCount}
+use Rattle.counting.specs.Counts.{settingOf, countAt, settingsIn}
 use Rattle.counting.specs.CountLines.{statesLine, settingLine, settingLines, countLines}
-use Rattle.counting.proofs.Below.{most, each-below}
+use Rattle.exploration.proofs.Members.{most}
+use Rattle.counting.proofs.Below.{each-below}
 
 -- A count has at most four digits, a setting at most three.
 states-short : (n : ℕ) → n < 10000 → length (statesLine n) ≤ 12

@@ -13,7 +13,8 @@ use Rattle.evaluation.proofs.Powers.{pow-small}
 use Rattle.sheets.specs.Sheets.{mapLength}
 use Rattle.sheets.proofs.SheetOpened.{eighths}
 use Rattle.sheets.specs.working.SheetReading.{mapIn}
-use Rattle.counting.specs.Counts.{memberCount, onesOf}
+use Rattle.exploration.specs.Members.{memberCount}
+use Rattle.counting.specs.Counts.{onesOf}
 use Rattle.counting.specs.working.Counting.{Countable}
 use Rattle.counting.proofs.Ones.{ones-next, members-ones}
 

@@ -21,9 +21,11 @@ use Rattle.sheets.specs.Sheets.{System, little, recordBytes, headerBytes, mapBy
 use Rattle.sheets.specs.SheetTexts.{AreBytes, IsMap}
 use Rattle.sheets.proofs.MapBits.{map-bit, none-past}
 use Rattle.sheets.proofs.SheetOpened.{eighths}
-use Rattle.counting.specs.Counts.{below, memberCount, onesOf}
+use Rattle.exploration.specs.Members.{below, memberCount}
+use Rattle.counting.specs.Counts.{onesOf}
 use Rattle.counting.specs.Promises.{MembersAreOnes}
-use Rattle.counting.proofs.Below.{more, none-more}
+use Rattle.exploration.proofs.Members.{more}
+use Rattle.counting.proofs.Below.{none-more}
 
 -- The set bits of a number, from the lowest up.
 digit : (n d : ℕ) → n / 2 ^ d % 2 ≡ cond (bit n d) 1 0

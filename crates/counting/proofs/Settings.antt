@@ -15,7 +15,8 @@ use Rattle.meaning.specs.Evidence.{inMap}
 use Rattle.meaning.specs.OneRow.{spread}
 use Rattle.meaning.proofs.Number.{number-low}
 use Rattle.notation.specs.Regular.{Among}
-use Rattle.counting.specs.Counts.{members, settingOf, membersAt, countAt, settingsIn}
+use Rattle.exploration.specs.Members.{members}
+use Rattle.counting.specs.Counts.{settingOf, membersAt, countAt, settingsIn}
 use Rattle.counting.specs.Promises.{Occur, SettingsOccur, SettingsAreShared}
 use Rattle.counting.proofs.Below.{passed, listed, ascends}
 

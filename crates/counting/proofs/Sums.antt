@@ -11,9 +11,10 @@ use borrow.Author.Tests.{lt-ltb, ltb-true, ltb-false, eqb-true, eqb-false}
 use Rattle.notation.specs.Regular.{sumOver}
 use Rattle.notation.proofs.Members.{sum-append}
 use Rattle.meaning.specs.Evidence.{inMap}
-use Rattle.counting.specs.Counts.{below, memberCount, settingOf, countAt}
+use Rattle.exploration.specs.Members.{below, memberCount}
+use Rattle.counting.specs.Counts.{settingOf, countAt}
 use Rattle.counting.specs.Promises.{CountsAddUp}
-use Rattle.counting.proofs.Below.{more}
+use Rattle.exploration.proofs.Members.{more}
 
 -- The sum of the first n values.
 unfoldable sumUpTo : (ℕ → ℕ) → ℕ → ℕ

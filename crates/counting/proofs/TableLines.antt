@@ -13,10 +13,11 @@ use Rattle.notation.specs.Regular.{Every}
 use Rattle.meaning.proofs.Lists.{weaken}
 use Rattle.lines.specs.Puts.{Fits, Puts}
 use Rattle.lines.proofs.Stores.{none, behind, rest-fits}
-use Rattle.counting.specs.Counts.{below}
+use Rattle.exploration.specs.Members.{below}
 use Rattle.counting.specs.CountLines.{settingLine, settingLines}
 use Rattle.counting.specs.working.Counting.{table, tableLines}
-use Rattle.counting.proofs.Below.{alike, each-below}
+use Rattle.exploration.proofs.Members.{alike}
+use Rattle.counting.proofs.Below.{each-below}
 use Rattle.counting.proofs.Tables.{table-at}
 
 lines-append : (f : ℕ → ℕ) (xs ys : List ℕ) → settingLines f (xs ++ ys) ≡ settingLines f xs ++ settingLines f ys

@@ -11,9 +11,10 @@ use lib.Seq.{ext-getD, getD-set-same, getD-set-other}
 use borrow.Author.Tests.{eqb-true, eqb-false}
 use Rattle.meaning.specs.Evidence.{inMap}
 use Rattle.meaning.proofs.Number.{first-length, first-same, first-at}
-use Rattle.counting.specs.Counts.{below, settingOf, countAt}
+use Rattle.exploration.specs.Members.{below}
+use Rattle.counting.specs.Counts.{settingOf, countAt}
 use Rattle.counting.specs.working.Counting.{table}
-use Rattle.counting.proofs.Below.{more, most}
+use Rattle.exploration.proofs.Members.{more, most}
 
 pub table-at : (f : ℕ → ℕ) (j : ℕ) → j < 256 → getD (table f) j 0 ≡ f j
 unfolding table

@@ -4,7 +4,8 @@ use mathlib.Core.List.{List, [], _∷_, _++_}
 use Prim.Native.Nat.{ℕ}
 use Rattle.notation.specs.Bytes.{bytes}
 use Rattle.lines.specs.Lines.{decimalOf, line}
-use Rattle.counting.specs.Counts.{memberCount, countAt, settingsIn}
+use Rattle.exploration.specs.Members.{memberCount}
+use Rattle.counting.specs.Counts.{countAt, settingsIn}
 
 -- How many there are in all.
 abbrev pub statesLine : ℕ → List ℕ

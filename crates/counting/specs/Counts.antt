@@ -1,29 +1,17 @@
--- The members of a map: which they are, and how many, in all and for each setting of the shared names.
+-- The members of a map for each setting of the shared names, and how many they are; and what it is to count.
 -- Assumes nothing.
 use mathlib.Core.Path.{_≡_}
 use mathlib.Core.Logic.{_↔_}
-use mathlib.Core.Bool.{Bool, cond, _&&_}
-use mathlib.Core.List.{List, [], _∷_, _++_}
-use Prim.Native.Nat.{ℕ, zero, suc, _+_, _%_, _^_, _<_}
+use mathlib.Core.Bool.{_&&_}
+use mathlib.Core.List.{List, [], _∷_}
+use Prim.Native.Nat.{ℕ, _%_, _^_, _<_}
 use lib.Dec.{eqb, ltb}
 use lib.ListN.{length}
 use lib.Count.{ones}
 use Rattle.notation.specs.Model.{Model}
 use Rattle.notation.specs.Regular.{Every, Among, sumOver}
 use Rattle.meaning.specs.Evidence.{inMap}
-
--- The numbers below n that pass a test, ascending.
-unfoldable pub below : ℕ → (ℕ → Bool) → List ℕ
-below zero test = []
-below (suc n) test = below n test ++ cond (test n) (n ∷ []) []
-
--- The members of a map of so many states.
-abbrev pub members : ℕ → List ℕ → List ℕ
-members states map = below states (inMap map)
-
--- How many there are.
-abbrev pub memberCount : ℕ → List ℕ → ℕ
-memberCount states map = length (members states map)
+use Rattle.exploration.specs.Members.{below}
 
 -- How many settings the shared names of a model have: each is 0 or 1.
 abbrev pub settingCount : Model → ℕ

@@ -12,7 +12,8 @@ use Rattle.meaning.specs.Evidence.{safe, safeBy}
 use Rattle.sheets.specs.Sheets.{System, size}
 use Rattle.sheets.specs.SheetTexts.{AreBytes, SheetSays}
 use Rattle.exploration.specs.Findings.{Reaches, ExactMap, Finds}
-use Rattle.counting.specs.Counts.{members, memberCount, settingCount, settingOf, countAt, settingsIn, onesOf, Ascending, ThereAre}
+use Rattle.exploration.specs.Members.{members, memberCount}
+use Rattle.counting.specs.Counts.{settingCount, settingOf, countAt, settingsIn, onesOf, Ascending, ThereAre}
 
 -- The map that a sheet says has as many members as its record's payload has one bits.
 abbrev pub MembersAreOnes : Type 0

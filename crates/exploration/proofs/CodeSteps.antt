@@ -38,8 +38,8 @@ code-lawful ops plan = record { step-below = λ s k w a b c. next-below ops (pla
 whole : (n : ℕ) → n ≡ n - 0
 whole n = omega arith
 
-pub commands-start : (M : Transitions) (s : ℕ) (q : List ℕ) (n : ℕ) (p : List ℕ) → Ready M q n p → Tried M s (moves M) q n p (movesFrom M 0 (M .commands - 0)) q n p
-commands-start M s q n p R = subst (λ (k : ℕ). Tried M s (moves M) q n p (movesFrom M 0 k) q n p) (whole (M .commands)) (tried-refl M s (moves M) q n p R)
+pub commands-start : (M : Transitions) (s : ℕ) (q : List ℕ) (n : ℕ) (p : List ℕ) (j : ℕ) → Ready M q n p → Tried M s (moves M) q n p j (movesFrom M 0 (M .commands - 0)) q n p j
+commands-start M s q n p j R = subst (λ (k : ℕ). Tried M s (moves M) q n p j (movesFrom M 0 k) q n p j) (whole (M .commands)) (tried-refl M s (moves M) q n p j R)
 
 pub moves-start : (M : Transitions) (s t : ℕ) → firstMove M s t (movesFrom M 0 (M .commands - 0)) ≡ firstMove M s t (moves M)
 moves-start M s t = sym (ap (λ (k : ℕ). firstMove M s t (movesFrom M 0 k)) (whole (M .commands)))

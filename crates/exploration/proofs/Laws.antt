@@ -12,6 +12,7 @@ use borrow.Author.Count.{below-more}
 use borrow.Author.Tests.{eq-eqb, ne-eqb, lt-ltb, le-ltb}
 use Rattle.exploration.specs.working.Transitions.{Transitions, Move, moveOf, wordsFrom, movesFrom, moves}
 use Rattle.exploration.specs.working.Exploring.{Seen, Progress, broke, through, andThen, progress, meet, tryMoves, takeIn, explore, search}
+use Rattle.exploration.specs.working.Trials.{Trial, trialOf, afterwards, trialsWith, trialsFrom, trials}
 use Rattle.exploration.specs.working.Runs.{firstMove}
 use Rattle.exploration.specs.working.Tables.{seen, marked, Ready, Kept, Explored, Meets, Took, Ran}
 
@@ -133,55 +134,103 @@ tryMoves-append M s (m ∷ a) b x =
     let o : Progress = meet M s (M .step s (m .command) (m .word)) x in
     ap (andThen o) (fun-ext (λ y. tryMoves-append M s a b y)) ∙ sym (andThen-assoc o (tryMoves M s a) (tryMoves M s b))
 
--- What is left to try, ms, at the tables now gives what ms₀ gave at the tables then.
-pub record Tried (M : Transitions) (s : ℕ) (ms₀ : List Move) (q₀ : List ℕ) (n₀ : ℕ) (p₀ : List ℕ) (ms : List Move) (q : List ℕ) (n : ℕ) (p : List ℕ) : Type 0 where
+trials-append : (M : Transitions) (s : ℕ) (a b : List Move) (x : Seen) → trialsWith M s (a ++ b) x ≡ trialsWith M s a x ++ afterwards (tryMoves M s a x) (trialsWith M s b)
+unfolding tryMoves trialsWith
+trials-append M s [] b x = refl
+trials-append M s (m ∷ a) b x = ap (λ l. trialOf s m ∷ l) (go (λ y. trials-append M s a b y) (meet M s (M .step s (m .command) (m .word)) x))
+  where
+    go : ((y : Seen) → trialsWith M s (a ++ b) y ≡ trialsWith M s a y ++ afterwards (tryMoves M s a y) (trialsWith M s b))
+        → (o : Progress) → afterwards o (trialsWith M s (a ++ b)) ≡ afterwards o (trialsWith M s a) ++ afterwards (andThen o (tryMoves M s a)) (trialsWith M s b)
+    go back (broke y) = refl
+    go back (through y) = back y
+
+-- What is left to try, ms, at the tables now gives what ms₀ gave at the tables then; with what is left, the trials are as many, counted from j₀ then and from j now.
+pub record Tried (M : Transitions) (s : ℕ) (ms₀ : List Move) (q₀ : List ℕ) (n₀ : ℕ) (p₀ : List ℕ) (j₀ : ℕ) (ms : List Move) (q : List ℕ) (n : ℕ) (p : List ℕ) (j : ℕ) : Type 0 where
   pub kept : Kept M q₀ p₀ q n p
   pub same : tryMoves M s ms (seen M q n p) ≡ tryMoves M s ms₀ (seen M q₀ n₀ p₀)
+  pub many : j + length (trialsWith M s ms (seen M q n p)) ≡ j₀ + length (trialsWith M s ms₀ (seen M q₀ n₀ p₀))
 
--- The moves ms₀ from the tables then broke, and left the tables as they are now.
-pub record Broke (M : Transitions) (s : ℕ) (ms₀ : List Move) (q₀ : List ℕ) (n₀ : ℕ) (p₀ : List ℕ) (q : List ℕ) (n : ℕ) (p : List ℕ) : Type 0 where
+-- The moves ms₀ from the tables then broke, and left the tables as they are now, after so many trials.
+pub record Broke (M : Transitions) (s : ℕ) (ms₀ : List Move) (q₀ : List ℕ) (n₀ : ℕ) (p₀ : List ℕ) (j₀ : ℕ) (q : List ℕ) (n : ℕ) (p : List ℕ) (j : ℕ) : Type 0 where
   pub kept : Kept M q₀ p₀ q n p
   pub same : broke (seen M q n p) ≡ tryMoves M s ms₀ (seen M q₀ n₀ p₀)
+  pub many : j ≡ j₀ + length (trialsWith M s ms₀ (seen M q₀ n₀ p₀))
 
-pub tried-refl : (M : Transitions) (s : ℕ) (ms : List Move) (q : List ℕ) (n : ℕ) (p : List ℕ) → Ready M q n p → Tried M s ms q n p ms q n p
-tried-refl M s ms q n p R = record { kept = kept-refl M q n p R; same = refl }
+pub tried-refl : (M : Transitions) (s : ℕ) (ms : List Move) (q : List ℕ) (n : ℕ) (p : List ℕ) (j : ℕ) → Ready M q n p → Tried M s ms q n p j ms q n p j
+tried-refl M s ms q n p j R = record { kept = kept-refl M q n p R; same = refl; many = refl }
 
-module _ {M : Transitions} {s : ℕ} {ms₀ : List Move} {q₀ : List ℕ} {n₀ : ℕ} {p₀ : List ℕ} (c w k : ℕ) {q : List ℕ} {n : ℕ} {p : List ℕ}
-    (T : Tried M s ms₀ q₀ n₀ p₀ (wordsFrom c w (k - w)) q n p) (h : w < k) (t : ℕ) (e : t ≡ M .step s c w) (ht : t < M .size) where
+module _ {M : Transitions} {s : ℕ} {ms₀ : List Move} {q₀ : List ℕ} {n₀ : ℕ} {p₀ : List ℕ} {j₀ : ℕ} (c w k : ℕ) {q : List ℕ} {n : ℕ} {p : List ℕ} {j : ℕ}
+    (T : Tried M s ms₀ q₀ n₀ p₀ j₀ (wordsFrom c w (k - w)) q n p j) (h : w < k) (t : ℕ) (e : t ≡ M .step s c w) (ht : t < M .size) where
+  abbrev rest : List Move
+  rest = wordsFrom c (w + 1) (k - (w + 1))
+
   -- What the move does first.
-  head-move : andThen (meet M s t (seen M q n p)) (tryMoves M s (wordsFrom c (w + 1) (k - (w + 1)))) ≡ tryMoves M s ms₀ (seen M q₀ n₀ p₀)
+  head-move : andThen (meet M s t (seen M q n p)) (tryMoves M s rest) ≡ tryMoves M s ms₀ (seen M q₀ n₀ p₀)
   unfolding tryMoves
   head-move = rw (e, ← T .same, words-next c w k h)
 
-  pub tried-old : (getD p t 0 ≡ 0 → ⊥) → Tried M s ms₀ q₀ n₀ p₀ (wordsFrom c (w + 1) (k - (w + 1))) q n p
-  tried-old old = record { kept = T .kept; same = rw (meet-old M q n p (T .kept .ready) s t ht old) at head-move }
+  -- It is one trial.
+  one-trial : length (trialsWith M s (wordsFrom c w (k - w)) (seen M q n p)) ≡ suc (length (afterwards (meet M s t (seen M q n p)) (trialsWith M s rest)))
+  unfolding trialsWith
+  one-trial = rw (e, words-next c w k h)
+
+  head-trial : j + 1 + length (afterwards (meet M s t (seen M q n p)) (trialsWith M s rest)) ≡ j₀ + length (trialsWith M s ms₀ (seen M q₀ n₀ p₀))
+  head-trial = omega (arith, one-trial, T .many)
+
+  pub tried-old : (getD p t 0 ≡ 0 → ⊥) → Tried M s ms₀ q₀ n₀ p₀ j₀ rest q n p (j + 1)
+  tried-old old =
+      record {
+        kept = T .kept;
+        same = rw (meet-old M q n p (T .kept .ready) s t ht old) at head-move;
+        many = rw (meet-old M q n p (T .kept .ready) s t ht old) at head-trial;
+      }
 
   module _ (new : getD p t 0 ≡ 0) where
     kept-new : Kept M q₀ p₀ (set q n t) (n + 1) (set p t (s + 1))
     kept-new = kept-trans (T .kept) (kept-pushed M q n p (T .kept .ready) s t ht new)
 
-    met-new : andThen (progress (M .breaks t) (seen M (set q n t) (n + 1) (set p t (s + 1)))) (tryMoves M s (wordsFrom c (w + 1) (k - (w + 1)))) ≡ tryMoves M s ms₀ (seen M q₀ n₀ p₀)
+    met-new : andThen (progress (M .breaks t) (seen M (set q n t) (n + 1) (set p t (s + 1)))) (tryMoves M s rest) ≡ tryMoves M s ms₀ (seen M q₀ n₀ p₀)
     met-new = rw (meet-new M q n p (T .kept .ready) s t ht new) at head-move
 
-    pub tried-new : M .breaks t ≡ false → Tried M s ms₀ q₀ n₀ p₀ (wordsFrom c (w + 1) (k - (w + 1))) (set q n t) (n + 1) (set p t (s + 1))
-    tried-new b = record { kept = kept-new; same = rw b at met-new }
+    trial-new : j + 1 + length (afterwards (progress (M .breaks t) (seen M (set q n t) (n + 1) (set p t (s + 1)))) (trialsWith M s rest)) ≡ j₀ + length (trialsWith M s ms₀ (seen M q₀ n₀ p₀))
+    trial-new = rw (meet-new M q n p (T .kept .ready) s t ht new) at head-trial
 
-    pub tried-broke : M .breaks t ≡ true → Broke M s ms₀ q₀ n₀ p₀ (set q n t) (n + 1) (set p t (s + 1))
-    tried-broke b = record { kept = kept-new; same = rw b at met-new }
+    pub tried-new : M .breaks t ≡ false → Tried M s ms₀ q₀ n₀ p₀ j₀ rest (set q n t) (n + 1) (set p t (s + 1)) (j + 1)
+    tried-new b = record { kept = kept-new; same = rw b at met-new; many = rw b at trial-new }
+
+    pub tried-broke : M .breaks t ≡ true → Broke M s ms₀ q₀ n₀ p₀ j₀ (set q n t) (n + 1) (set p t (s + 1)) (j + 1)
+    tried-broke b = let x = rw b at trial-new in record { kept = kept-new; same = rw b at met-new; many = omega (arith, x) }
 
 -- The same by what `meet` promises.
-module _ {M : Transitions} {s : ℕ} {ms₀ : List Move} {q₀ : List ℕ} {n₀ : ℕ} {p₀ : List ℕ} (a b : List Move) {q₁ : List ℕ} {n₁ : ℕ} {p₁ : List ℕ} (T : Tried M s ms₀ q₀ n₀ p₀ (a ++ b) q₁ n₁ p₁) where
+module _ {M : Transitions} {s : ℕ} {ms₀ : List Move} {q₀ : List ℕ} {n₀ : ℕ} {p₀ : List ℕ} {j₀ : ℕ} (a b : List Move) {q₁ : List ℕ} {n₁ : ℕ} {p₁ : List ℕ} {j₁ : ℕ}
+    (T : Tried M s ms₀ q₀ n₀ p₀ j₀ (a ++ b) q₁ n₁ p₁ j₁) where
   parted : andThen (tryMoves M s a (seen M q₁ n₁ p₁)) (tryMoves M s b) ≡ tryMoves M s ms₀ (seen M q₀ n₀ p₀)
   parted = sym (tryMoves-append M s a b (seen M q₁ n₁ p₁)) ∙ T .same
 
-  -- The moves a were tried whole: b is left.
-  pub tried-all : {q₂ : List ℕ} {n₂ : ℕ} {p₂ : List ℕ} → Tried M s a q₁ n₁ p₁ [] q₂ n₂ p₂ → Tried M s ms₀ q₀ n₀ p₀ b q₂ n₂ p₂
-  unfolding tryMoves
-  tried-all U = record { kept = kept-trans (T .kept) (U .kept); same = rw (← U .same) at parted }
+  trials-parted :
+      j₁ + length (trialsWith M s a (seen M q₁ n₁ p₁)) + length (afterwards (tryMoves M s a (seen M q₁ n₁ p₁)) (trialsWith M s b))
+      ≡ j₀ + length (trialsWith M s ms₀ (seen M q₀ n₀ p₀))
+  trials-parted =
+      let x = seen M q₁ n₁ p₁ in
+      omega (
+        arith,
+        T .many,
+        ap length (trials-append M s a b x),
+        length-append (trialsWith M s a x) (afterwards (tryMoves M s a x) (trialsWith M s b)),
+      )
+
+  -- The moves a were tried whole, in so many trials: b is left.
+  pub tried-all : {q₂ : List ℕ} {n₂ : ℕ} {p₂ : List ℕ} {j : ℕ} → Tried M s a q₁ n₁ p₁ 0 [] q₂ n₂ p₂ j → Tried M s ms₀ q₀ n₀ p₀ j₀ b q₂ n₂ p₂ (j₁ + j)
+  unfolding tryMoves trialsWith
+  tried-all U =
+      let x = rw (← U .same) at trials-parted in
+      record { kept = kept-trans (T .kept) (U .kept); same = rw (← U .same) at parted; many = omega (arith, x, U .many) }
 
   -- The moves a broke.
-  pub broke-all : {q₂ : List ℕ} {n₂ : ℕ} {p₂ : List ℕ} → Broke M s a q₁ n₁ p₁ q₂ n₂ p₂ → Broke M s ms₀ q₀ n₀ p₀ q₂ n₂ p₂
-  broke-all U = record { kept = kept-trans (T .kept) (U .kept); same = rw (← U .same) at parted }
+  pub broke-all : {q₂ : List ℕ} {n₂ : ℕ} {p₂ : List ℕ} {j : ℕ} → Broke M s a q₁ n₁ p₁ 0 q₂ n₂ p₂ j → Broke M s ms₀ q₀ n₀ p₀ j₀ q₂ n₂ p₂ (j₁ + j)
+  broke-all U =
+      let x = rw (← U .same) at trials-parted in
+      record { kept = kept-trans (T .kept) (U .kept); same = rw (← U .same) at parted; many = omega (arith, x, U .many) }
 
 -- The queue.
 
@@ -190,15 +239,22 @@ unfolding explore
 explore-end M zero head x h = refl
 explore-end M (suc f) head x h = rw (le-ltb head (length (x .queue)) h)
 
-pub record Gone (M : Transitions) (from most : ℕ) (q₀ : List ℕ) (n₀ : ℕ) (p₀ : List ℕ) (head left : ℕ) (q : List ℕ) (n : ℕ) (p : List ℕ) : Type 0 where
+pub trials-end : (M : Transitions) (f head : ℕ) (x : Seen) → length (x .queue) ≤ head → trialsFrom M f head x ≡ []
+unfolding trialsFrom
+trials-end M zero head x h = refl
+trials-end M (suc f) head x h = rw (le-ltb head (length (x .queue)) h)
+
+-- What is left of the queue, from `head` on, gives what all of it gave from `from` on; j trials were made since.
+pub record Gone (M : Transitions) (from most : ℕ) (q₀ : List ℕ) (n₀ : ℕ) (p₀ : List ℕ) (head left : ℕ) (q : List ℕ) (n : ℕ) (p : List ℕ) (j : ℕ) : Type 0 where
   pub kept : Kept M q₀ p₀ q n p
   pub same : explore M left head (seen M q n p) ≡ explore M most from (seen M q₀ n₀ p₀)
+  pub many : j + length (trialsFrom M left head (seen M q n p)) ≡ length (trialsFrom M most from (seen M q₀ n₀ p₀))
 
-pub gone-refl : (M : Transitions) (from most : ℕ) (q : List ℕ) (n : ℕ) (p : List ℕ) → Ready M q n p → Gone M from most q n p from most q n p
-gone-refl M from most q n p R = record { kept = kept-refl M q n p R; same = refl }
+pub gone-refl : (M : Transitions) (from most : ℕ) (q : List ℕ) (n : ℕ) (p : List ℕ) → Ready M q n p → Gone M from most q n p from most q n p 0
+gone-refl M from most q n p R = record { kept = kept-refl M q n p R; same = refl; many = omega arith }
 
-module _ {M : Transitions} {from most : ℕ} {q₀ : List ℕ} {n₀ : ℕ} {p₀ : List ℕ} {head left : ℕ} {q : List ℕ} {n : ℕ} {p : List ℕ}
-    (G : Gone M from most q₀ n₀ p₀ head left q n p)
+module _ {M : Transitions} {from most : ℕ} {q₀ : List ℕ} {n₀ : ℕ} {p₀ : List ℕ} {head left : ℕ} {q : List ℕ} {n : ℕ} {p : List ℕ} {j : ℕ}
+    (G : Gone M from most q₀ n₀ p₀ head left q n p j)
   where
     queue-count : length (take n q) ≡ n
     queue-count = length-take-le n q (omega (arith, count-le M q n p (G .kept .ready), G .kept .ready .queue-room))
@@ -211,45 +267,73 @@ module _ {M : Transitions} {from most : ℕ} {q₀ : List ℕ} {n₀ : ℕ} {p�
           let e : left ≡ suc (left - 1) = omega arith in
           rw (queue-count, lt-ltb head n h, getD-take n q head 0 h) at (subst (λ (k : ℕ). explore M k head (seen M q n p) ≡ explore M most from (seen M q₀ n₀ p₀)) e (G .same))
 
-      pub gone-next : {q₁ : List ℕ} {n₁ : ℕ} {p₁ : List ℕ} → Tried M (getD q head 0) (moves M) q n p [] q₁ n₁ p₁
-          → Gone M from most q₀ n₀ p₀ (head + 1) (left - 1) q₁ n₁ p₁
-      unfolding tryMoves
-      gone-next U = record { kept = kept-trans (G .kept) (U .kept); same = rw (← U .same) at expanded }
+      -- Its trials, and those that are left then.
+      here : List Trial
+      here = trialsWith M (getD q head 0) (moves M) (seen M q n p)
 
-      pub gone-broke : {q₁ : List ℕ} {n₁ : ℕ} {p₁ : List ℕ} → Broke M (getD q head 0) (moves M) q n p q₁ n₁ p₁
-          → Explored M from most q₀ n₀ p₀ q₁ n₁ p₁ true
-      gone-broke U = record { kept = kept-trans (G .kept) (U .kept); what = rw (← U .same) at expanded }
+      there : List Trial
+      there = afterwards (tryMoves M (getD q head 0) (moves M) (seen M q n p)) (trialsFrom M (left - 1) (head + 1))
+
+      trials-expanded : j + length here + length there ≡ length (trialsFrom M most from (seen M q₀ n₀ p₀))
+      unfolding trialsFrom here there
+      trials-expanded =
+          let e : left ≡ suc (left - 1) = omega arith in
+          let x =
+          rw (queue-count, lt-ltb head n h, getD-take n q head 0 h) at
+          (subst (λ (k : ℕ). j + length (trialsFrom M k head (seen M q n p)) ≡ length (trialsFrom M most from (seen M q₀ n₀ p₀))) e (G .many)) in
+          omega (arith, x, length-append here there)
+
+      pub gone-next : {q₁ : List ℕ} {n₁ : ℕ} {p₁ : List ℕ} {j₁ : ℕ} → Tried M (getD q head 0) (moves M) q n p j [] q₁ n₁ p₁ j₁
+          → Gone M from most q₀ n₀ p₀ (head + 1) (left - 1) q₁ n₁ p₁ j₁
+      unfolding tryMoves trialsWith here there
+      gone-next U =
+          let x = rw (← U .same) at trials-expanded in
+          record { kept = kept-trans (G .kept) (U .kept); same = rw (← U .same) at expanded; many = omega (arith, x, U .many) }
+
+      pub gone-broke : {q₁ : List ℕ} {n₁ : ℕ} {p₁ : List ℕ} {j₁ : ℕ} → Broke M (getD q head 0) (moves M) q n p j q₁ n₁ p₁ j₁
+          → Explored M from most q₀ n₀ p₀ q₁ n₁ p₁ true j₁
+      unfolding here there
+      gone-broke U =
+          let x = rw (← U .same) at trials-expanded in
+          record { kept = kept-trans (G .kept) (U .kept); what = rw (← U .same) at expanded; tried = omega (arith, x, U .many) }
 
     -- The queue is at its end, or no state is left to go through.
-    pub gone-end : n ≤ head → Explored M from most q₀ n₀ p₀ q n p false
-    gone-end h = record { kept = G .kept; what = sym (explore-end M left head (seen M q n p) (rw queue-count h)) ∙ G .same }
+    pub gone-end : n ≤ head → Explored M from most q₀ n₀ p₀ q n p false j
+    gone-end h =
+        record {
+          kept = G .kept;
+          what = sym (explore-end M left head (seen M q n p) (rw queue-count h)) ∙ G .same;
+          tried = omega (arith, G .many, ap length (trials-end M left head (seen M q n p) (rw queue-count h)));
+        }
 
-    pub gone-enough : left ≡ 0 → Explored M from most q₀ n₀ p₀ q n p false
-    unfolding explore
-    gone-enough e = record { kept = G .kept; what = rw e at (G .same) }
+    pub gone-enough : left ≡ 0 → Explored M from most q₀ n₀ p₀ q n p false j
+    unfolding explore trialsFrom
+    gone-enough e = let x = rw e at (G .many) in record { kept = G .kept; what = rw e at (G .same); tried = omega (arith, x) }
 
 -- The loops' own steps.
 
-pub words-start : {M : Transitions} {s : ℕ} (c n : ℕ) {q : List ℕ} {k : ℕ} {p : List ℕ} → Ready M q k p → Tried M s (wordsFrom c 0 n) q k p (wordsFrom c 0 (n - 0)) q k p
-words-start {M} {s} c n {q} {k} {p} R = let e : n - 0 ≡ n = omega arith in rw e (tried-refl M s (wordsFrom c 0 n) q k p R)
+pub words-start : {M : Transitions} {s : ℕ} (c n : ℕ) {q : List ℕ} {k : ℕ} {p : List ℕ} → Ready M q k p → Tried M s (wordsFrom c 0 n) q k p 0 (wordsFrom c 0 (n - 0)) q k p 0
+words-start {M} {s} c n {q} {k} {p} R = let e : n - 0 ≡ n = omega arith in rw e (tried-refl M s (wordsFrom c 0 n) q k p 0 R)
 
 -- After the last word of a command, the next command.
-pub command-done : {M : Transitions} {s : ℕ} {ms₀ : List Move} {q₀ : List ℕ} {n₀ : ℕ} {p₀ : List ℕ} (c n k w : ℕ) {q₁ : List ℕ} {n₁ : ℕ} {p₁ : List ℕ} {q₂ : List ℕ} {n₂ : ℕ} {p₂ : List ℕ}
+pub command-done :
+    {M : Transitions} {s : ℕ} {ms₀ : List Move} {q₀ : List ℕ} {n₀ : ℕ} {p₀ : List ℕ} {j₀ : ℕ} (c n k w : ℕ) {q₁ : List ℕ} {n₁ : ℕ} {p₁ : List ℕ} {j₁ : ℕ} {q₂ : List ℕ} {n₂ : ℕ} {p₂ : List ℕ}
     → k ≡ M .words c → c < n → w ≤ k → k ≤ w
-    → Tried M s ms₀ q₀ n₀ p₀ (movesFrom M c (n - c)) q₁ n₁ p₁ → Tried M s (wordsFrom c 0 k) q₁ n₁ p₁ (wordsFrom c w (k - w)) q₂ n₂ p₂
-    → Tried M s ms₀ q₀ n₀ p₀ (movesFrom M (c + 1) (n - (c + 1))) q₂ n₂ p₂
+    → Tried M s ms₀ q₀ n₀ p₀ j₀ (movesFrom M c (n - c)) q₁ n₁ p₁ j₁ → Tried M s (wordsFrom c 0 k) q₁ n₁ p₁ 0 (wordsFrom c w (k - w)) q₂ n₂ p₂ w
+    → Tried M s ms₀ q₀ n₀ p₀ j₀ (movesFrom M (c + 1) (n - (c + 1))) q₂ n₂ p₂ (j₁ + k)
 command-done {M} c n k w e h le ge T U =
     let f : w ≡ k = omega arith in
-    tried-all (wordsFrom c 0 (M .words c)) (movesFrom M (c + 1) (n - (c + 1))) (rw (moves-next M c n h) at T) (rw (f, words-none, e) at U)
+    tried-all (wordsFrom c 0 k) (movesFrom M (c + 1) (n - (c + 1))) (rw (moves-next M c n h, ← e) at T) (rw (f, words-none) at U)
 
-pub command-broke : {M : Transitions} {s : ℕ} {ms₀ : List Move} {q₀ : List ℕ} {n₀ : ℕ} {p₀ : List ℕ} (c n k : ℕ) {q₁ : List ℕ} {n₁ : ℕ} {p₁ : List ℕ} {q₂ : List ℕ} {n₂ : ℕ} {p₂ : List ℕ}
+pub command-broke :
+    {M : Transitions} {s : ℕ} {ms₀ : List Move} {q₀ : List ℕ} {n₀ : ℕ} {p₀ : List ℕ} {j₀ : ℕ} (c n k : ℕ) {q₁ : List ℕ} {n₁ : ℕ} {p₁ : List ℕ} {j₁ : ℕ} {q₂ : List ℕ} {n₂ : ℕ} {p₂ : List ℕ} {j : ℕ}
     → k ≡ M .words c → c < n
-    → Tried M s ms₀ q₀ n₀ p₀ (movesFrom M c (n - c)) q₁ n₁ p₁ → Broke M s (wordsFrom c 0 k) q₁ n₁ p₁ q₂ n₂ p₂ → Broke M s ms₀ q₀ n₀ p₀ q₂ n₂ p₂
+    → Tried M s ms₀ q₀ n₀ p₀ j₀ (movesFrom M c (n - c)) q₁ n₁ p₁ j₁ → Broke M s (wordsFrom c 0 k) q₁ n₁ p₁ 0 q₂ n₂ p₂ j → Broke M s ms₀ q₀ n₀ p₀ j₀ q₂ n₂ p₂ (j₁ + j)
 command-broke {M} c n k e h T U = broke-all (wordsFrom c 0 (M .words c)) (movesFrom M (c + 1) (n - (c + 1))) (rw (moves-next M c n h) at T) (rw e at U)
 
 -- After the last command.
-pub commands-done : {M : Transitions} {s : ℕ} {ms₀ : List Move} {q₀ : List ℕ} {n₀ : ℕ} {p₀ : List ℕ} (c n : ℕ) {q : List ℕ} {k : ℕ} {p : List ℕ}
-    → c ≤ n → n ≤ c → Tried M s ms₀ q₀ n₀ p₀ (movesFrom M c (n - c)) q k p → Tried M s ms₀ q₀ n₀ p₀ [] q k p
+pub commands-done : {M : Transitions} {s : ℕ} {ms₀ : List Move} {q₀ : List ℕ} {n₀ : ℕ} {p₀ : List ℕ} {j₀ : ℕ} (c n : ℕ) {q : List ℕ} {k : ℕ} {p : List ℕ} {j : ℕ}
+    → c ≤ n → n ≤ c → Tried M s ms₀ q₀ n₀ p₀ j₀ (movesFrom M c (n - c)) q k p j → Tried M s ms₀ q₀ n₀ p₀ j₀ [] q k p j
 commands-done {M} c n le ge T = let f : c ≡ n = omega arith in rw (f, moves-none) at T
 
 -- The start states.
@@ -320,12 +404,21 @@ module _ (M : Transitions) (q p₀ p : List ℕ) (e : p ≡ replicate (M .size) 
   unfolding search
   taken-in T = rw (T .what, cleared-front)
 
-  pub ran-broke : {q₁ : List ℕ} {n₁ : ℕ} {p₁ : List ℕ} {b : Bool} → Took M q p q₁ n₁ p₁ b → b ≡ true → Ran M q p₀ q₁ n₁ p₁ b
-  ran-broke T f = record { kept = kept-trans cleared (T .kept); what = rw f (rw f at (taken-in T)) }
+  trials-taken : {q₁ : List ℕ} {n₁ : ℕ} {p₁ : List ℕ} {b : Bool} → Took M q p q₁ n₁ p₁ b → afterwards (progress b (seen M q₁ n₁ p₁)) (trialsFrom M (M .size) 0) ≡ trials M
+  unfolding trials
+  trials-taken T = rw (T .what, cleared-front)
 
-  pub ran-on : {q₁ : List ℕ} {n₁ : ℕ} {p₁ : List ℕ} {b : Bool} → Took M q p q₁ n₁ p₁ b → b ≡ false → {q₂ : List ℕ} {n₂ : ℕ} {p₂ : List ℕ} {d : Bool}
-      → Explored M 0 (M .size) q₁ n₁ p₁ q₂ n₂ p₂ d → Ran M q p₀ q₂ n₂ p₂ d
-  ran-on T f E = record { kept = kept-trans (kept-trans cleared (T .kept)) (E .kept); what = E .what ∙ (rw f at (taken-in T)) }
+  pub ran-broke : {q₁ : List ℕ} {n₁ : ℕ} {p₁ : List ℕ} {b : Bool} → Took M q p q₁ n₁ p₁ b → b ≡ true → Ran M q p₀ q₁ n₁ p₁ b 0
+  ran-broke T f = record { kept = kept-trans cleared (T .kept); what = rw f (rw f at (taken-in T)); tried = ap length (rw f at (trials-taken T)) }
+
+  pub ran-on : {q₁ : List ℕ} {n₁ : ℕ} {p₁ : List ℕ} {b : Bool} → Took M q p q₁ n₁ p₁ b → b ≡ false → {q₂ : List ℕ} {n₂ : ℕ} {p₂ : List ℕ} {d : Bool} {j : ℕ}
+      → Explored M 0 (M .size) q₁ n₁ p₁ q₂ n₂ p₂ d j → Ran M q p₀ q₂ n₂ p₂ d j
+  ran-on T f E =
+      record {
+        kept = kept-trans (kept-trans cleared (T .kept)) (E .kept);
+        what = E .what ∙ (rw f at (taken-in T));
+        tried = E .tried ∙ ap length (rw f at (trials-taken T));
+      }
 
 -- The first move from s to t.
 

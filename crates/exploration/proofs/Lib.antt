@@ -1,5 +1,8 @@
 -- Laws of runs, their order, and the search as a computation, by subject.
 pub mod Laws
+pub mod Members
+pub mod Trials
+pub mod TrialCounts
 pub mod Order
 pub mod First
 pub mod Right

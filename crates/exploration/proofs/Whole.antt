@@ -28,13 +28,13 @@ none-marked [] e = refl
 none-marked (zero ∷ l) e = none-marked l e
 none-marked (suc v ∷ l) e = absurd (omega arith)
 
-some-marked : (l : List ℕ) → 0 < marked l → anySet (map (ltb 0) l) ≡ true
+pub some-marked : (l : List ℕ) → 0 < marked l → anySet (map (ltb 0) l) ≡ true
 unfolding marked anySet
 some-marked [] h = absurd (omega arith)
 some-marked (zero ∷ l) h = some-marked l h
 some-marked (suc v ∷ l) h = rw (lt-ltb 0 (suc v) (omega arith))
 
-module _ {M : Transitions} (law : Lawful M) {q₀ p₀ q : List ℕ} {n : ℕ} {p : List ℕ} {b : Bool} (R : Ran M q₀ p₀ q n p b) where
+module _ {M : Transitions} (law : Lawful M) {q₀ p₀ q : List ℕ} {n : ℕ} {p : List ℕ} {b : Bool} {j : ℕ} (R : Ran M q₀ p₀ q n p b j) where
   queue-count : length (take n q) ≡ n
   queue-count = length-take-le n q (omega (arith, R .kept .few, R .kept .ready .queue-room))
 

@@ -1,11 +1,25 @@
--- What is promised of the search as a computation, as a type that a theorem of proofs/ inhabits.
+-- What is promised of the search as a computation, each promise a type that a theorem of proofs/ inhabits.
 -- Assumes nothing.
+use mathlib.Core.Path.{_≡_}
+use mathlib.Core.Option.{some}
+use Prim.Native.Nat.{ℕ}
 use Rattle.notation.specs.Model.{Model}
 use Rattle.notation.specs.Regular.{Regular}
 use Rattle.exploration.specs.Findings.{Finds}
-use Rattle.exploration.specs.working.Transitions.{Transitions}
+use Rattle.exploration.specs.Trials.{trialsOf}
+use Rattle.exploration.specs.working.Transitions.{Transitions, Lawful}
+use Rattle.exploration.specs.working.Exploring.{Seen, through, search}
+use Rattle.exploration.specs.working.Trials.{trials, trialCount, everyTrial}
 use Rattle.exploration.specs.working.Found.{foundIn, Agrees}
 
 -- Where the transitions are those of a model's table of one row, what the search finds is what there is to find of the model.
 abbrev pub FoundIsRight : Type 0
 FoundIsRight = (T : Transitions) (m : Model) → Agrees T m → Regular m → Finds m (foundIn T)
+
+-- A search that meets no break makes every trial there is at the states that it meets, each once, in the order of the queue.
+abbrev pub TrialsListed : Type 0
+TrialsListed = (T : Transitions) → Lawful T → (x : Seen) → search T ≡ through x → trials T ≡ everyTrial T (x .queue)
+
+-- Where a verdict has a number of trials, the search that finds it made so many.
+abbrev pub TrialsCounted : Type 0
+TrialsCounted = (T : Transitions) (m : Model) → Agrees T m → Regular m → (k : ℕ) → trialsOf m (foundIn T) ≡ some k → trialCount T ≡ k

@@ -13,3 +13,4 @@ pub mod Declarations
 pub mod WholeTexts
 pub mod TextAnswers
 pub mod Promised
+pub mod ReadTexts

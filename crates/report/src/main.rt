@@ -1,11 +1,10 @@
 // Reads a text from standard input and writes its report to standard output.
 // Handed an argument, or where the input can't be read, it writes nothing there, and a line to standard error. Where the report can't be written, a line there says so too.
 use libc::STDERR_FILENO;
-use libc::STDIN_FILENO;
 use reporting::write_report;
 use streams::output::write_out;
 use streams::whole::Got;
-use streams::whole::read_file;
+use streams::whole::read_in;
 
 // Writes the report of a text to standard output.
 fn report(text: &[u8]) {
@@ -19,10 +18,8 @@ fn report(text: &[u8]) {
 
 // Reads the text into its room, and reports.
 fn report_into(text: &mut [u8]) {
-    let got = read_file(STDIN_FILENO, text);
+    let got = read_in(b"report", text);
     let Got::Bytes(n) = got else {
-        io::write_all(STDERR_FILENO, b"report: cannot read ");
-        os::fail(b"standard input");
         return;
     };
     report(&text[..n]);

@@ -5,7 +5,7 @@ use Rattle.verdicts.proofs.SearchCases.{finding}
 use Rattle.lines.specs.Lines.{digitsUpTo, others, line}
 use Rattle.meaning.specs.Bits.{bit}
 use Rattle.meaning.specs.Evidence.{inMap}
-use Rattle.counting.specs.Counts.{below}
+use Rattle.exploration.specs.Members.{below}
 use Rattle.counting.specs.CountLines.{settingLines, countLines}
 use Rattle.reporting.specs.Reports.{stepLines, commandName, verdictLines, reportLines}
 use Rattle.reporting.specs.Cases.{written, cases, AllCases}

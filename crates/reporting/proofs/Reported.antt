@@ -22,7 +22,7 @@ use Rattle.verdicts.specs.declared.finding.Finding.the-variants.{Safe, Void, Un
 use Rattle.verdicts.specs.Promises.{Room}
 use Rattle.verdicts.specs.Left.{Left}
 use Rattle.verdicts.specs.working.Searching.{verdictOf, leftWith, leftAlone, searchOf}
-use Rattle.verdicts.proofs.SearchTells.{whatever-left}
+use Rattle.verdicts.proofs.SearchTells.{madeOf, whatever-left}
 use Rattle.verdicts.proofs.SheetsPass as P
 use Rattle.verdicts.proofs.SheetsPass.{front}
 use Rattle.lines.specs.Lines.{refusalLine}
@@ -47,14 +47,14 @@ TraceTold text n buffer = SheetTold text (Printable text (readingOf text .code))
 -- What the answer tells of the report.
 pub record Told (text : List ℕ) (left : Left) : Type 0 where
   pub refusal : (n p : ℕ) → Refused n p ≡ left .answer → refusalLine n p ≡ reportOf text
-  pub safely : (n : ℕ) (d : List ℕ) → Safe n ≡ left .answer → d ≡ left .sheet → MapTold text n d
+  pub safely : (n t : ℕ) (d : List ℕ) → Safe n t ≡ left .answer → d ≡ left .sheet → MapTold text n d
   pub voidly : (n : ℕ) → Void n ≡ left .answer → voidReport (readingOf text .code) ≡ reportOf text
   pub unsafely : (n : ℕ) (d : List ℕ) → Unsafe n ≡ left .answer → d ≡ left .sheet → TraceTold text n d
 
 -- Answers of two kinds are not the same.
 abbrev kind : Finding → ℕ
 kind (Refused n p) = 0
-kind (Safe n) = 1
+kind (Safe n t) = 1
 kind (Void n) = 2
 kind (Unsafe n) = 3
 
@@ -64,7 +64,7 @@ differ f g e h = absurd (true≢false (sym (eq-eqb (kind f) (kind g) (ap kind e)
 -- The length of the sheet that an answer tells.
 abbrev lengthIn : Finding → ℕ
 lengthIn (Refused n p) = 0
-lengthIn (Safe n) = n
+lengthIn (Safe n t) = n
 lengthIn (Void n) = n
 lengthIn (Unsafe n) = n
 
@@ -74,7 +74,7 @@ module _ (text a b c : List ℕ) (la : 4096 ≤ length a) (lb : 4096 ≤ length 
   told-refused n i r =
       record {
         refusal = λ k p e. let y : refusalLine k p ≡ refusalLine n i = cc in y ∙ sym (refused-lines text n i (refused-answer r));
-        safely = λ k d e h. differ (Safe k) (Refused n i) e refl;
+        safely = λ k t d e h. differ (Safe k t) (Refused n i) e refl;
         voidly = λ k e. differ (Void k) (Refused n i) e refl;
         unsafely = λ k d e h. differ (Unsafe k) (Refused n i) e refl;
       }
@@ -100,26 +100,26 @@ module _ (text a b c : List ℕ) (la : 4096 ≤ length a) (lb : 4096 ≤ length 
         told-front (Printable text (readingOf text .code)) (traceReport text (readingOf text .code)) (sheetBytes (systemOf (modelOf x)) (trace s xs))
         (sheet-short text x says s xs f) (trace-shown text x says s xs f) (trace-said text x says s xs f)
 
-    told-found : (v : Verdict) → foundFor (modelOf x) ≡ v → Told text (leftWith (systemOf (modelOf x)) v a b c)
+    told-found : (v : Verdict) → foundFor (modelOf x) ≡ v → (j : ℕ) → Told text (leftWith (systemOf (modelOf x)) v j a b c)
     unfolding verdictOf
-    told-found (safeBy map) f =
+    told-found (safeBy map) f j =
         record {
-          refusal = λ n p e. differ (Refused n p) (Safe _) e refl;
-          safely = λ n d e k. told-map map f n d (ap lengthIn e) k;
-          voidly = λ n e. differ (Void n) (Safe _) e refl;
-          unsafely = λ n d e k. differ (Unsafe n) (Safe _) e refl;
+          refusal = λ n p e. differ (Refused n p) (Safe _ _) e refl;
+          safely = λ n t d e k. told-map map f n d (ap lengthIn e) k;
+          voidly = λ n e. differ (Void n) (Safe _ _) e refl;
+          unsafely = λ n d e k. differ (Unsafe n) (Safe _ _) e refl;
         }
-    told-found (voidBy map) f =
+    told-found (voidBy map) f j =
         record {
           refusal = λ n p e. differ (Refused n p) (Void _) e refl;
-          safely = λ n d e k. differ (Safe n) (Void _) e refl;
+          safely = λ n t d e k. differ (Safe n t) (Void _) e refl;
           voidly = λ n e. void-said text x says map f;
           unsafely = λ n d e k. differ (Unsafe n) (Void _) e refl;
         }
-    told-found (unsafeBy s xs) f =
+    told-found (unsafeBy s xs) f j =
         record {
           refusal = λ n p e. differ (Refused n p) (Unsafe _) e refl;
-          safely = λ n d e k. differ (Safe n) (Unsafe _) e refl;
+          safely = λ n t d e k. differ (Safe n t) (Unsafe _) e refl;
           voidly = λ n e. differ (Void n) (Unsafe _) e refl;
           unsafely = λ n d e k. told-trace s xs f n d (ap lengthIn e) k;
         }
@@ -132,5 +132,5 @@ module _ (text a b c : List ℕ) (la : 4096 ≤ length a) (lb : 4096 ≤ length 
       whatever-left text a b c (Told text) told-refused
       (λ m says h. absurd (h (room m says)))
       (λ m says r.
-      subst (λ (n : Model). Told text (leftWith (systemOf n) (foundFor n) a b c)) (says .meant)
-      (told-found (says .tree) (says .says) (foundFor (modelOf (says .tree))) refl))
+      subst (λ (n : Model). Told text (leftWith (systemOf n) (foundFor n) (madeOf n) a b c)) (says .meant)
+      (told-found (says .tree) (says .says) (foundFor (modelOf (says .tree))) refl (madeOf (modelOf (says .tree)))))

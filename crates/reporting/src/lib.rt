@@ -109,7 +109,7 @@ pub fn write_report(
             let n = number as usize;
             put_refusal(out, 0, n, place)
         }
-        Finding::Safe(n) => {
+        Finding::Safe(n, _) => {
             let bytes: &[u8] = sheet;
             put_safe(out, text, &bytes[..n])
         }

@@ -28,7 +28,7 @@ fn put_finding(line: &mut Line, found: Finding) -> usize
     ensures { λ r. ⌜ Counts r (now (line .exit)) ⌝ }
 {
     match found {
-        Finding::Safe(n) => put_verdict(line, b"safe", n),
+        Finding::Safe(n, _) => put_verdict(line, b"safe", n),
         Finding::Void(n) => put_verdict(line, b"void", n),
         Finding::Unsafe(n) => put_verdict(line, b"unsafe", n),
         Finding::Refused(number, place) => {

@@ -4,7 +4,6 @@ use mathlib.Core.Path.{_≡_, refl, sym, ap, _∙_, subst}
 use mathlib.Core.Bool.{cond}
 use mathlib.Core.List.{List}
 use Prim.Native.Nat.{ℕ, _+_, _^_}
-use native.Mathlib.Omega.{arith}
 use lib.ListN.{length}
 use lib.Seq.{sets}
 use Rattle.notation.specs.Tokens.{Name}
@@ -13,27 +12,29 @@ use Rattle.notation.specs.Layout.{layoutOf}
 use Rattle.notation.specs.Regular.{Regular}
 use Rattle.notation.specs.Texts.{modelOf, namesOf}
 use Rattle.notation.specs.working.Machine as N
-use Rattle.notation.specs.working.Answer.{answer}
-use Rattle.notation.proofs.Texts.{says-iff-answer}
-use Rattle.notation.proofs.Regular.{all-regular}
 use Rattle.reader.specs.declared.Answer.the-variants as A
 use Rattle.reader.specs.declared.Code.{Code}
 use Rattle.reader.specs.declared.Reading.{Reading}
-use Rattle.reader.specs.Read.{filled, codeOf, readingIn, readingOf}
+use Rattle.reader.specs.Read.{filled, codeOf, readingOf}
+use Rattle.reader.proofs.ReadTexts.{read-as, refused-as, regular}
 use Rattle.evaluation.specs.working.CodeSystem.{Sound}
 use Rattle.sheets.specs.Sheets.{System, size, systemOf, headerBytes, sheetBytes}
 use Rattle.sheets.specs.working.FlatSystem.{systemIn}
 use Rattle.acceptance.specs.working.Test.{planOf}
 use Rattle.acceptance.proofs.TestTexts.{counts, star-count, flat-code, flat}
 use Rattle.meaning.specs.Evidence.{Verdict, safeBy, voidBy, unsafeBy, evidenceOf}
+use Rattle.exploration.specs.Trials.{trialsOf}
+use Rattle.exploration.specs.working.Trials.{trialCount}
 use Rattle.exploration.specs.working.Found.{foundIn, transitionsOf, Agrees}
 use Rattle.verdicts.specs.Left.{Left, zeroed}
-use Rattle.verdicts.specs.working.Searching.{roomy, verdictOf, leftWith, leftAlone, searchFor, searchIn, searchOf}
+use Rattle.verdicts.specs.working.Searching.{roomy, verdictOf, leftAlone, foundBy, searchFor, searchIn, searchOf}
 use Rattle.search.specs.working.Ends.{Ends}
 use Rattle.verdicts.specs.declared.finding.Finding.{Finding}
-use Rattle.verdicts.specs.declared.finding.Finding.the-variants.{Refused}
+use Rattle.verdicts.specs.declared.finding.Finding.the-variants.{Safe, Refused}
 use Rattle.exploration.proofs.FindsRight.{finds-right, finds}
 use Rattle.exploration.proofs.FindsOnce.{finds-once}
+use Rattle.exploration.proofs.TrialCounts.{trials-counted}
+use Rattle.verdicts.proofs.SearchTells.{Made, madeOf, made-told}
 
 -- Code that is ready for the search, over which the search leaves what it should.
 pub record Searchable (c : Code) (should : List ℕ → List ℕ → List ℕ → Left) : Type 0 where
@@ -75,54 +76,53 @@ module _ (m : Model) (g : Regular m) (ns : List Name) where
   bytes-same (voidBy map) = refl
   bytes-same (unsafeBy s xs) = refl
 
-  left-same : (x : Verdict) (q p o : List ℕ) → leftWith C x q p o ≡ leftWith (systemOf m) x q p o
-  left-same x q p o =
-      ap
-      (λ (b : List ℕ). record { answer = verdictOf x (length b); first = zeroed (size C) q; second = zeroed (size C) p; sheet = sets o 0 b })
-      (bytes-same x)
+  -- Where the trials are told, both make as many.
+  told-same : (x : Verdict) (n t u : ℕ) → Made m x t → Made m x u → verdictOf x n t ≡ verdictOf x n u
+  unfolding verdictOf trialsOf
+  told-same (safeBy map) n t u a b = ap (Safe n) (a _ refl ∙ sym (b _ refl))
+  told-same (voidBy map) n t u a b = refl
+  told-same (unsafeBy s xs) n t u a b = refl
+
+  code-made : Made m (foundIn (transitionsOf (systemOf m))) (trialCount (transitionsOf C))
+  code-made = subst (λ (x : Verdict). Made m x (trialCount (transitionsOf C))) found-same (trials-counted (transitionsOf C) m code-agrees g)
+
+  abbrev leaving : Finding → List ℕ → List ℕ → List ℕ → List ℕ → Left
+  leaving f b q p o = record { answer = f; first = zeroed (size C) q; second = zeroed (size C) p; sheet = sets o 0 b }
+
+  left-same : (q p o : List ℕ) → foundBy C q p o ≡ foundBy (systemOf m) q p o
+  left-same q p o =
+      let x = foundIn (transitionsOf (systemOf m)) in
+      let t = trialCount (transitionsOf C) in
+      ap (λ (v : Verdict). leaving (verdictOf v (length (sheetBytes C (evidenceOf v))) t) (sheetBytes C (evidenceOf v)) q p o) found-same
+      ∙ ap (λ (b : List ℕ). leaving (verdictOf x (length b) t) b q p o) (bytes-same x)
+      ∙ ap (λ (f : Finding). leaving f (sheetBytes (systemOf m) (evidenceOf x)) q p o)
+      (told-same x (length (sheetBytes (systemOf m) (evidenceOf x))) t (madeOf m) code-made (made-told m g))
 
   search-same : (q p o : List ℕ) → searchFor C q p o ≡ searchFor (systemOf m) q p o
   unfolding searchFor roomy
-  search-same q p o =
-      ap (λ (x : Verdict). cond (roomy C q p o) (leftWith C x q p o) (leftAlone 8 0 q p o)) found-same
-      ∙ ap (λ (l : Left). cond (roomy C q p o) l (leftAlone 8 0 q p o)) (left-same (foundIn (transitionsOf (systemOf m))) q p o)
+  search-same q p o = ap (λ (l : Left). cond (roomy C q p o) l (leftAlone 8 0 q p o)) (left-same q p o)
 
   flat-searchable : Searchable (codeOf (layoutOf m) ns) (searchFor (systemOf m))
   unfolding codeOf layoutOf
   flat-searchable = let f = flat m g ns in record { sound = f .sound; same = search-same }
 
 -- The text was read, and the code is that of its model; or it was refused.
-module _ (text : List ℕ) (r : Reading) where
-  told : (o : N.Outcome) → r ≡ readingIn o → answer text ≡ o → A.Read ≡ r .answer → Searchable (r .code) (searchOf text)
-  unfolding readingIn searchIn searchOf
-  told (N.read x) e q h =
-      let s =
-      subst (λ (c : Code). Searchable c (searchFor (systemOf (modelOf x)))) (sym (ap (λ (z : Reading). z .code) e))
-      (flat-searchable (modelOf x) (all-regular text (modelOf x) (record { tree = x; says = says-iff-answer text x .1 q; meant = refl })) (namesOf x))
-      in
-      record {
-        sound = s .sound;
-        same = λ a b o. s .same a b o ∙ sym (ap (λ (u : N.Outcome). searchIn u a b o) q);
-      }
-  told (N.refused n i) e q h = let y : A.Read ≡ A.Refused n i = h ∙ ap (λ (z : Reading). z .answer) e in let z : _≡_ {A = ℕ} 0 1 = cc in absurd (omega arith)
+module _ (text : List ℕ) (r : Reading) (e : r ≡ readingOf text) where
+  pub was-read : A.Read ≡ r .answer → Searchable (r .code) (searchOf text)
+  unfolding searchIn searchOf
+  was-read h =
+      let R = read-as text r e h in
+      let m = modelOf (R .tree) in
+      let s = subst (λ (c : Code). Searchable c (searchFor (systemOf m))) (sym (R .code)) (flat-searchable m (regular R) (namesOf (R .tree))) in
+      record { sound = s .sound; same = λ a b o. s .same a b o ∙ sym (ap (λ (u : N.Outcome). searchIn u a b o) (R .told)) }
 
-  refused-told : (n i : ℕ) (o : N.Outcome) → r ≡ readingIn o → answer text ≡ o → A.Refused n i ≡ r .answer → (a b c : List ℕ) → leftAlone n i a b c ≡ searchOf text a b c
-  unfolding readingIn searchIn searchOf
-  refused-told n i (N.read x) e q h a b c = let y : A.Refused n i ≡ A.Read = h ∙ ap (λ (z : Reading). z .answer) e in let z : _≡_ {A = ℕ} 0 1 = cc in absurd (omega arith)
-  refused-told n i (N.refused k j) e q h a b c =
-      let y : A.Refused n i ≡ A.Refused k j = h ∙ ap (λ (z : Reading). z .answer) e in
-      let z : leftAlone n i a b c ≡ leftAlone k j a b c = cc in
-      z ∙ sym (ap (λ (o : N.Outcome). searchIn o a b c) q)
+  -- What is left for a text that was read is what is left over its code, and for one that was refused every buffer is as it was.
+  pub search-read : A.Read ≡ r .answer → (a b c : List ℕ) (f : Finding) (a₁ b₁ c₁ : List ℕ)
+      → Ends (searchFor (systemIn (r .code .ops) (planOf (r .code))) a b c) f a₁ b₁ c₁
+      → Ends (searchOf text a b c) f a₁ b₁ c₁
+  search-read h a b c f a₁ b₁ c₁ l = subst (λ (L : Left). Ends L f a₁ b₁ c₁) (was-read h .same a b c) l
 
-  module _ (e : r ≡ readingOf text) where
-    pub was-read : A.Read ≡ r .answer → Searchable (r .code) (searchOf text)
-    was-read h = told (answer text) e refl h
-
-    -- What is left for a text that was read is what is left over its code, and for one that was refused every buffer is as it was.
-    pub search-read : A.Read ≡ r .answer → (a b c : List ℕ) (f : Finding) (a₁ b₁ c₁ : List ℕ)
-        → Ends (searchFor (systemIn (r .code .ops) (planOf (r .code))) a b c) f a₁ b₁ c₁
-        → Ends (searchOf text a b c) f a₁ b₁ c₁
-    search-read h a b c f a₁ b₁ c₁ l = subst (λ (L : Left). Ends L f a₁ b₁ c₁) (was-read h .same a b c) l
-
-    pub search-refused : (n i : ℕ) → A.Refused n i ≡ r .answer → (a b c : List ℕ) → Ends (searchOf text a b c) (Refused n i) a b c
-    search-refused n i h a b c = subst (λ (L : Left). Ends L (Refused n i) a b c) (refused-told n i (answer text) e refl h a b c) (refl, (refl, refl, refl))
+  pub search-refused : (n i : ℕ) → A.Refused n i ≡ r .answer → (a b c : List ℕ) → Ends (searchOf text a b c) (Refused n i) a b c
+  unfolding searchIn searchOf
+  search-refused n i h a b c =
+      subst (λ (L : Left). Ends L (Refused n i) a b c) (sym (ap (λ (o : N.Outcome). searchIn o a b c) (refused-as text r e n i h))) (refl, (refl, refl, refl))

@@ -2,7 +2,7 @@
 -- Assumes nothing.
 use mathlib.Core.Path.{_≡_, refl, sym, ap, _∙_, subst}
 use mathlib.Core.Bool.{Bool, true, false, cond, _&&_}
-use mathlib.Core.List.{List, [], _∷_, _++_, map}
+use mathlib.Core.List.{List, _++_, map}
 use Prim.Native.Nat.{ℕ, _+_, _-_, _*_, _^_, _<_, _≤_}
 use native.Mathlib.Omega.{arith}
 use lib.Dec.{leb, ltb}
@@ -19,6 +19,7 @@ use Rattle.sheets.specs.working.FlatSystem.{systemIn}
 use Rattle.exploration.specs.working.Transitions.{Transitions, Lawful}
 use Rattle.exploration.specs.working.CodeTransitions.{transitionsIn}
 use Rattle.exploration.specs.working.Tables.{Ran}
+use Rattle.exploration.specs.working.Trials.{trialCount}
 use Rattle.exploration.specs.working.Written.{headBytes, runBytes, mapFrom, RecordedTo, TraceStored}
 use Rattle.verdicts.specs.Left.{Left}
 use Rattle.verdicts.specs.working.Searching.{roomy, foundBy, leftAlone, searchFor}
@@ -84,7 +85,7 @@ module _ (ops : List ℕ) (plan : Plan) (S : Sound plan) (states : ℕ) (e : sta
         map-asked m s o₂ g =
             (s, length-small (plan .bits) states n (S .fewBits) e f, omega (arith, map-room, ap length g, length-sets o₁ at (headBytes n 2)))
 
-      module _ {q₀ p₀ q p : List ℕ} {n : ℕ} {b : Bool} (R : Ran T q₀ p₀ q n p b) where
+      module _ {q₀ p₀ q p : List ℕ} {n : ℕ} {b : Bool} {j : ℕ} (R : Ran T q₀ p₀ q n p b j) where
         pub second-room : states ≤ length p
         second-room = rw e (R .kept .ready .parent-room)
 
@@ -105,7 +106,7 @@ module _ (ops : List ℕ) (plan : Plan) (S : Sound plan) (states : ℕ) (e : sta
           pub unsafe-left : b ≡ true → {o : List ℕ} {len : ℕ} → TraceStored T p (getD q (n - 1) 0) at o₁ o len → Ends (foundBy M q₀ p₀ o₀) (Unsafe len) q₁ p₁ o
           unfolding headerBytes recordBytes little runBytes
           unsafe-left f w =
-              trace-left M o₀ header q₀ p₀ (queue-cleared law R (sized q q₁ eq)) (parent-cleared law R (sized p p₁ ep)) (ran-unsafe law R f) (w .bytes)
+              trace-left M o₀ header q₀ p₀ (queue-cleared law R (sized q q₁ eq)) (parent-cleared law R (sized p p₁ ep)) (trialCount T) (ran-unsafe law R f) (w .bytes)
               (w .ends ∙ ap (λ (k : ℕ). at + 8 + 10 * k) (sym (steps-count T (lastRun law R f))))
 
           module _ (f : b ≡ false) {k : ℕ} (g : k ≡ mapLength states) {o₂ o : List ℕ} (x : o₂ ≡ sets o₁ at (headBytes k 2))
@@ -125,12 +126,12 @@ module _ (ops : List ℕ) (plan : Plan) (S : Sound plan) (states : ℕ) (e : sta
             pub void-left : n ≡ 0 → Ends (foundBy M q₀ p₀ o₀) (Void (at + 6 + k)) q₁ p₁ o
             unfolding headerBytes recordBytes little
             void-left z =
-                void-map-left M o₀ header q₀ p₀ (queue-cleared law R (sized q q₁ eq)) (parent-cleared law R (sized p p₁ ep)) long x stored (ran-void law R f z)
+                void-map-left M o₀ header q₀ p₀ (queue-cleared law R (sized q q₁ eq)) (parent-cleared law R (sized p p₁ ep)) long x stored (trialCount T) (ran-void law R f z)
 
-            pub safe-left : 0 < n → Ends (foundBy M q₀ p₀ o₀) (Safe (at + 6 + k)) q₁ p₁ o
+            pub safe-left : 0 < n → Ends (foundBy M q₀ p₀ o₀) (Safe (at + 6 + k) j) q₁ p₁ o
             unfolding headerBytes recordBytes little
             safe-left z =
-                safe-map-left M o₀ header q₀ p₀ (queue-cleared law R (sized q q₁ eq)) (parent-cleared law R (sized p p₁ ep)) long x stored (ran-safe law R f z)
+                safe-map-left M o₀ header q₀ p₀ (queue-cleared law R (sized q q₁ eq)) (parent-cleared law R (sized p p₁ ep)) long x stored (trialCount T) (R .tried) (ran-safe law R f z)
 
 -- A test that fails, or that holds, first.
 and-first : (a b : Bool) → a ≡ false → a && b ≡ false

@@ -41,24 +41,24 @@ module _ (M : System) (o₀ : List ℕ) {o₁ : List ℕ} (h : o₁ ≡ sets o�
       ∙ ap (λ (k : ℕ). sets o₀ 0 (headerBytes M ++ (headBytes k 2 ++ map))) f
 
   module _ (q₀ p₀ : List ℕ) {q p : List ℕ} (eq : q ≡ zeroed (size M) q₀) (ep : p ≡ zeroed (size M) p₀) where
-    pub trace-left : {v : Verdict} {s : ℕ} {xs : List TraceStep} → v ≡ unsafeBy s xs → {o : List ℕ} {len : ℕ}
+    pub trace-left : {v : Verdict} (t : ℕ) {s : ℕ} {xs : List TraceStep} → v ≡ unsafeBy s xs → {o : List ℕ} {len : ℕ}
         → o ≡ sets o₁ (length (headerBytes M)) (startBytes s ++ stepsBytes xs) → len ≡ length (headerBytes M) + 8 + 10 * length xs
-        → Ends (leftWith M v q₀ p₀ o₀) (Unsafe len) q p o
+        → Ends (leftWith M v t q₀ p₀ o₀) (Unsafe len) q p o
     unfolding verdictOf sheetBytes
-    trace-left {v} {s} {xs} e {o} {len} w l =
-        subst (λ (u : Verdict). Ends (leftWith M u q₀ p₀ o₀) (Unsafe len) q p o) (sym e)
+    trace-left {v} t {s} {xs} e {o} {len} w l =
+        subst (λ (u : Verdict). Ends (leftWith M u t q₀ p₀ o₀) (Unsafe len) q p o) (sym e)
         (ap Unsafe (l ∙ sym (trace-sheet-length M s xs)), (eq, ep, w ∙ behind (startBytes s ++ stepsBytes xs)))
 
     module _ {map o₂ o : List ℕ} {n : ℕ} (f : n ≡ length map) (w : o₂ ≡ sets o₁ (length (headerBytes M)) (headBytes n 2))
         (x : o ≡ sets o₂ (length (headerBytes M) + 6) map) where
-      pub safe-map-left : {v : Verdict} → v ≡ safeBy map → Ends (leftWith M v q₀ p₀ o₀) (Safe (length (headerBytes M) + 6 + n)) q p o
+      pub safe-map-left : {v : Verdict} (t : ℕ) {j : ℕ} → j ≡ t → v ≡ safeBy map → Ends (leftWith M v t q₀ p₀ o₀) (Safe (length (headerBytes M) + 6 + n) j) q p o
       unfolding verdictOf
-      safe-map-left e =
-          subst (λ (u : Verdict). Ends (leftWith M u q₀ p₀ o₀) (Safe (length (headerBytes M) + 6 + n)) q p o) (sym e)
-          (ap Safe (map-counted map n f), (eq, ep, map-stored map o₂ o n f w x))
+      safe-map-left t {j} g e =
+          subst (λ (u : Verdict). Ends (leftWith M u t q₀ p₀ o₀) (Safe (length (headerBytes M) + 6 + n) j) q p o) (sym e)
+          (ap (λ (k : ℕ). Safe k j) (map-counted map n f) ∙ ap (Safe (length (sheetBytes M (safe map)))) g, (eq, ep, map-stored map o₂ o n f w x))
 
-      pub void-map-left : {v : Verdict} → v ≡ voidBy map → Ends (leftWith M v q₀ p₀ o₀) (Void (length (headerBytes M) + 6 + n)) q p o
+      pub void-map-left : {v : Verdict} (t : ℕ) → v ≡ voidBy map → Ends (leftWith M v t q₀ p₀ o₀) (Void (length (headerBytes M) + 6 + n)) q p o
       unfolding verdictOf
-      void-map-left e =
-          subst (λ (u : Verdict). Ends (leftWith M u q₀ p₀ o₀) (Void (length (headerBytes M) + 6 + n)) q p o) (sym e)
+      void-map-left t e =
+          subst (λ (u : Verdict). Ends (leftWith M u t q₀ p₀ o₀) (Void (length (headerBytes M) + 6 + n)) q p o) (sym e)
           (ap Void (map-counted map n f), (eq, ep, map-stored map o₂ o n f w x))

@@ -1,6 +1,6 @@
 // The search: the first breaking run of a model's table of one row, or the map of the states that its runs reach, or that none can begin.
 ghost use mathlib.Core.Path.{_≡_};
-ghost use Prim.Native.Nat.{_+_, _*_, _^_, _≤_};
+ghost use Prim.Native.Nat.{_+_, _^_, _≤_};
 ghost use Rattle.evaluation.specs.working.CodeSystem.{Sound};
 ghost use Rattle.sheets.specs.Sheets.{sheetRoom};
 ghost use Rattle.sheets.specs.SheetTexts.{AreBytes};
@@ -15,6 +15,7 @@ use reader::read_into;
 use sheets::fields::HEADER;
 use sheets::fields::bytes_known;
 use sheets::fields::map_length;
+use sheets::fields::sheet_room;
 use tracing::traces::write_trace;
 use traversal::exploring::run;
 use verdicts::finding::Finding;
@@ -54,7 +55,7 @@ fn search_roomy(
     if x.count == 0 {
         return Finding::Void(len);
     }
-    Finding::Safe(len)
+    Finding::Safe(len, x.trials)
 }
 
 // The search over the flat form of a model. A call whose buffers have no room is refused and leaves them as they are.
@@ -75,7 +76,7 @@ fn search_code(
     if second.len() < states {
         return Finding::Refused(8, 0);
     }
-    if sheet.len() < HEADER - 2 + 10 * states {
+    if sheet.len() < sheet_room(states) {
         return Finding::Refused(8, 0);
     }
     search_roomy(ops, plan, states, first, second, sheet)

@@ -2,13 +2,12 @@
 // For a text that is refused it writes nothing there, and `refused NUMBER PLACE` to standard error; so too a line if it is handed an argument or can't read the input.
 // Where the sheet can't be written, a line there says so too.
 use libc::STDERR_FILENO;
-use libc::STDIN_FILENO;
 use lines::put_refusal;
 use search::search;
 use streams::bounds::fitting;
 use streams::output::write_out;
 use streams::whole::Got;
-use streams::whole::read_file;
+use streams::whole::read_in;
 use verdicts::finding::Finding;
 
 fn write_sheet(sheet: &[u8], n: usize) {
@@ -30,7 +29,7 @@ fn answer(text: &[u8]) {
     let mut sheet = [0u8; 40967];
     let found = search(text, &mut first, &mut second, &mut sheet);
     match found {
-        Finding::Safe(n) => write_sheet(&sheet, n),
+        Finding::Safe(n, _) => write_sheet(&sheet, n),
         Finding::Void(n) => write_sheet(&sheet, n),
         Finding::Unsafe(n) => write_sheet(&sheet, n),
         Finding::Refused(number, place) => say_refused(number, place),
@@ -39,10 +38,8 @@ fn answer(text: &[u8]) {
 
 // Reads the text into its room, and answers.
 fn answer_into(text: &mut [u8]) {
-    let got = read_file(STDIN_FILENO, text);
+    let got = read_in(b"sheet", text);
     let Got::Bytes(n) = got else {
-        io::write_all(STDERR_FILENO, b"sheet: cannot read ");
-        os::fail(b"standard input");
         return;
     };
     answer(&text[..n]);

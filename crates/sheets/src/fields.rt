@@ -46,6 +46,14 @@ pub fn map_length(states: usize) -> usize
     n
 }
 
+// How many bytes the longest sheet has that a search of so many states writes.
+pub fn sheet_room(states: usize) -> usize
+    requires { ⌜ states ≤ 4096 ⌝ }
+    ensures { λ r. ⌜ r ≡ 7 + 10 * states ⌝ }
+{
+    HEADER - 2 + 10 * states
+}
+
 // Whether state s is a member of the map whose n bytes stand from p on.
 pub fn in_map(b: &[u8], p: usize, n: usize, s: usize) -> bool
     requires { do ⌜ (p + n ≤ (← ⟦b.len()⟧)) × (s / 8 < n) ⌝ }

@@ -1,5 +1,7 @@
 // A whole file, as far as there is room for it.
 ghost use Rattle.streams.specs.Reads.{Within};
+use libc::STDERR_FILENO;
+use libc::STDIN_FILENO;
 
 // How many bytes came, none of them at the file's end, or that the read failed.
 pub enum Got {
@@ -35,4 +37,17 @@ pub fn read_file(fd: i32, room: &mut [u8]) -> Got
         at += n;
     }
     Got::Bytes(at)
+}
+
+// Reads standard input. Where it can't be read, a line on standard error says so, and why.
+pub fn read_in(program: &[u8], room: &mut [u8]) -> Got
+    ensures { λ r. ⌜ Within r (now (room .exit)) ⌝ }
+{
+    let got = read_file(STDIN_FILENO, room);
+    let Got::Bytes(n) = got else {
+        io::write_all(STDERR_FILENO, program);
+        os::fail(b": cannot read standard input");
+        return Got::Failed;
+    };
+    Got::Bytes(n)
 }

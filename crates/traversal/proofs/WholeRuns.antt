@@ -1,6 +1,6 @@
 -- The whole search put together: cleared tables, the start states taken in, and the queue gone through.
 -- Assumes nothing.
-use mathlib.Core.Path.{_≡_, subst}
+use mathlib.Core.Path.{_≡_, sym, subst}
 use mathlib.Core.Bool.{Bool, true, false}
 use mathlib.Core.List.{List, _++_}
 use Prim.Native.Nat.{ℕ, _≤_}
@@ -23,9 +23,9 @@ module _ (T : Transitions) (states : ℕ) (e : states ≡ T .size) (q p₀ p : L
   ready-cleared = cleared T q p₀ p sized queue-room parent-room .ready
 
   module _ {q₁ : List ℕ} {n₁ : ℕ} {p₁ : List ℕ} {b : Bool} (U : Took T q p q₁ n₁ p₁ b) where
-    pub run-broke : b ≡ true → Ran T q p₀ q₁ n₁ p₁ b
-    run-broke h = ran-broke T q p₀ p sized queue-room parent-room U h
+    pub run-broke : b ≡ true → (j : ℕ) → j ≡ 0 → Ran T q p₀ q₁ n₁ p₁ b j
+    run-broke h j z = subst (Ran T q p₀ q₁ n₁ p₁ b) (sym z) (ran-broke T q p₀ p sized queue-room parent-room U h)
 
-    pub run-on : b ≡ false → {q₂ : List ℕ} {n₂ : ℕ} {p₂ : List ℕ} {d : Bool} → Explored T 0 states q₁ n₁ p₁ q₂ n₂ p₂ d → Ran T q p₀ q₂ n₂ p₂ d
-    run-on h {q₂} {n₂} {p₂} {d} X =
-        ran-on T q p₀ p sized queue-room parent-room U h (subst (λ (k : ℕ). Explored T 0 k q₁ n₁ p₁ q₂ n₂ p₂ d) e X)
+    pub run-on : b ≡ false → {q₂ : List ℕ} {n₂ : ℕ} {p₂ : List ℕ} {d : Bool} {j : ℕ} → Explored T 0 states q₁ n₁ p₁ q₂ n₂ p₂ d j → Ran T q p₀ q₂ n₂ p₂ d j
+    run-on h {q₂} {n₂} {p₂} {d} {j} X =
+        ran-on T q p₀ p sized queue-room parent-room U h (subst (λ (k : ℕ). Explored T 0 k q₁ n₁ p₁ q₂ n₂ p₂ d j) e X)

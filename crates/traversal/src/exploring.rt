@@ -3,8 +3,8 @@
 ghost use mathlib.Core.Path.{_≡_};
 ghost use Prim.Native.Nat.{_^_, _≤_};
 ghost use Rattle.evaluation.specs.working.CodeSystem.{Sound};
-ghost use Rattle.exploration.specs.working.CodeTransitions.{transitionsIn};
-ghost use Rattle.exploration.specs.working.Tables.{Ready, Explored, Took, Ran};
+ghost use Rattle.exploration.specs.working.CodeTransitions.{transitionsIn, ExploredIn};
+ghost use Rattle.exploration.specs.working.Tables.{Ready, Took, Ran};
 use evaluation::lanes::fill;
 use evaluation::lanes::first_rows;
 use evaluation::lanes::pick;
@@ -15,10 +15,11 @@ use evaluation::one_row::word_count;
 use evaluation::plan::Plan;
 use writing::tables::clear;
 
-// How many states were met, and whether the last of them violates `keep`.
+// How many states were met, whether the last of them violates `keep`, and how many trials were made: one for each command with each choice word at each state.
 pub struct Reach {
     pub count: usize,
     pub found: bool,
+    pub trials: usize,
 }
 
 // Takes the start states into the queue in ascending order, up to the first that violates `keep`.
@@ -31,6 +32,7 @@ fn take_in(
 ) -> Reach
     requires { ⌜ (states ≡ 2 ^ plan .bits) × Sound plan × Ready (transitionsIn (now ops) plan) (now queue) 0 (now parent) ⌝ }
     ensures { λ r. ⌜ Took (transitionsIn (now (ops .entry)) plan) (now (queue .entry)) (now (parent .entry)) (now (queue .exit)) (r .count) (now (parent .exit)) (r .found) ⌝ }
+    ensures { λ r. ⌜ r .trials ≡ 0 ⌝ }
 {
     let mut count: usize = 0;
     let mut found = false;
@@ -48,6 +50,7 @@ fn take_in(
     Reach {
         count: count,
         found: found,
+        trials: 0,
     }
 }
 
@@ -63,12 +66,13 @@ fn explore(
     most: usize,
 ) -> Reach
     requires { ⌜ Sound plan × Ready (transitionsIn (now ops) plan) (now queue) taken (now parent) ⌝ }
-    ensures { λ r. ⌜ Explored (transitionsIn (now (ops .entry)) plan) start most (now (queue .entry)) taken (now (parent .entry)) (now (queue .exit)) (r .count) (now (parent .exit)) (r .found) ⌝ }
+    ensures { λ r. ⌜ ExploredIn (now (ops .entry)) plan start most (now (queue .entry)) taken (now (parent .entry)) (now (queue .exit)) (r .count) (now (parent .exit)) (r .found) (r .trials) ⌝ }
 {
     let commands = plan.commands;
     let bits = plan.bits;
     let mut count = taken;
     let mut found = false;
+    let mut trials: usize = 0;
     let mut head = start;
     let mut left = most;
     'search: while 0 < left {
@@ -91,11 +95,13 @@ fn explore(
                     queue[count] = t;
                     count += 1;
                     if breaks(ops, plan, at) {
+                        trials += w + 1;
                         found = true;
                         break 'search;
                     }
                 }
             }
+            trials += words;
         }
         head += 1;
         left -= 1;
@@ -103,6 +109,7 @@ fn explore(
     Reach {
         count: count,
         found: found,
+        trials: trials,
     }
 }
 
@@ -115,7 +122,7 @@ pub fn run(
     parent: &mut [u16],
 ) -> Reach
     requires { do ⌜ Sound plan × (states ≡ 2 ^ plan .bits) × (states ≤ (← ⟦queue.len()⟧)) × (states ≤ (← ⟦parent.len()⟧)) ⌝ }
-    ensures { λ r. ⌜ Ran (transitionsIn (now (ops .entry)) plan) (now (queue .entry)) (now (parent .entry)) (now (queue .exit)) (r .count) (now (parent .exit)) (r .found) ⌝ }
+    ensures { λ r. ⌜ Ran (transitionsIn (now (ops .entry)) plan) (now (queue .entry)) (now (parent .entry)) (now (queue .exit)) (r .count) (now (parent .exit)) (r .found) (r .trials) ⌝ }
 {
     clear(parent, states);
     let x = take_in(ops, plan, states, queue, parent);

@@ -5,6 +5,7 @@ use Rattle.sheets.specs.Sheets.{little, recordBytes, headerBytes, mapBytes, sta
 use Rattle.acceptance.proofs.TestCases.{answering}
 use Rattle.exploration.specs.working.Transitions.{wordsFrom, movesFrom}
 use Rattle.exploration.specs.working.Exploring.{tryMoves, explore, takeIn, search}
+use Rattle.exploration.specs.working.Trials.{trialsWith, trialsFrom, trials}
 use Rattle.exploration.specs.working.Runs.{firstMove, runTo, stepsOf}
 use Rattle.exploration.specs.working.Results.{result}
 use Rattle.exploration.specs.working.Written.{bitAt, mapFrom}
@@ -15,7 +16,7 @@ use Rattle.verdicts.specs.working.Searching.{roomy, verdictOf, searchFor
 
 -- To unfold this is to unfold all that finds a verdict on the model of a text.
 unfoldable pub finding : Unit {0}
-unfolding answering wordsFrom movesFrom tryMoves explore takeIn search firstMove runTo stepsOf result bitAt mapFrom anySet verdictFor foundIn
+unfolding answering wordsFrom movesFrom tryMoves explore takeIn search trialsWith trialsFrom trials firstMove runTo stepsOf result bitAt mapFrom anySet verdictFor foundIn
 finding = tt
 
 pub all-cases : AllCases

@@ -4,7 +4,9 @@ use mathlib.Core.Path.{_≡_, refl, sym, ap, _∙_, subst}
 use mathlib.Core.Logic.{_↔_, _⊎_, inl, inr}
 use mathlib.Core.Bool.{Bool, true, false, true≢false}
 use mathlib.Core.List.{List}
-use Prim.Native.Nat.{ℕ, _+_, _*_, _≤_}
+use mathlib.Core.Option.{Option, some}
+use Prim.Native.Nat.{ℕ, _≤_}
+use Prim.Native.String.{String}
 use native.Mathlib.Omega.{arith}
 use native.Mathlib.Nat.{le-trans}
 use lib.Dec.{leb}
@@ -12,6 +14,7 @@ use lib.ListN.{length, getD}
 use borrow.Author.Tests.{leb-true, le-leb}
 use Rattle.notation.specs.Bytes.{bytes}
 use Rattle.notation.specs.Model.{Model}
+use Rattle.notation.specs.Regular.{Regular}
 use Rattle.notation.specs.Texts.{TextSays, TextRefused}
 use Rattle.notation.specs.working.Machine as N
 use Rattle.notation.proofs.Texts.{says-answer, refused-answer, one-answer}
@@ -22,6 +25,8 @@ use Rattle.notation.proofs.Booleans.{and-split, and-join}
 use Rattle.sheets.specs.Sheets.{sheetRoom, systemOf, little, recordBytes, headerBytes, sheetBytes}
 use Rattle.meaning.specs.Evidence.{IsVoid, Verdict, safeBy, voidBy, unsafeBy, evidenceOf}
 use Rattle.exploration.specs.Findings.{Finds}
+use Rattle.exploration.specs.Trials.{trialsOf}
+use Rattle.exploration.specs.working.Trials.{trialCount}
 use Rattle.verdicts.specs.Answers.{Wording, verdict, returned, wordingOf}
 use Rattle.verdicts.specs.Left.{Left}
 use Rattle.verdicts.specs.Promises.{LeavesTell, RoomTells, Room, SearchDone, SearchRefused, SearchTells, TextRefusedFirst}
@@ -29,6 +34,7 @@ use Rattle.exploration.specs.working.Found.{foundIn, transitionsOf}
 use Rattle.verdicts.specs.working.Searching.{roomy, verdictOf, leftWith, leftAlone, searchFor, searchIn, searchOf}
 use Rattle.exploration.proofs.FindsRight.{own, finds}
 use Rattle.exploration.proofs.FoundShort.{found-short}
+use Rattle.exploration.proofs.TrialCounts.{trials-counted}
 
 -- The call for a text that says a model is the call for the model.
 pub said : (text : List ℕ) (m : Model) → TextSays text m → (first second sheet : List ℕ)
@@ -54,24 +60,25 @@ false-unless false h = refl
 
 -- The first letter of a verdict tells which it is.
 abbrev initial : Wording → ℕ
-initial (verdict s n) = getD (bytes s) 0 0
+initial (verdict s n t) = getD (bytes s) 0 0
 initial (returned n p) = 0
 
-pub unsafe-safe : (n k : ℕ) → verdict "unsafe" n ≡ verdict "safe" k → ⊥
+pub unsafe-safe : (n k : ℕ) (t u : Option ℕ) → verdict "unsafe" n t ≡ verdict "safe" k u → ⊥
 unfolding bytes
-unsafe-safe n k e = let z : _≡_ {A = ℕ} 117 115 = ap initial e in omega arith
+unsafe-safe n k t u e = let z : _≡_ {A = ℕ} 117 115 = ap initial e in omega arith
 
-pub void-safe : (n k : ℕ) → verdict "void" n ≡ verdict "safe" k → ⊥
+pub void-safe : (n k : ℕ) (t u : Option ℕ) → verdict "void" n t ≡ verdict "safe" k u → ⊥
 unfolding bytes
-void-safe n k e = let z : _≡_ {A = ℕ} 118 115 = ap initial e in omega arith
+void-safe n k t u e = let z : _≡_ {A = ℕ} 118 115 = ap initial e in omega arith
 
-pub void-unsafe : (n k : ℕ) → verdict "void" n ≡ verdict "unsafe" k → ⊥
+pub void-unsafe : (n k : ℕ) (t u : Option ℕ) → verdict "void" n t ≡ verdict "unsafe" k u → ⊥
 unfolding bytes
-void-unsafe n k e = let z : _≡_ {A = ℕ} 118 117 = ap initial e in omega arith
+void-unsafe n k t u e = let z : _≡_ {A = ℕ} 118 117 = ap initial e in omega arith
 
-pub not-verdict : (n p k : ℕ) → (returned n p ≡ verdict "safe" k → ⊥) × (returned n p ≡ verdict "void" k → ⊥) × (returned n p ≡ verdict "unsafe" k → ⊥)
+pub not-verdict : (n p k : ℕ) (t : Option ℕ)
+    → (returned n p ≡ verdict "safe" k t → ⊥) × (returned n p ≡ verdict "void" k t → ⊥) × (returned n p ≡ verdict "unsafe" k t → ⊥)
 unfolding bytes
-not-verdict n p k = (
+not-verdict n p k t = (
   λ e. let z : _≡_ {A = ℕ} 0 115 = ap initial e in omega arith,
   λ e. let z : _≡_ {A = ℕ} 0 118 = ap initial e in omega arith,
   λ e. let z : _≡_ {A = ℕ} 0 117 = ap initial e in omega arith,
@@ -82,44 +89,63 @@ pub sheet-short : (m : Model) → length (sheetBytes (systemOf m) (evidenceOf (f
 unfolding headerBytes recordBytes little
 sheet-short m = omega (arith, found-short (systemOf m) (transitionsOf (systemOf m)) m (own m))
 
+-- The answer to a verdict x after t trials, where t is the number of x's trials if it has one.
+abbrev pub Made : Model → Verdict → ℕ → Type 0
+Made m x t = (k : ℕ) → trialsOf m x ≡ some k → t ≡ k
+
+abbrev Says : Model → Verdict → ℕ → String → ℕ → Type 0
+Says m x t v n = wordingOf (verdictOf x n t) ≡ verdict v n (trialsOf m x)
+
+said-safe : (m : Model) (x : Verdict) (t : ℕ) → Made m x t → Finds m x → (n : ℕ) → Says m x t "safe" n ↔ (Safe m One × CanStart m One)
+unfolding verdictOf wordingOf trialsOf
+said-safe m (safeBy map) t made F n = (λ e. (F .0, F .2), λ h. ap (λ k. verdict "safe" n (some k)) (made _ refl))
+said-safe m (voidBy map) t made F n = (λ e. absurd (void-safe n n _ _ e), λ h. absurd (F .0 (h .1)))
+said-safe m (unsafeBy s xs) t made F n = (λ e. absurd (unsafe-safe n n _ _ e), λ h. let (q, ys, r, b) = F .0 in absurd (h .0 q ys r b))
+
+said-void : (m : Model) (x : Verdict) (t : ℕ) → Made m x t → Finds m x → (n : ℕ) → Says m x t "void" n ↔ IsVoid m
+unfolding verdictOf wordingOf trialsOf
+said-void m (safeBy map) t made F n = (λ e. absurd (void-safe n n _ _ (sym e)), λ v. absurd (v (F .2)))
+said-void m (voidBy map) t made F n = (λ e. F .0, λ v. refl)
+said-void m (unsafeBy s xs) t made F n = (λ e. absurd (void-unsafe n n _ _ (sym e)), λ v. let (q, ys, r, b) = F .0 in absurd (v (q, r .start)))
+
+said-unsafe : (m : Model) (x : Verdict) (t : ℕ) → Made m x t → Finds m x → (n : ℕ) → Says m x t "unsafe" n ↔ Unsafe m One
+unfolding verdictOf wordingOf trialsOf
+said-unsafe m (safeBy map) t made F n = (λ e. absurd (unsafe-safe n n _ _ (sym e)), λ h. let (q, ys, r, b) = h in absurd (F .0 q ys r b))
+said-unsafe m (voidBy map) t made F n = (λ e. absurd (void-unsafe n n _ _ e), λ h. let (q, ys, r, b) = h in absurd (F .0 (q, r .start)))
+said-unsafe m (unsafeBy s xs) t made F n = (λ e. F .0, λ h. refl)
+
+-- What the search of a model finds, and the trials that it makes.
+abbrev pub foundOf : Model → Verdict
+foundOf m = foundIn (transitionsOf (systemOf m))
+
+abbrev pub madeOf : Model → ℕ
+madeOf m = trialCount (transitionsOf (systemOf m))
+
+pub made-told : (m : Model) → Regular m → Made m (foundOf m) (madeOf m)
+made-told m g = trials-counted (transitionsOf (systemOf m)) m (own m) g
+
 module _ (m : Model) where
-  said-safe : (x : Verdict) → Finds m x → (n : ℕ) → (wordingOf (verdictOf x n) ≡ verdict "safe" n) ↔ (Safe m One × CanStart m One)
-  unfolding verdictOf wordingOf
-  said-safe (safeBy map) F n = (λ e. (F .0, F .2), λ h. refl)
-  said-safe (voidBy map) F n = (λ e. absurd (void-safe n n e), λ h. absurd (F .0 (h .1)))
-  said-safe (unsafeBy s xs) F n = (λ e. absurd (unsafe-safe n n e), λ h. let (t, ys, r, b) = F .0 in absurd (h .0 t ys r b))
-
-  said-void : (x : Verdict) → Finds m x → (n : ℕ) → (wordingOf (verdictOf x n) ≡ verdict "void" n) ↔ IsVoid m
-  unfolding verdictOf wordingOf
-  said-void (safeBy map) F n = (λ e. absurd (void-safe n n (sym e)), λ v. absurd (v (F .2)))
-  said-void (voidBy map) F n = (λ e. F .0, λ v. refl)
-  said-void (unsafeBy s xs) F n = (λ e. absurd (void-unsafe n n (sym e)), λ v. let (t, ys, r, b) = F .0 in absurd (v (t, r .start)))
-
-  said-unsafe : (x : Verdict) → Finds m x → (n : ℕ) → (wordingOf (verdictOf x n) ≡ verdict "unsafe" n) ↔ Unsafe m One
-  unfolding verdictOf wordingOf
-  said-unsafe (safeBy map) F n = (λ e. absurd (unsafe-safe n n (sym e)), λ h. let (t, ys, r, b) = h in absurd (F .0 t ys r b))
-  said-unsafe (voidBy map) F n = (λ e. absurd (void-unsafe n n e), λ h. let (t, ys, r, b) = h in absurd (F .0 (t, r .start)))
-  said-unsafe (unsafeBy s xs) F n = (λ e. F .0, λ h. refl)
-
   module _ (first second sheet : List ℕ) where
-    left-with : (x : Verdict) → Finds m x → length (sheetBytes (systemOf m) (evidenceOf x)) ≤ length sheet
-        → SearchDone m first second sheet (leftWith (systemOf m) x first second sheet)
-    left-with x F h =
+    left-with : Regular m → length (sheetBytes (systemOf m) (evidenceOf (foundOf m))) ≤ length sheet
+        → SearchDone m first second sheet (leftWith (systemOf m) (foundOf m) (madeOf m) first second sheet)
+    left-with g h =
+        let n = length (sheetBytes (systemOf m) (evidenceOf (foundOf m))) in
         record {
-          found = x;
-          right = F;
+          found = foundOf m;
+          right = finds m g;
           fits = h;
           written = refl;
-          safely = said-safe x F (length (sheetBytes (systemOf m) (evidenceOf x)));
-          voidly = said-void x F (length (sheetBytes (systemOf m) (evidenceOf x)));
-          unsafely = said-unsafe x F (length (sheetBytes (systemOf m) (evidenceOf x)));
+          safely = said-safe m (foundOf m) (madeOf m) (made-told m g) (finds m g) n;
+          voidly = said-void m (foundOf m) (madeOf m) (made-told m g) (finds m g) n;
+          unsafely = said-unsafe m (foundOf m) (madeOf m) (made-told m g) (finds m g) n;
+          tried = made-told m g;
           firstCleared = refl;
           secondCleared = refl;
         }
 
     -- With room, and without.
     pub with-room : Room m first second sheet
-        → searchFor (systemOf m) first second sheet ≡ leftWith (systemOf m) (foundIn (transitionsOf (systemOf m))) first second sheet
+        → searchFor (systemOf m) first second sheet ≡ leftWith (systemOf m) (foundOf m) (madeOf m) first second sheet
     unfolding searchFor
     with-room r = rw (room-tells m first second sheet .1 r)
 
@@ -137,7 +163,7 @@ search-tells text m says first second sheet =
       roomThere = λ r.
           subst (SearchDone m first second sheet)
           (sym (said text m says first second sheet ∙ with-room m first second sheet r))
-          (left-with m first second sheet (foundIn (transitionsOf (systemOf m))) (finds m (all-regular text m says)) (le-trans (sheet-short m) (r .2)));
+          (left-with m first second sheet (all-regular text m says) (le-trans (sheet-short m) (r .2)));
       roomMissing = λ h.
           subst (SearchRefused 8 0 first second sheet) (sym (said text m says first second sheet ∙ without-room m first second sheet h)) (left-alone 8 0 first second sheet);
     }
@@ -157,7 +183,7 @@ text-refused-first text n i r first second sheet =
 pub whatever-left : (text first second sheet : List ℕ) (P : Left → Type 0)
     → ((n i : ℕ) → TextRefused text n i → P (leftAlone n i first second sheet))
     → ((m : Model) → TextSays text m → ¬ (Room m first second sheet) → P (leftAlone 8 0 first second sheet))
-    → ((m : Model) → TextSays text m → Room m first second sheet → P (leftWith (systemOf m) (foundIn (transitionsOf (systemOf m))) first second sheet))
+    → ((m : Model) → TextSays text m → Room m first second sheet → P (leftWith (systemOf m) (foundOf m) (madeOf m) first second sheet))
     → P (searchOf text first second sheet)
 whatever-left text first second sheet P refused missing searched = go (one-answer text .some)
   where
@@ -172,3 +198,16 @@ whatever-left text first second sheet P refused missing searched = go (one-answe
     go : ((m : Model) × TextSays text m) ⊎ ((n i : ℕ) × TextRefused text n i) → P (searchOf text first second sheet)
     go (inl (m, says)) = with-model m says (roomy (systemOf m) first second sheet) refl
     go (inr (n, i, r)) = subst P (sym (refused-left text n i r first second sheet)) (refused n i r)
+
+-- A call that has searched was not refused.
+searched-said : (x : Verdict) (l t n p : ℕ) → wordingOf (verdictOf x l t) ≡ returned n p → ⊥
+unfolding verdictOf wordingOf
+searched-said (safeBy map) l t n p e = not-verdict n p l _ .0 (sym e)
+searched-said (voidBy map) l t n p e = not-verdict n p l _ .1 (sym e)
+searched-said (unsafeBy s xs) l t n p e = not-verdict n p l _ .2 (sym e)
+
+pub searched-not-refused : (text : List ℕ) (m : Model) → TextSays text m → (first second sheet : List ℕ) → Room m first second sheet
+    → (n p : ℕ) → wordingOf (searchOf text first second sheet .answer) ≡ returned n p → ⊥
+searched-not-refused text m says first second sheet r n p e =
+    searched-said (foundOf m) (length (sheetBytes (systemOf m) (evidenceOf (foundOf m)))) (madeOf m) n p
+    (ap (λ (L : Left). wordingOf (L .answer)) (sym (said text m says first second sheet ∙ with-room m first second sheet r)) ∙ e)

@@ -26,10 +26,10 @@ use Rattle.verdicts.specs.Answers.{Wording, verdict, returned, wordingOf
 use Rattle.verdicts.specs.Promises.{FrontPasses, SheetsPass}
 use Rattle.exploration.specs.working.Transitions.{moveOf}
 use Rattle.exploration.specs.working.Runs.{goesOn}
-use Rattle.exploration.specs.working.Found.{foundIn, transitionsOf}
+use Rattle.exploration.specs.working.Found.{transitionsOf}
 use Rattle.verdicts.specs.working.Searching.{verdictOf, leftWith, leftAlone}
 use Rattle.exploration.proofs.RunsOfModels.{run-told, run-reaches, reaches-run}
-use Rattle.verdicts.proofs.SearchTells.{sheet-short, unsafe-safe, void-safe, void-unsafe, not-verdict, whatever-left}
+use Rattle.verdicts.proofs.SearchTells.{foundOf, madeOf, sheet-short, unsafe-safe, void-safe, void-unsafe, not-verdict, whatever-left}
 use Rattle.exploration.proofs.FindsRight.{own, finds}
 use Rattle.exploration.proofs.EmptyMaps.{no-runs, void-exact}
 use Rattle.verdicts.proofs.SheetBytes.{map-sheet-bytes, trace-sheet-bytes}
@@ -59,7 +59,7 @@ front l b h =
 
 -- The number in a verdict.
 abbrev count : Wording → ℕ
-count (verdict s n) = n
+count (verdict s n t) = n
 count (returned n p) = p
 
 module _ (text : List ℕ) (m : Model) (says : TextSays text m) where
@@ -97,27 +97,27 @@ module _ (text : List ℕ) (m : Model) (says : TextSays text m) where
         subst (λ (k : ℕ). take k (sets sheet 0 (sheetBytes (systemOf m) x)) ≡ sheetBytes (systemOf m) x) e
         (front sheet (sheetBytes (systemOf m) x) (omega arith))
 
-    front-passes : (x : Verdict) → Finds m x → length (sheetBytes (systemOf m) (evidenceOf x)) ≤ sheetRoom (systemOf m)
-        → FrontPasses text (leftWith (systemOf m) x first second sheet)
+    front-passes : (x : Verdict) (j : ℕ) → Finds m x → length (sheetBytes (systemOf m) (evidenceOf x)) ≤ sheetRoom (systemOf m)
+        → FrontPasses text (leftWith (systemOf m) x j first second sheet)
     unfolding verdictOf wordingOf
-    front-passes (safeBy map) F h =
+    front-passes (safeBy map) j F h =
         record {
-          afterSafe = λ n e. ap (answerTo text) (at-front (safe map) h n (ap count e)) ∙ map-holds map (F .1) h (F .0) (F .2);
-          afterVoid = λ n e. absurd (void-safe _ _ (sym e));
-          afterUnsafe = λ n e. absurd (unsafe-safe _ _ (sym e));
+          afterSafe = λ n t e. ap (answerTo text) (at-front (safe map) h n (ap count e)) ∙ map-holds map (F .1) h (F .0) (F .2);
+          afterVoid = λ n t e. absurd (void-safe _ _ _ _ (sym e));
+          afterUnsafe = λ n t e. absurd (unsafe-safe _ _ _ _ (sym e));
         }
-    front-passes (voidBy map) F h =
+    front-passes (voidBy map) j F h =
         let E : ExactMap m map = subst (ExactMap m) (sym (F .1)) (void-exact m (F .0)) in
         record {
-          afterSafe = λ n e. absurd (void-safe _ _ e);
-          afterVoid = λ n e. ap (answerTo text) (at-front (safe map) h n (ap count e)) ∙ map-void map E h (F .0);
-          afterUnsafe = λ n e. absurd (void-unsafe _ _ e);
+          afterSafe = λ n t e. absurd (void-safe _ _ _ _ e);
+          afterVoid = λ n t e. ap (answerTo text) (at-front (safe map) h n (ap count e)) ∙ map-void map E h (F .0);
+          afterUnsafe = λ n t e. absurd (void-unsafe _ _ _ _ e);
         }
-    front-passes (unsafeBy s xs) F h =
+    front-passes (unsafeBy s xs) j F h =
         record {
-          afterSafe = λ n e. absurd (unsafe-safe _ _ e);
-          afterVoid = λ n e. absurd (void-unsafe _ _ (sym e));
-          afterUnsafe = λ n e. ap (answerTo text) (at-front (trace s xs) h n (ap count e)) ∙ trace-holds s xs F h;
+          afterSafe = λ n t e. absurd (unsafe-safe _ _ _ _ e);
+          afterVoid = λ n t e. absurd (void-unsafe _ _ _ _ (sym e));
+          afterUnsafe = λ n t e. ap (answerTo text) (at-front (trace s xs) h n (ap count e)) ∙ trace-holds s xs F h;
         }
 
 -- A call that was refused gave no verdict.
@@ -125,9 +125,9 @@ refused-passes : (text : List ℕ) (n p : ℕ) (first second sheet : List ℕ) �
 unfolding wordingOf
 refused-passes text n p first second sheet =
     record {
-      afterSafe = λ k f. absurd (not-verdict n p k .0 f);
-      afterVoid = λ k f. absurd (not-verdict n p k .1 f);
-      afterUnsafe = λ k f. absurd (not-verdict n p k .2 f);
+      afterSafe = λ k t f. absurd (not-verdict n p k t .0 f);
+      afterVoid = λ k t f. absurd (not-verdict n p k t .1 f);
+      afterUnsafe = λ k t f. absurd (not-verdict n p k t .2 f);
     }
 
 pub sheets-pass : SheetsPass
@@ -135,6 +135,4 @@ sheets-pass text first second sheet =
     whatever-left text first second sheet (FrontPasses text)
     (λ n i r. refused-passes text n i first second sheet)
     (λ m says h. refused-passes text 8 0 first second sheet)
-    (λ m says r.
-    let M = transitionsOf (systemOf m) in
-    front-passes text m says first second sheet (r .2) (foundIn M) (finds m (all-regular text m says)) (sheet-short m))
+    (λ m says r. front-passes text m says first second sheet (r .2) (foundOf m) (madeOf m) (finds m (all-regular text m says)) (sheet-short m))

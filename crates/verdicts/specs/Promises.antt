@@ -4,7 +4,9 @@ use mathlib.Core.Path.{_≡_}
 use mathlib.Core.Logic.{_↔_}
 use mathlib.Core.Bool.{true}
 use mathlib.Core.List.{List}
+use mathlib.Core.Option.{Option, some, Option·getD}
 use Prim.Native.Nat.{ℕ, _+_, _*_, _≤_}
+use Prim.Native.String.{String}
 use lib.ListN.{length, take}
 use lib.Seq.{sets}
 use Rattle.notation.specs.Model.{Model}
@@ -17,6 +19,9 @@ use Rattle.conditions.specs.Outcomes.{words}
 use Rattle.acceptance.specs.Promises.{answerTo, TestPromise}
 use Rattle.meaning.specs.Evidence.{IsVoid, Verdict, evidenceOf}
 use Rattle.exploration.specs.Findings.{Finds}
+use Rattle.exploration.specs.Trials.{mostTrials, trialsOf}
+use Rattle.exploration.specs.working.Trials.{trialCount}
+use Rattle.exploration.specs.working.Found.{transitionsOf}
 use Rattle.verdicts.specs.Answers.{Wording, verdict, returned, wordingOf}
 use Rattle.verdicts.specs.Left.{Left, Leaves, zeroed}
 use Rattle.verdicts.specs.working.Searching.{roomy, searchOf}
@@ -40,15 +45,17 @@ abbrev pub answerOf : Left → Wording
 answerOf left = wordingOf (left .answer)
 
 -- The call has searched: it found what there is to find of the model, put the bytes of the sheet at the front of the buffer,
--- gave the verdict with their number, and left the tables cleared as far as there are states. All else in the buffers is as it was.
+-- gave the verdict with their number and that of its trials, and left the tables cleared as far as there are states. All else in the buffers is as it was.
+-- Where the verdict has a number of trials, it is that of the trials which the search made.
 pub record SearchDone (m : Model) (first second sheet : List ℕ) (left : Left) : Type 0 where
   pub found : Verdict
   pub right : Finds m found
   pub fits : length (sheetBytes (systemOf m) (evidenceOf found)) ≤ length sheet
   pub written : left .sheet ≡ sets sheet 0 (sheetBytes (systemOf m) (evidenceOf found))
-  pub safely : (answerOf left ≡ verdict "safe" (length (sheetBytes (systemOf m) (evidenceOf found)))) ↔ (Safe m One × CanStart m One)
-  pub voidly : (answerOf left ≡ verdict "void" (length (sheetBytes (systemOf m) (evidenceOf found)))) ↔ IsVoid m
-  pub unsafely : (answerOf left ≡ verdict "unsafe" (length (sheetBytes (systemOf m) (evidenceOf found)))) ↔ Unsafe m One
+  pub safely : (answerOf left ≡ verdict "safe" (length (sheetBytes (systemOf m) (evidenceOf found))) (trialsOf m found)) ↔ (Safe m One × CanStart m One)
+  pub voidly : (answerOf left ≡ verdict "void" (length (sheetBytes (systemOf m) (evidenceOf found))) (trialsOf m found)) ↔ IsVoid m
+  pub unsafely : (answerOf left ≡ verdict "unsafe" (length (sheetBytes (systemOf m) (evidenceOf found))) (trialsOf m found)) ↔ Unsafe m One
+  pub tried : (k : ℕ) → trialsOf m found ≡ some k → trialCount (transitionsOf (systemOf m)) ≡ k
   pub firstCleared : left .first ≡ zeroed (stateCount m) first
   pub secondCleared : left .second ≡ zeroed (stateCount m) second
 
@@ -74,10 +81,16 @@ abbrev pub TextRefusedFirst : Type 0
 TextRefusedFirst =
     (text : List ℕ) (n i : ℕ) → TextRefused text n i → (first second sheet : List ℕ) → SearchRefused n i first second sheet (searchOf text first second sheet)
 
--- The numbers in an answer: no sheet has more bytes than the largest model takes, a refusal has a number from 1 to 8,
+-- No search of a text's model makes more trials than there are at all its states.
+abbrev pub TrialsBounded : Type 0
+TrialsBounded =
+    (text : List ℕ) (m : Model) → TextSays text m → (first second sheet : List ℕ) (s : String) (n k : ℕ)
+    → answerOf (searchOf text first second sheet) ≡ verdict s n (some k) → k ≤ mostTrials m
+
+-- The numbers in an answer: no sheet has more bytes than the largest model takes, and no search more trials; a refusal has a number from 1 to 8,
 -- and its place is no further than the longest text reaches.
 abbrev pub Bounded : Wording → Type 0
-Bounded (verdict s n) = n ≤ 7 + 10 * 4096
+Bounded (verdict s n t) = (n ≤ 7 + 10 * 4096) × (Option·getD t 0 ≤ 4096 * (16 * 256))
 Bounded (returned n p) = (1 ≤ n) × (n ≤ 8) × (p ≤ longestText)
 
 abbrev pub AnswersBounded : Type 0
@@ -85,9 +98,9 @@ AnswersBounded = (text first second sheet : List ℕ) → Bounded (answerOf (sea
 
 -- The front of the sheet buffer, as long as the answer says, passes the test for the same text: as a map after safe and after void, as a trace after unsafe.
 pub record FrontPasses (text : List ℕ) (left : Left) : Type 0 where
-  pub afterSafe : (n : ℕ) → answerOf left ≡ verdict "safe" n → answerTo text (take n (left .sheet)) ≡ words "safe holds"
-  pub afterVoid : (n : ℕ) → answerOf left ≡ verdict "void" n → answerTo text (take n (left .sheet)) ≡ words "void"
-  pub afterUnsafe : (n : ℕ) → answerOf left ≡ verdict "unsafe" n → answerTo text (take n (left .sheet)) ≡ words "trace holds"
+  pub afterSafe : (n : ℕ) (t : Option ℕ) → answerOf left ≡ verdict "safe" n t → answerTo text (take n (left .sheet)) ≡ words "safe holds"
+  pub afterVoid : (n : ℕ) (t : Option ℕ) → answerOf left ≡ verdict "void" n t → answerTo text (take n (left .sheet)) ≡ words "void"
+  pub afterUnsafe : (n : ℕ) (t : Option ℕ) → answerOf left ≡ verdict "unsafe" n t → answerTo text (take n (left .sheet)) ≡ words "trace holds"
 
 -- For every text and all lent buffers, whatever they hold.
 abbrev pub SheetsPass : Type 0

@@ -1,2 +1,3 @@
 -- Laws of the numbers that stand for the search's answers.
 pub mod Told
+pub mod NeedsTold

@@ -1,7 +1,7 @@
 -- The numbers that stand for the search's answers tell them, and fit.
 -- Assumes nothing.
 use mathlib.Core.Path.{_≡_, sym, ap, _∙_, subst}
-use Prim.Native.Nat.{ℕ, _≤_}
+use Prim.Native.Nat.{ℕ, _+_, _*_, _/_, _%_, _≤_}
 use native.Mathlib.Omega.{arith}
 use borrow.Author.Tests.{ne-eqb}
 use Rattle.notation.specs.Bytes.{bytes}
@@ -15,11 +15,24 @@ use Rattle.packing.specs.Packed.{mostAbove}
 use Rattle.packing.proofs.Packed.{low-back, above-back}
 use Rattle.workbench.specs.Numbers.{searchNumber, wordingFor, SearchNumbersTell}
 
+-- The length and the trials that are put together above the letter.
+length-back : (n t : ℕ) → n ≤ 40967 → (n + 65536 * t) % 65536 ≡ n
+length-back n t h = omega arith
+
+trials-back : (n t : ℕ) → n ≤ 40967 → (n + 65536 * t) / 65536 ≡ t
+trials-back n t h = omega arith
+
 told : (f : Finding) → Bounded (wordingOf f) → wordingFor (searchNumber (wordingOf f)) ≡ wordingOf f
 unfolding wordingOf searchNumber bytes
-told (Safe n) b = rw (low-back 115 n (omega arith), above-back 115 n (omega arith))
-told (Void n) b = rw (low-back 118 n (omega arith), above-back 118 n (omega arith))
-told (Unsafe n) b = rw (low-back 117 n (omega arith), above-back 117 n (omega arith))
+told (Safe n t) b =
+    let a = n + 65536 * t in
+    rw (low-back 115 a (omega arith), above-back 115 a (omega arith), length-back n t (b .0), trials-back n t (b .0))
+told (Void n) b =
+    let a = n + 65536 * 0 in
+    rw (low-back 118 a (omega arith), above-back 118 a (omega arith), length-back n 0 (b .0), trials-back n 0 (b .0))
+told (Unsafe n) b =
+    let a = n + 65536 * 0 in
+    rw (low-back 117 a (omega arith), above-back 117 a (omega arith), length-back n 0 (b .0))
 told (Refused n p) b =
     let h = b .1 in
     rw (low-back n p (omega arith), above-back n p (omega arith), ne-eqb n 115 (omega arith), ne-eqb n 118 (omega arith), ne-eqb n 117 (omega arith))
@@ -28,17 +41,17 @@ pub search-numbers-tell : SearchNumbersTell
 search-numbers-tell text first second sheet = told (searchOf text first second sheet .answer) (answers-bounded text first second sheet)
 
 module _ (f : Finding) (b : Bounded (wordingOf f)) where
-  pub safe-fits : (n : ℕ) → f ≡ Safe n → n ≤ mostAbove
+  pub safe-fits : (n t : ℕ) → f ≡ Safe n t → (n ≤ 40967) × (t ≤ 16777216)
   unfolding wordingOf
-  safe-fits n e = let c = subst (λ (x : Finding). Bounded (wordingOf x)) e b in omega (arith, c)
+  safe-fits n t e = subst (λ (x : Finding). Bounded (wordingOf x)) e b
 
-  pub void-fits : (n : ℕ) → f ≡ Void n → n ≤ mostAbove
+  pub void-fits : (n : ℕ) → f ≡ Void n → (n ≤ 40967) × (0 ≤ 16777216)
   unfolding wordingOf
-  void-fits n e = let c = subst (λ (x : Finding). Bounded (wordingOf x)) e b in omega (arith, c)
+  void-fits n e = subst (λ (x : Finding). Bounded (wordingOf x)) e b
 
-  pub unsafe-fits : (n : ℕ) → f ≡ Unsafe n → n ≤ mostAbove
+  pub unsafe-fits : (n : ℕ) → f ≡ Unsafe n → (n ≤ 40967) × (0 ≤ 16777216)
   unfolding wordingOf
-  unsafe-fits n e = let c = subst (λ (x : Finding). Bounded (wordingOf x)) e b in omega (arith, c)
+  unsafe-fits n e = subst (λ (x : Finding). Bounded (wordingOf x)) e b
 
   pub place-fits : (n p : ℕ) → f ≡ Refused n p → p ≤ mostAbove
   unfolding wordingOf

@@ -1,14 +1,29 @@
-// The search for programs in C and Python: a slice is a pointer and a length there, and the answer is one number.
+// The search and its reservation for programs in C and Python: a slice is a pointer and a length there, and the answer is one number.
 ghost use mathlib.Core.Path.{_≡_};
+ghost use Prim.Native.Nat.{_+_, _*_, _≤_};
+ghost use Rattle.packing.specs.Packed.{packed};
+ghost use Rattle.reserving.specs.Answers as reservations;
+ghost use Rattle.reserving.specs.Promises as reserving;
 ghost use Rattle.sheets.specs.SheetTexts.{AreBytes};
 ghost use Rattle.verdicts.specs.Answers.{wordingOf};
 ghost use Rattle.verdicts.specs.Left.{Leaves};
 ghost use Rattle.verdicts.specs.Promises.{Bounded, answerOf};
 ghost use Rattle.verdicts.specs.working.Searching.{searchOf};
 ghost use Rattle.workbench.specs.Numbers.{searchNumber};
+ghost use Rattle.workbench.specs.Needs.{toldOf};
 use packing::pack;
+use reserving::Reservation;
+use reserving::reserve;
 use search::search;
 use verdicts::finding::Finding;
+
+// The number of a verdict: its letter, the sheet's length, and the number of trials above both.
+fn verdict_number(letter: u8, length: usize, trials: usize) -> u64
+    requires { ⌜ (length ≤ 40967) × (trials ≤ 16777216) ⌝ }
+    ensures { λ r. ⌜ r ≡ packed letter (length + 65536 * trials) ⌝ }
+{
+    pack(letter, length + 65536 * trials)
+}
 
 // The number of an answer.
 fn finding_number(finding: Finding) -> u64
@@ -16,9 +31,9 @@ fn finding_number(finding: Finding) -> u64
     ensures { λ r. ⌜ r ≡ searchNumber (wordingOf finding) ⌝ }
 {
     match finding {
-        Finding::Safe(length) => pack(b's', length),
-        Finding::Void(length) => pack(b'v', length),
-        Finding::Unsafe(length) => pack(b'u', length),
+        Finding::Safe(length, trials) => verdict_number(b's', length, trials),
+        Finding::Void(length) => verdict_number(b'v', length, 0),
+        Finding::Unsafe(length) => verdict_number(b'u', length, 0),
         Finding::Refused(number, place) => pack(number, place),
     }
 }
@@ -36,4 +51,33 @@ pub extern "C" fn nutseason_search(
     ensures bytes { λ _. ⌜ AreBytes (now (sheet .exit)) ⌝ }
 {
     finding_number(search(text, first, second, sheet))
+}
+
+// The number of a reservation, whose three numbers go to the front of the lent list.
+fn reservation_number(reservation: Reservation, needs: &mut [u64]) -> u64
+    requires { ⌜ reserving.Bounded (reservations.wordingOf reservation) ⌝ }
+    ensures { λ r. ⌜ r ≡ toldOf (reservations.wordingOf reservation) (now (needs .entry)) .number ⌝ }
+    ensures left { λ _. ⌜ now (needs .exit) ≡ toldOf (reservations.wordingOf reservation) (now (needs .entry)) .needs ⌝ }
+{
+    match reservation {
+        Reservation::Refused(number, place) => pack(number, place),
+        Reservation::Needs(entries, bytes, trials) => {
+            if needs.len() < 3 {
+                return pack(8, 0);
+            }
+            needs[0] = entries as u64;
+            needs[1] = bytes as u64;
+            needs[2] = trials as u64;
+            pack(b'r', 0)
+        }
+    }
+}
+
+// The reservation for a text: the entries of one table, the bytes of the sheet buffer and the most trials, at the front of the lent list.
+#[no_mangle]
+pub extern "C" fn nutseason_reserve(text: &[u8], needs: &mut [u64]) -> u64
+    ensures { λ r. ⌜ r ≡ toldOf (reserving.answerFor (now (text .entry))) (now (needs .entry)) .number ⌝ }
+    ensures left { λ _. ⌜ now (needs .exit) ≡ toldOf (reserving.answerFor (now (text .entry))) (now (needs .entry)) .needs ⌝ }
+{
+    reservation_number(reserve(text), needs)
 }

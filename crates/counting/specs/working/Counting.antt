@@ -7,7 +7,7 @@ use lib.ListN.{length, getD}
 use Rattle.meaning.specs.Bits.{first}
 use Rattle.sheets.specs.SheetTexts.{AreBytes, IsMap}
 use Rattle.sheets.specs.working.SheetReading.{mapIn}
-use Rattle.counting.specs.Counts.{below}
+use Rattle.exploration.specs.Members.{below}
 use Rattle.counting.specs.CountLines.{settingLines}
 
 -- A table of 256 counts.

@@ -48,6 +48,10 @@ unfoldable pub takeIn : Transitions → ℕ → ℕ → Seen → Progress
 takeIn M zero s x = through x
 takeIn M (suc n) s x = andThen (cond (M .starts s) (meet M s s x) (through x)) (takeIn M n (s + 1))
 
+-- Nothing is met yet.
+abbrev pub unseen : Transitions → Seen
+unseen M = record { queue = []; parent = replicate (M .size) 0 }
+
 -- The whole search.
 unfoldable pub search : Transitions → Progress
-search M = andThen (takeIn M (M .size) 0 (record { queue = []; parent = replicate (M .size) 0 })) (explore M (M .size) 0)
+search M = andThen (takeIn M (M .size) 0 (unseen M)) (explore M (M .size) 0)

@@ -7,6 +7,7 @@ use mathlib.Core.List.{List, [], _∷_}
 use lib.ListN.{length, getD, take, drop}
 use Rattle.exploration.specs.working.Transitions.{Transitions}
 use Rattle.exploration.specs.working.Exploring.{Seen, progress, meet, takeIn, explore, search}
+use Rattle.exploration.specs.working.Trials.{trialsFrom, trialCount}
 
 -- What the tables say: the first n entries of one are the queue, the first `size` of the other the parents.
 abbrev pub seen : Transitions → List ℕ → ℕ → List ℕ → Seen
@@ -34,10 +35,11 @@ pub record Kept (M : Transitions) (q₀ p₀ q : List ℕ) (n : ℕ) (p : List �
   pub queue-length : length q ≡ length q₀
   pub parent-length : length p ≡ length p₀
 
--- After at most `most` states of the queue were gone through, from place `from` on, where the tables held (q₀, n₀, p₀).
-pub record Explored (M : Transitions) (from most : ℕ) (q₀ : List ℕ) (n₀ : ℕ) (p₀ q : List ℕ) (n : ℕ) (p : List ℕ) (found : Bool) : Type 0 where
+-- After at most `most` states of the queue were gone through, from place `from` on, where the tables held (q₀, n₀, p₀); `made` trials were made.
+pub record Explored (M : Transitions) (from most : ℕ) (q₀ : List ℕ) (n₀ : ℕ) (p₀ q : List ℕ) (n : ℕ) (p : List ℕ) (found : Bool) (made : ℕ) : Type 0 where
   pub kept : Kept M q₀ p₀ q n p
   pub what : progress found (seen M q n p) ≡ explore M most from (seen M q₀ n₀ p₀)
+  pub tried : made ≡ length (trialsFrom M most from (seen M q₀ n₀ p₀))
 
 -- After t was met from s.
 pub record Meets (M : Transitions) (s t : ℕ) (q₀ : List ℕ) (n₀ : ℕ) (p₀ q : List ℕ) (n : ℕ) (p : List ℕ) (found : Bool) : Type 0 where
@@ -49,7 +51,8 @@ pub record Took (M : Transitions) (q₀ p₀ q : List ℕ) (n : ℕ) (p : List �
   pub kept : Kept M q₀ p₀ q n p
   pub what : progress found (seen M q n p) ≡ takeIn M (M .size) 0 (seen M q₀ 0 p₀)
 
--- After the whole search, on tables that held anything before.
-pub record Ran (M : Transitions) (q₀ p₀ q : List ℕ) (n : ℕ) (p : List ℕ) (found : Bool) : Type 0 where
+-- After the whole search, on tables that held anything before; it made `made` trials.
+pub record Ran (M : Transitions) (q₀ p₀ q : List ℕ) (n : ℕ) (p : List ℕ) (found : Bool) (made : ℕ) : Type 0 where
   pub kept : Kept M q₀ p₀ q n p
   pub what : progress found (seen M q n p) ≡ search M
+  pub tried : made ≡ trialCount M

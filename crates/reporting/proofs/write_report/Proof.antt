@@ -25,7 +25,7 @@ map-told : (c : tie.After-found2) → let start : tie.Start = search in let afte
 map-told c =
     let after-search : tie.After-search = search in
     let s = after-search .search in
-    told after-search .safely _ (s .last .1 .1 .1 .0) (sym (c .found2 .given .1) ∙ s .ensures .0) (s .ensures .1 .0 .2)
+    told after-search .safely _ _ (s .last .1 .1 .1 .0) (sym (c .found2 .given .1) ∙ s .ensures .0) (s .ensures .1 .0 .2)
 
 trace-told : (c : tie.After-found3) → let start : tie.Start = search in let after-search : tie.After-search = search in
     TraceTold (start .args .text .now) (c .found3 .given .0 .0) (after-search .search .last .1 .1 .1 .0)

@@ -2,8 +2,6 @@
 -- Assumes nothing.
 use Rattle.search.proofs.SearchesLeft.{first-short, second-short, sheet-short, room-for}
 use Rattle.evaluation.proofs.Powers.{pow-small}
-use native.Mathlib.Omega.{arith}
-use Prim.Native.Nat.{_+_}
 use Rattle.sheets.specs.working.FlatSystem.{systemIn}
 use borrow.Author.Needs.{needs}
 use Rattle.search.proofs.search_code.Statement.{statement}
@@ -23,36 +21,21 @@ returns-2 c =
     let after-power : tie.After-power = search in
     second-short (systemIn _ (start .args .plan)) _ (after-power .power .ensures) _ _ _ (c .before .if1 .left) (c .if2 .taken)
 
-sub-if3 : tie.Need-sub-if3
-sub-if3 c = search needs
-
-mul-if3 : tie.Need-mul-if3
-mul-if3 c =
+sheet-room-requires : tie.Need-sheet-room-requires
+sheet-room-requires c κs =
     let after-power : tie.After-power = search in
     let start : tie.Start = search in
-    omega (
-      arith,
-      pow-small (start .args .plan .bits) (after-power .power .result) (start .pre .fewBits)
-          (after-power .power .ensures),
-    )
-
-add-if3 : tie.Need-add-if3
-add-if3 c =
-    let after-power : tie.After-power = search in
-    let start : tie.Start = search in
-    omega (
-      arith,
-      pow-small (start .args .plan .bits) (after-power .power .result) (start .pre .fewBits)
-          (after-power .power .ensures),
-    )
+    pow-small (start .args .plan .bits) (after-power .power .result) (start .pre .fewBits) (after-power .power .ensures)
 
 returns-3 : tie.Need-returns-3
 returns-3 c =
     let start : tie.Start = search in
     let else1 : tie.Else1 = search in
+    let else2 : tie.Else2 = search in
     let after-power : tie.After-power = search in
-    sheet-short (systemIn _ (start .args .plan)) _ (after-power .power .ensures) _ _ _ (else1 .if1 .left) (c .before .if2 .left)
-    (c .if3 .taken)
+    let after-sheet-room : tie.After-sheet-room = search in
+    sheet-short (systemIn _ (start .args .plan)) _ (after-power .power .ensures) _ _ _ (else1 .if1 .left) (else2 .if2 .left)
+    (rw (after-sheet-room .sheet-room .ensures) at (c .if3 .taken))
 
 search-roomy-requires : tie.Need-search-roomy-requires
 search-roomy-requires c κs = search needs
@@ -71,11 +54,12 @@ returns-4 c =
     let start : tie.Start = search in
     let after-search-roomy : tie.After-search-roomy = search in
     let else3 : tie.Else3 = search in
+    let after-sheet-room : tie.After-sheet-room = search in
     let else2 : tie.Else2 = search in
     let else1 : tie.Else1 = search in
     let after-power : tie.After-power = search in
     room-for (systemIn _ (start .args .plan)) _ (after-power .power .ensures) _ _ _ (else1 .if1 .left) (else2 .if2 .left)
-    (else3 .if3 .left) _ _ _ _ (after-search-roomy .search-roomy .ensures)
+    (rw (after-sheet-room .sheet-room .ensures) at (else3 .if3 .left)) _ _ _ _ (after-search-roomy .search-roomy .ensures)
 
 pub search-code-spec : {M : Type 1} → statement M
 search-code-spec =
@@ -84,9 +68,7 @@ search-code-spec =
     power-requires
     returns
     returns-2
-    sub-if3
-    mul-if3
-    add-if3
+    sheet-room-requires
     returns-3
     search-roomy-requires
     same-length

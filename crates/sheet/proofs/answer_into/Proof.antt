@@ -5,26 +5,17 @@ use Rattle.streams.proofs.Reading.{came}
 use Rattle.sheet.proofs.answer_into.Statement.{statement}
 use Rattle.sheet.proofs.answer_into.Tie as tie
 
-read-file-requires : tie.Need-read-file-requires
-read-file-requires c κs = search needs
+slice-aggregate-read-in : tie.Need-slice-aggregate-read-in
+slice-aggregate-read-in c = search needs
+
+read-in-requires : tie.Need-read-in-requires
+read-in-requires c κs = search needs
 
 enum-known-got : tie.Need-enum-known-got
 enum-known-got c = search needs
 
 enum-told : tie.Need-enum-told
 enum-told c = search needs
-
-slice-aggregate-write-all : tie.Need-slice-aggregate-write-all
-slice-aggregate-write-all c = search needs
-
-write-all-requires : tie.Need-write-all-requires
-write-all-requires c κs = search needs
-
-slice-aggregate-fail : tie.Need-slice-aggregate-fail
-slice-aggregate-fail c = search needs
-
-fail-requires : tie.Need-fail-requires
-fail-requires c κs = search needs
 
 same-length : tie.Need-same-length
 same-length c = search needs
@@ -34,15 +25,15 @@ returns c = search needs
 
 slice-reshare-prefix-answer : tie.Need-slice-reshare-prefix-answer
 slice-reshare-prefix-answer c =
-    let after-read-file : tie.After-read-file = search in
-    let r = after-read-file .read-file in
+    let after-read-in : tie.After-read-in = search in
+    let r = after-read-in .read-in in
     came (r .result) (r .last .1 .0) (c .before .got .given .0 .0) (r .ensures) (c .before .got .given .1) .0
 
 slice-aggregate-answer : tie.Need-slice-aggregate-answer
 slice-aggregate-answer c =
     let after-got : tie.After-got = search in
-    let after-read-file : tie.After-read-file = search in
-    let r = after-read-file .read-file in
+    let after-read-in : tie.After-read-in = search in
+    let r = after-read-in .read-in in
     came (r .result) (r .last .1 .0) (after-got .got .given .0 .0) (r .ensures) (after-got .got .given .1) .1
 
 answer-requires : tie.Need-answer-requires
@@ -58,13 +49,10 @@ pub answer-into-spec : {M : Type 1} → statement M
 answer-into-spec =
     tie.close
     (tie.spec
-    read-file-requires
+    slice-aggregate-read-in
+    read-in-requires
     enum-known-got
     enum-told
-    slice-aggregate-write-all
-    write-all-requires
-    slice-aggregate-fail
-    fail-requires
     same-length
     returns
     slice-reshare-prefix-answer

@@ -11,6 +11,7 @@ use Rattle.notation.specs.working.Machine as N
 use Rattle.notation.specs.working.Answer.{answer}
 use Rattle.sheets.specs.Sheets.{System, size, sheetRoom, systemOf, sheetBytes}
 use Rattle.meaning.specs.Evidence.{Verdict, safeBy, voidBy, unsafeBy, evidenceOf}
+use Rattle.exploration.specs.working.Trials.{trialCount}
 use Rattle.exploration.specs.working.Found.{foundIn, transitionsOf}
 use Rattle.verdicts.specs.declared.finding.Finding.{Finding}
 use Rattle.verdicts.specs.declared.finding.Finding.the-variants.{Safe, Void, Unsafe, Refused}
@@ -20,17 +21,17 @@ use Rattle.verdicts.specs.Left.{Left, zeroed}
 unfoldable pub roomy : System → List ℕ → List ℕ → List ℕ → Bool
 roomy M first second sheet = leb (size M) (length first) && (leb (size M) (length second) && leb (sheetRoom M) (length sheet))
 
--- The answer that gives a verdict, whose sheet has so many bytes.
-unfoldable pub verdictOf : Verdict → ℕ → Finding
-verdictOf (safeBy map) n = Safe n
-verdictOf (voidBy map) n = Void n
-verdictOf (unsafeBy s xs) n = Unsafe n
+-- The answer that gives a verdict, whose sheet has so many bytes, after so many trials.
+unfoldable pub verdictOf : Verdict → ℕ → ℕ → Finding
+verdictOf (safeBy map) n t = Safe n t
+verdictOf (voidBy map) n t = Void n
+verdictOf (unsafeBy s xs) n t = Unsafe n
 
--- Where a verdict was found: the bytes of its sheet at the buffer's front, and both tables cleared.
-abbrev pub leftWith : System → Verdict → List ℕ → List ℕ → List ℕ → Left
-leftWith M x first second sheet =
+-- Where a verdict was found after so many trials: the bytes of its sheet at the buffer's front, and both tables cleared.
+abbrev pub leftWith : System → Verdict → ℕ → List ℕ → List ℕ → List ℕ → Left
+leftWith M x t first second sheet =
     record {
-      answer = verdictOf x (length (sheetBytes M (evidenceOf x)));
+      answer = verdictOf x (length (sheetBytes M (evidenceOf x))) t;
       first = zeroed (size M) first;
       second = zeroed (size M) second;
       sheet = sets sheet 0 (sheetBytes M (evidenceOf x));
@@ -40,9 +41,9 @@ leftWith M x first second sheet =
 abbrev pub leftAlone : ℕ → ℕ → List ℕ → List ℕ → List ℕ → Left
 leftAlone n p first second sheet = record { answer = Refused n p; first = first; second = second; sheet = sheet }
 
--- For a system, where there is room.
+-- For a system, where there is room: what the search finds, with the trials that it makes.
 abbrev pub foundBy : System → List ℕ → List ℕ → List ℕ → Left
-foundBy M first second sheet = leftWith M (foundIn (transitionsOf M)) first second sheet
+foundBy M first second sheet = leftWith M (foundIn (transitionsOf M)) (trialCount (transitionsOf M)) first second sheet
 
 -- For a system.
 unfoldable pub searchFor : System → List ℕ → List ℕ → List ℕ → Left

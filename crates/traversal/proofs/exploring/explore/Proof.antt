@@ -1,11 +1,10 @@
 -- `explore` meets its contract: what is left to try, from what the tables hold, goes as all of it went from where each loop began.
 -- Assumes nothing.
-use Prim.Native.Nat.{_+_, _-_, _^_, _≤_, _<_}
+use Prim.Native.Nat.{_+_, _-_, _*_, _^_, _≤_, _<_}
 use mathlib.Core.Path.{_≡_, refl, sym, _∙_}
 use mathlib.Core.Bool.{false}
 use mathlib.Core.Logic.{⊎-elim}
 use native.Mathlib.Omega.{arith}
-use borrow.Author.Needs.{needs}
 use lib.Seq.{slice}
 use lib.ListN.{getD, set}
 use Rattle.evaluation.specs.working.CodeSystem.{nextIn}
@@ -21,31 +20,32 @@ use Rattle.traversal.proofs.exploring.explore.Statement.{statement}
 use Rattle.traversal.proofs.exploring.explore.Tie as tie
 
 abbrev Inv-words : tie.InvT-words
-Inv-words ops plan queue₀ parent₀ taken start most commands bits count₀ found₀ head left s state k code words rows₀ w₀ queue parent count found rows w =
+Inv-words ops plan queue₀ parent₀ taken start most commands bits count₀ found₀ trials₀ head left s state k code words rows₀ w₀ queue parent count found trials rows w =
     (w ≤ words) × (found ≡ found₀) × Tried (transitionsIn ops plan) s (wordsFrom k 0 words) queue₀
-    count₀ parent₀ (wordsFrom k w (words - w)) queue count parent × B.Ready (slice (code .from) (code .to) ops) s bits w rows
+    count₀ parent₀ 0 (wordsFrom k w (words - w)) queue count parent w × B.Ready (slice (code .from) (code .to) ops) s bits w rows
+    × (trials ≡ trials₀)
 
 abbrev μ-words : tie.MeasureT-words
-μ-words ops plan queue₀ parent₀ taken start most commands bits count₀ found₀ head left s state k code words rows₀ w₀ queue parent count found rows w =
+μ-words ops plan queue₀ parent₀ taken start most commands bits count₀ found₀ trials₀ head left s state k code words rows₀ w₀ queue parent count found trials rows w =
     words - w
 
 abbrev Inv-commands : tie.InvT-commands
-Inv-commands ops plan queue₀ parent₀ taken start most commands bits count₀ found₀ head left s state k₀ queue parent count found k =
+Inv-commands ops plan queue₀ parent₀ taken start most commands bits count₀ found₀ trials₀ head left s state k₀ queue parent count found trials k =
     (k ≤ commands) × (found ≡ found₀) × Tried (transitionsIn ops plan) s
-    (moves (transitionsIn ops plan)) queue₀ count₀ parent₀
-    (movesFrom (transitionsIn ops plan) k (commands - k)) queue count parent
+    (moves (transitionsIn ops plan)) queue₀ count₀ parent₀ trials₀
+    (movesFrom (transitionsIn ops plan) k (commands - k)) queue count parent trials × (trials ≤ trials₀ + 256 * k)
 
 abbrev μ-commands : tie.MeasureT-commands
-μ-commands ops plan queue₀ parent₀ taken start most commands bits count₀ found₀ head left s state k₀ queue parent count found k =
+μ-commands ops plan queue₀ parent₀ taken start most commands bits count₀ found₀ trials₀ head left s state k₀ queue parent count found trials k =
     commands - k
 
 abbrev Inv-search : tie.InvT-search
-Inv-search ops plan queue₀ parent₀ taken start most commands bits count₀ found₀ head₀ left₀ queue parent count found head left =
+Inv-search ops plan queue₀ parent₀ taken start most commands bits count₀ found₀ trials₀ head₀ left₀ queue parent count found trials head left =
     (found ≡ false)
-    × Gone (transitionsIn ops plan) head₀ left₀ queue₀ count₀ parent₀ head left queue count parent
+    × Gone (transitionsIn ops plan) head₀ left₀ queue₀ count₀ parent₀ head left queue count parent trials × (trials + 4096 * head₀ ≤ 4096 * head)
 
 abbrev μ-search : tie.MeasureT-search
-μ-search ops plan queue₀ parent₀ taken start most commands bits count₀ found₀ head₀ left₀ queue parent count found head left =
+μ-search ops plan queue₀ parent₀ taken start most commands bits count₀ found₀ trials₀ head₀ left₀ queue parent count found trials head left =
     left
 
 -- The places that the answers name.
@@ -139,8 +139,8 @@ broken : (c : Then3) →
     let s = getD (old .queue) (old .head) 0 in
     let new = at-words .words in
     let t = after-pick .pick .result in
-    Broke M s (moves M) (old .queue) (old .count) (old .parent) (set (new .queue) (new .count) t) (new .count + 1)
-    (set (new .parent) t (s + 1))
+    Broke M s (moves M) (old .queue) (old .count) (old .parent) (old .trials) (set (new .queue) (new .count) t) (new .count + 1)
+    (set (new .parent) t (s + 1)) (new .trials + (new .w + 1))
 broken c =
     let then2 : Then2 = search in
     let after-pick : After-pick = search in
@@ -149,15 +149,16 @@ broken c =
     let after-word-count : After-word-count = search in
     let in-commands : In-commands = search in
     let at-commands : At-commands = search in
-    command-broke _ _ _ (after-word-count .word-count .ensures .0)
+    rw (at-words .words .inv .4)
+    (command-broke _ _ _ (after-word-count .word-count .ensures .0)
     (in-commands .commands-test .taken) (at-commands .commands .inv .2)
     (tried-broke _ _ _ (at-words .words .inv .2) (in-words .words-test .taken) _ (reached after-pick)
-    (t-below after-pick) (then2 .if2 .taken) (sym (c .before .breaks .ensures) ∙ c .if3 .taken))
+    (t-below after-pick) (then2 .if2 .taken) (sym (c .before .breaks .ensures) ∙ c .if3 .taken)))
 
 search-holds : tie.Need-search-holds Inv-words μ-words Inv-commands μ-commands Inv-search μ-search
 search-holds c =
     let start : Start = search in
-    (refl, gone-refl _ _ _ _ _ _ (start .pre .1))
+    (refl, gone-refl _ _ _ _ _ _ (start .pre .1), omega arith)
 
 mul-s : tie.Need-mul-s Inv-words μ-words Inv-commands μ-commands Inv-search μ-search
 mul-s c = omega arith
@@ -177,7 +178,7 @@ commands-holds :
     tie.Need-commands-holds Inv-words μ-words Inv-commands μ-commands Inv-search μ-search
 commands-holds c =
     let at-search : At-search = search in
-    (omega arith, refl, commands-start _ _ _ _ _ (at-search .search .inv .1 .kept .ready))
+    (omega arith, refl, commands-start _ _ _ _ _ _ (at-search .search .inv .1 .kept .ready), omega arith)
 
 add-segment : tie.Need-add-segment Inv-words μ-words Inv-commands μ-commands Inv-search μ-search
 add-segment c =
@@ -203,7 +204,7 @@ first-rows-requires c κs =
 words-holds : tie.Need-words-holds Inv-words μ-words Inv-commands μ-commands Inv-search μ-search
 words-holds c =
     let at-commands : At-commands = search in
-    (omega arith, refl, words-start _ _ (at-commands .commands .inv .2 .kept .ready), B.ready-first _ _ _ _ (c .first-rows .ensures))
+    (omega arith, refl, words-start _ _ (at-commands .commands .inv .2 .kept .ready), B.ready-first _ _ _ _ (c .first-rows .ensures), refl)
 
 cast-word : tie.Need-cast-word Inv-words μ-words Inv-commands μ-commands Inv-search μ-search
 cast-word c =
@@ -297,6 +298,38 @@ breaks-requires c κs =
       start .pre .0,
     )
 
+-- No more than 4096 trials are made at a state, and no more than 4096 states are gone through.
+few-trials : (c : In-commands) →
+    let at-commands : At-commands = search in
+    at-commands .commands .trials ≤ 16777216
+few-trials c =
+    let start : Start = search in
+    let at-commands : At-commands = search in
+    let at-search : At-search = search in
+    let else1 : Else1 = search in
+    let bits = start .args .plan .bits in
+    omega (
+      arith,
+      at-commands .commands .inv .3,
+      c .commands-test .taken,
+      at-search .search .inv .2,
+      start .pre .0 .fewCommands,
+      else1 .if1 .left,
+      at-search .search .inv .1 .kept .few,
+      pow-small bits (2 ^ bits) (start .pre .0 .fewBits) refl,
+    )
+
+add-trials : tie.Need-add-trials Inv-words μ-words Inv-commands μ-commands Inv-search μ-search
+add-trials c = omega arith
+
+add-trials-2 : tie.Need-add-trials-2 Inv-words μ-words Inv-commands μ-commands Inv-search μ-search
+add-trials-2 c =
+    let at-words : At-words = search in
+    let in-words : In-words = search in
+    let after-word-count : After-word-count = search in
+    let in-commands : In-commands = search in
+    omega (arith, few-trials in-commands, at-words .words .inv .4, in-words .words-test .taken, after-word-count .word-count .ensures .1)
+
 add-w : tie.Need-add-w Inv-words μ-words Inv-commands μ-commands Inv-search μ-search
 add-w c = omega arith
 
@@ -320,7 +353,14 @@ words-again c =
           (t-below after-pick) (w .0 .left)))
           (c .if2 .came),
       B.ready-next _ _ _ _ _ _ (after-fill .fill .ensures) (at-words .words .inv .3),
+      at-words .words .inv .4,
     )
+
+add-trials-3 : tie.Need-add-trials-3 Inv-words μ-words Inv-commands μ-commands Inv-search μ-search
+add-trials-3 c =
+    let after-word-count : After-word-count = search in
+    let in-commands : In-commands = search in
+    omega (arith, few-trials in-commands, c .before .words .inv .4, after-word-count .word-count .ensures .1)
 
 add-k : tie.Need-add-k Inv-words μ-words Inv-commands μ-commands Inv-search μ-search
 add-k c = omega arith
@@ -337,10 +377,12 @@ commands-again c =
     let at-commands : At-commands = search in (
       omega arith,
       c .before .words .inv .1 ∙ at-commands .commands .inv .1,
-      command-done _ _ _ _
+      rw (c .before .words .inv .4)
+          (command-done _ _ _ _
           (after-word-count .word-count .ensures .0)
           (in-commands .commands-test .taken) (c .before .words .inv .0) (c .words-test .left)
-          (at-commands .commands .inv .2) (c .before .words .inv .2),
+          (at-commands .commands .inv .2) (c .before .words .inv .2)),
+      omega (arith, c .before .words .inv .4, at-commands .commands .inv .3, after-word-count .word-count .ensures .1),
     )
 
 add-head : tie.Need-add-head Inv-words μ-words Inv-commands μ-commands Inv-search μ-search
@@ -363,12 +405,14 @@ search-less c =
 
 search-again : tie.Need-search-again Inv-words μ-words Inv-commands μ-commands Inv-search μ-search
 search-again c =
+    let start : Start = search in
     let else1 : Else1 = search in
     let in-search : In-search = search in
     let at-search : At-search = search in (
       c .before .commands .inv .1 ∙ at-search .search .inv .0,
       gone-next (at-search .search .inv .1) (in-search .search-test .taken) (else1 .if1 .left)
           (commands-done _ _ (c .before .commands .inv .0) (c .commands-test .left) (c .before .commands .inv .2)),
+      omega (arith, c .before .commands .inv .0, c .before .commands .inv .3, at-search .search .inv .2, start .pre .0 .fewCommands),
     )
 
 same-length : tie.Need-same-length Inv-words μ-words Inv-commands μ-commands Inv-search μ-search
@@ -452,9 +496,12 @@ explore-spec =
     slice-write-queue
     add-count
     breaks-requires
+    add-trials
+    add-trials-2
     add-w
     words-less
     words-again
+    add-trials-3
     add-k
     commands-less
     commands-again

@@ -30,13 +30,13 @@ returns c =
     let after-clear : tie.After-clear = search in
     let start : tie.Start = search in
     run-broke (transitionsIn _ (start .args .plan)) _ (start .pre .1) _ _ _ (after-clear .clear .ensures) (start .pre .2)
-    (start .pre .3) (after-take-in .take-in .ensures) (c .if1 .taken)
+    (start .pre .3) (after-take-in .take-in .ensures .0) (c .if1 .taken) _ (after-take-in .take-in .ensures .1)
 
 explore-requires : tie.Need-explore-requires
 explore-requires c κs =
     let after-take-in : tie.After-take-in = search in
     let start : tie.Start = search in
-    (start .pre .0, after-take-in .take-in .ensures .kept .ready)
+    (start .pre .0, after-take-in .take-in .ensures .0 .kept .ready)
 
 same-length-3 : tie.Need-same-length-3
 same-length-3 c = search needs
@@ -52,7 +52,7 @@ returns-2 c =
     let after-clear : tie.After-clear = search in
     let start : tie.Start = search in
     run-on (transitionsIn _ (start .args .plan)) _ (start .pre .1) _ _ _ (after-clear .clear .ensures) (start .pre .2)
-    (start .pre .3) (after-take-in .take-in .ensures) (else1 .if1 .left) (after-explore .explore .ensures)
+    (start .pre .3) (after-take-in .take-in .ensures .0) (else1 .if1 .left) (after-explore .explore .ensures)
 
 pub run-spec : {M : Type 1} → statement M
 run-spec =

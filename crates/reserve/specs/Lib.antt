@@ -1,0 +1,2 @@
+-- The lines of a reservation.
+pub mod Lines

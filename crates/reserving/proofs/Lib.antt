@@ -1,0 +1,3 @@
+-- Laws of reservations, by subject.
+pub mod Reserved
+pub mod ReserveTexts
