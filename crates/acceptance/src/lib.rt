@@ -1,4 +1,6 @@
 // The acceptance test: whether a sheet is evidence for the model that a text says.
+pub mod plans;
+
 ghost use mathlib.Core.Path.{_≡_};
 ghost use Rattle.evaluation.specs.working.CodeSystem.{Sound};
 ghost use Rattle.sheets.specs.SheetTexts.{AreBytes};
@@ -10,8 +12,8 @@ use conditions::outcome::Outcome;
 use conditions::traces::test_trace;
 use evaluation::numbers::power;
 use evaluation::plan::Plan;
+use plans::read_plan;
 use reader::Answer;
-use reader::read_into;
 use sheets::fields::HEADER;
 use sheets::fields::bytes_known;
 use sheets::fields::map_length;
@@ -37,25 +39,11 @@ pub fn test(text: &[u8], sheet: &[u8]) -> Outcome
     ensures bytes { λ _. ⌜ AreBytes (now (sheet .entry)) ⌝ }
 {
     bytes_known(sheet);
-    let mut names = [0u16; 56];
     let mut ops = [0u16; 2048];
-    let mut ends = [0u16; 20];
-    let mut stars = [0u16; 16];
-    let told = read_into(text, &mut names, &mut ops, &mut ends, &mut stars);
+    let told = read_plan(text, &mut ops);
     let answer = told.answer;
     match answer {
         Answer::Refused(n, p) => Outcome::Refused(n, p),
-        Answer::Read => {
-            let bits = told.shared + told.row;
-            let plan = Plan {
-                ends: ends,
-                stars: stars,
-                shared: told.shared,
-                row: told.row,
-                commands: told.commands,
-                bits: bits,
-            };
-            test_sheet(sheet, &ops, plan)
-        }
+        Answer::Read => test_sheet(sheet, &ops, told.plan),
     }
 }

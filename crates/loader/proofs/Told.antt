@@ -2,7 +2,7 @@
 -- Assumes nothing.
 use mathlib.Core.Path.{_≡_, refl, sym, ap, _∙_, subst}
 use mathlib.Core.Logic.{_⊎_, inl, inr}
-use mathlib.Core.List.{List, []}
+use mathlib.Core.List.{List}
 use Prim.Native.Nat.{ℕ, _+_, _*_, _/_, _%_, _≤_}
 use native.Mathlib.Omega.{arith}
 use lib.ListN.{length}
@@ -24,7 +24,7 @@ use Rattle.conditions.specs.declared.outcome.Outcome.the-variants as O
 use Rattle.conditions.specs.Outcomes.{wordingOf}
 use Rattle.acceptance.specs.Promises.{Bounded}
 use Rattle.acceptance.specs.working.Test.{testOf}
-use Rattle.acceptance.proofs.TestTexts.{was-read}
+use Rattle.acceptance.proofs.TestTexts.{read-into, read-sound}
 use Rattle.acceptance.proofs.Places.{answers-bounded}
 use Rattle.packing.specs.Packed.{packed, mostAbove}
 use Rattle.packing.proofs.Packed.{low-back, above-back}
@@ -109,7 +109,7 @@ module _ (text : List ℕ) (r : Reading) (e : r ≡ readingOf text) where
   answered a n h f = f ∙ ap (λ (x : Answer). readNumber (R.wordingIn x (r .code))) h ∙ ap (λ (x : Reading). readNumber (R.wordingOf x)) e
 
   pub counts-fit : Read ≡ r .answer → (r .code .shared + r .code .row ≤ 12) × (r .code .commands ≤ 16)
-  counts-fit h = let f = was-read text [] r e h .flat in (f .sound .fewBits, f .sound .fewCommands)
+  counts-fit h = let s = read-sound text (read-into text r e) h in (s .fewBits, s .fewCommands)
 
 -- The number of an outcome that is this one.
 pub number-of : (o told : Outcome) (r x : ℕ) → o ≡ told → r ≡ x → x ≡ testNumber (wordingOf told) → r ≡ testNumber (wordingOf o)

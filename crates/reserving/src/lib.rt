@@ -3,11 +3,11 @@ ghost use mathlib.Core.Path.{_≡_};
 ghost use Prim.Native.Nat.{_≤_};
 ghost use Rattle.evaluation.specs.working.CodeSystem.{Sound};
 ghost use Rattle.reserving.specs.working.Reserving.{allWords, needsIn, reserveOf};
+use acceptance::plans::read_plan;
 use evaluation::numbers::power;
 use evaluation::one_row::word_count;
 use evaluation::plan::Plan;
 use reader::Answer;
-use reader::read_into;
 use sheets::fields::sheet_room;
 
 // The entries of one table, the bytes of the sheet buffer and the most trials; or the text is refused: the refusal's number and place.
@@ -44,25 +44,11 @@ fn needs_of(plan: Plan) -> Reservation
 pub fn reserve(text: &[u8]) -> Reservation
     ensures { λ r. ⌜ r ≡ reserveOf (now (text .entry)) ⌝ }
 {
-    let mut names = [0u16; 56];
     let mut ops = [0u16; 2048];
-    let mut ends = [0u16; 20];
-    let mut stars = [0u16; 16];
-    let told = read_into(text, &mut names, &mut ops, &mut ends, &mut stars);
+    let told = read_plan(text, &mut ops);
     let answer = told.answer;
     match answer {
         Answer::Refused(n, p) => Reservation::Refused(n, p),
-        Answer::Read => {
-            let bits = told.shared + told.row;
-            let plan = Plan {
-                ends: ends,
-                stars: stars,
-                shared: told.shared,
-                row: told.row,
-                commands: told.commands,
-                bits: bits,
-            };
-            needs_of(plan)
-        }
+        Answer::Read => needs_of(told.plan),
     }
 }

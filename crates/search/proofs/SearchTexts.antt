@@ -12,16 +12,17 @@ use Rattle.notation.specs.Layout.{layoutOf}
 use Rattle.notation.specs.Regular.{Regular}
 use Rattle.notation.specs.Texts.{modelOf, namesOf}
 use Rattle.notation.specs.working.Machine as N
+use Rattle.reader.specs.declared.Answer.{Answer}
 use Rattle.reader.specs.declared.Answer.the-variants as A
 use Rattle.reader.specs.declared.Code.{Code}
-use Rattle.reader.specs.declared.Reading.{Reading}
 use Rattle.reader.specs.Read.{filled, codeOf, readingOf}
-use Rattle.reader.proofs.ReadTexts.{read-as, refused-as, regular}
+use Rattle.reader.proofs.ReadTexts.{regular}
+use Rattle.evaluation.specs.declared.plan.Plan.{Plan}
 use Rattle.evaluation.specs.working.CodeSystem.{Sound}
 use Rattle.sheets.specs.Sheets.{System, size, systemOf, headerBytes, sheetBytes}
 use Rattle.sheets.specs.working.FlatSystem.{systemIn}
-use Rattle.acceptance.specs.working.Test.{planOf}
-use Rattle.acceptance.proofs.TestTexts.{counts, star-count, flat-code, flat}
+use Rattle.acceptance.specs.working.Test.{planOf, ReadInto}
+use Rattle.acceptance.proofs.TestTexts.{counts, star-count, flat-code, flat, read-of, refused-of}
 use Rattle.meaning.specs.Evidence.{Verdict, safeBy, voidBy, unsafeBy, evidenceOf}
 use Rattle.exploration.specs.Trials.{trialsOf}
 use Rattle.exploration.specs.working.Trials.{trialCount}
@@ -107,22 +108,27 @@ module _ (m : Model) (g : Regular m) (ns : List Name) where
   flat-searchable = let f = flat m g ns in record { sound = f .sound; same = search-same }
 
 -- The text was read, and the code is that of its model; or it was refused.
-module _ (text : List ℕ) (r : Reading) (e : r ≡ readingOf text) where
-  pub was-read : A.Read ≡ r .answer → Searchable (r .code) (searchOf text)
+module _ (text : List ℕ) {told : Answer} {plan : Plan} {ops : List ℕ} (P : ReadInto text told plan ops) where
+  was-read : A.Read ≡ told → Searchable (readingOf text .code) (searchOf text)
   unfolding searchIn searchOf
   was-read h =
-      let R = read-as text r e h in
+      let R = read-of text P h in
       let m = modelOf (R .tree) in
       let s = subst (λ (c : Code). Searchable c (searchFor (systemOf m))) (sym (R .code)) (flat-searchable m (regular R) (namesOf (R .tree))) in
       record { sound = s .sound; same = λ a b o. s .same a b o ∙ sym (ap (λ (u : N.Outcome). searchIn u a b o) (R .told)) }
 
   -- What is left for a text that was read is what is left over its code, and for one that was refused every buffer is as it was.
-  pub search-read : A.Read ≡ r .answer → (a b c : List ℕ) (f : Finding) (a₁ b₁ c₁ : List ℕ)
-      → Ends (searchFor (systemIn (r .code .ops) (planOf (r .code))) a b c) f a₁ b₁ c₁
+  pub search-read : A.Read ≡ told → (a b c : List ℕ) (f : Finding) (a₁ b₁ c₁ : List ℕ)
+      → Ends (searchFor (systemIn ops plan) a b c) f a₁ b₁ c₁
       → Ends (searchOf text a b c) f a₁ b₁ c₁
-  search-read h a b c f a₁ b₁ c₁ l = subst (λ (L : Left). Ends L f a₁ b₁ c₁) (was-read h .same a b c) l
+  search-read h a b c f a₁ b₁ c₁ l =
+      subst (λ (L : Left). Ends L f a₁ b₁ c₁)
+      (ap (λ (x : List ℕ). searchFor (systemIn x plan) a b c) (P .coded)
+      ∙ ap (λ (x : Plan). searchFor (systemIn (readingOf text .code .ops) x) a b c) (P .planned)
+      ∙ was-read h .same a b c)
+      l
 
-  pub search-refused : (n i : ℕ) → A.Refused n i ≡ r .answer → (a b c : List ℕ) → Ends (searchOf text a b c) (Refused n i) a b c
+  pub search-refused : (n i : ℕ) → A.Refused n i ≡ told → (a b c : List ℕ) → Ends (searchOf text a b c) (Refused n i) a b c
   unfolding searchIn searchOf
   search-refused n i h a b c =
-      subst (λ (L : Left). Ends L (Refused n i) a b c) (sym (ap (λ (o : N.Outcome). searchIn o a b c) (refused-as text r e n i h))) (refl, (refl, refl, refl))
+      subst (λ (L : Left). Ends L (Refused n i) a b c) (sym (ap (λ (o : N.Outcome). searchIn o a b c) (refused-of text P n i h))) (refl, (refl, refl, refl))

@@ -8,10 +8,10 @@ ghost use Rattle.sheets.specs.working.FlatSystem.{systemIn};
 ghost use Rattle.verdicts.specs.Left.{Leaves};
 ghost use Rattle.verdicts.specs.working.Searching.{foundBy, searchFor, searchOf};
 ghost use Rattle.search.specs.working.Ends.{EndsWith};
+use acceptance::plans::read_plan;
 use evaluation::numbers::power;
 use evaluation::plan::Plan;
 use reader::Answer;
-use reader::read_into;
 use sheets::fields::HEADER;
 use sheets::fields::bytes_known;
 use sheets::fields::map_length;
@@ -86,26 +86,12 @@ fn search_code(
 fn search_text(text: &[u8], first: &mut [u16], second: &mut [u16], sheet: &mut [u8]) -> Finding
     ensures { λ r. ⌜ EndsWith (searchOf (now (text .entry))) r first second sheet ⌝ }
 {
-    let mut names = [0u16; 56];
     let mut ops = [0u16; 2048];
-    let mut ends = [0u16; 20];
-    let mut stars = [0u16; 16];
-    let told = read_into(text, &mut names, &mut ops, &mut ends, &mut stars);
+    let told = read_plan(text, &mut ops);
     let answer = told.answer;
     match answer {
         Answer::Refused(n, p) => Finding::Refused(n, p),
-        Answer::Read => {
-            let bits = told.shared + told.row;
-            let plan = Plan {
-                ends: ends,
-                stars: stars,
-                shared: told.shared,
-                row: told.row,
-                commands: told.commands,
-                bits: bits,
-            };
-            search_code(&ops, plan, first, second, sheet)
-        }
+        Answer::Read => search_code(&ops, told.plan, first, second, sheet),
     }
 }
 

@@ -1,14 +1,14 @@
 -- `search_text` meets its contract: the text's refusal, or what is left over the flat form that was read.
 -- Assumes nothing.
-use Rattle.search.proofs.SearchTexts.{was-read, search-read, search-refused}
-use native.Mathlib.Omega.{arith}
 use mathlib.Core.Path.{refl, sym}
 use borrow.Author.Needs.{needs}
+use Rattle.acceptance.proofs.TestTexts.{read-sound}
+use Rattle.search.proofs.SearchTexts.{search-read, search-refused}
 use Rattle.search.proofs.search_text.Statement.{statement}
 use Rattle.search.proofs.search_text.Tie as tie
 
-read-into-requires : tie.Need-read-into-requires
-read-into-requires c κs = refl
+read-plan-requires : tie.Need-read-plan-requires
+read-plan-requires c κs = refl
 
 enum-known-answer : tie.Need-enum-known-answer
 enum-known-answer c = search needs
@@ -16,22 +16,16 @@ enum-known-answer c = search needs
 enum-told : tie.Need-enum-told
 enum-told c = search needs
 
-add-bits : tie.Need-add-bits
-add-bits c =
-    let after-enum-told : tie.After-enum-told = search in
-    let after-read-into : tie.After-read-into = search in
-    omega (arith, was-read _ _ (after-read-into .read-into .ensures) (sym (after-enum-told .enum-told .given .1)) .sound .fewBits)
-
 search-code-requires : tie.Need-search-code-requires
 search-code-requires c κs =
     let after-enum-told : tie.After-enum-told = search in
-    let after-read-into : tie.After-read-into = search in
-    was-read _ _ (after-read-into .read-into .ensures) (sym (after-enum-told .enum-told .given .1)) .sound
+    let after-read-plan : tie.After-read-plan = search in
+    read-sound _ (after-read-plan .read-plan .ensures) (sym (after-enum-told .enum-told .given .1))
 
 returns : tie.Need-returns
 returns c =
-    let after-read-into : tie.After-read-into = search in
-    search-refused _ _ (after-read-into .read-into .ensures) _ _ (sym (c .before .answer .given .1)) _ _ _
+    let after-read-plan : tie.After-read-plan = search in
+    search-refused _ (after-read-plan .read-plan .ensures) _ _ (sym (c .before .answer .given .1)) _ _ _
 
 same-length : tie.Need-same-length
 same-length c = search needs
@@ -46,18 +40,17 @@ returns-2 : tie.Need-returns-2
 returns-2 c =
     let after-search-code : tie.After-search-code = search in
     let after-enum-told : tie.After-enum-told = search in
-    let after-read-into : tie.After-read-into = search in
-    search-read _ _ (after-read-into .read-into .ensures) (sym (after-enum-told .enum-told .given .1)) _ _ _ _ _ _ _
+    let after-read-plan : tie.After-read-plan = search in
+    search-read _ (after-read-plan .read-plan .ensures) (sym (after-enum-told .enum-told .given .1)) _ _ _ _ _ _ _
     (after-search-code .search-code .ensures)
 
 pub search-text-spec : {M : Type 1} → statement M
 search-text-spec =
     tie.close
     (tie.spec
-    read-into-requires
+    read-plan-requires
     enum-known-answer
     enum-told
-    add-bits
     search-code-requires
     returns
     same-length
