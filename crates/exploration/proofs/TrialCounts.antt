@@ -3,10 +3,10 @@
 use Prim.Native.Nat.{ℕ, suc, zero, _+_, _-_, _*_, _^_, _<_, _≤_}
 use mathlib.Core.Path.{_≡_, refl, sym, ap, _∙_, subst}
 use mathlib.Core.Bool.{Bool, true, false, cond, false≢true}
-use mathlib.Core.List.{List, [], _∷_, map, flatMap}
+use mathlib.Core.List.{List, [], _∷_, _++_, map, flatMap}
 use mathlib.Core.Option.{some, Option·some-injective, Option·none-ne-some}
 use native.Mathlib.Omega.{arith}
-use native.Mathlib.Nat.{suc-mul, zero-mul, mul-le-mul, mul-le-mul-right}
+use native.Mathlib.Nat.{suc-mul, zero-mul, le-trans, mul-le-mul}
 use native.Mathlib.Numerals.{add-one}
 use lib.Dec.{ltb}
 use lib.ListN.{length, getD, take, length-append, length-map, List·getD-map}
@@ -23,17 +23,17 @@ use Rattle.sheets.proofs.SheetOpened.{eighths}
 use Rattle.evaluation.proofs.Powers.{pow-small}
 use Rattle.exploration.specs.Members.{below, memberCount}
 use Rattle.exploration.specs.Trials.{trialsAtState, mostTrials, trialsOf}
-use Rattle.exploration.specs.Promises.{TrialsCounted}
-use Rattle.exploration.specs.working.Transitions.{Transitions, wordsFrom, movesFrom, moves}
-use Rattle.exploration.specs.working.Exploring.{Seen, Progress, broke, through, search}
+use Rattle.exploration.specs.Promises.{TrialsCounted, TrialsWithin}
+use Rattle.exploration.specs.working.Transitions.{Transitions, Move, wordsFrom, movesFrom, moves}
+use Rattle.exploration.specs.working.Exploring.{Seen, Progress, broke, through, meet, tryMoves, takeIn, search, unseen}
 use Rattle.exploration.specs.working.Runs.{final}
 use Rattle.exploration.specs.working.Tables.{marked}
-use Rattle.exploration.specs.working.Trials.{trialOf, trialCount, everyTrial, wordsOf}
+use Rattle.exploration.specs.working.Trials.{Trial, trialOf, afterwards, trialsWith, trialsFrom, trials, trialCount, everyTrial, wordsOf}
 use Rattle.exploration.specs.working.Results.{resultOf, result}
 use Rattle.exploration.specs.working.Written.{mapFrom}
 use Rattle.exploration.specs.working.Found.{mapVerdict, anySet, verdictFor, foundIn, Agrees}
 use Rattle.exploration.proofs.First.{Closed}
-use Rattle.exploration.proofs.Members.{more, most, alike}
+use Rattle.exploration.proofs.Members.{more, alike}
 use Rattle.exploration.proofs.MapsFound.{map-has}
 use Rattle.exploration.proofs.RunsOfModels.{lawful}
 use Rattle.exploration.proofs.Trials.{trials-listed, closed}
@@ -166,9 +166,42 @@ trials-counted T m A g k h = go (search T) refl h
     go (broke x) e f = absurd (Option·none-ne-some k f)
     go (through x) e f = told T m A x e (anySet (map (ltb 0) (x .parent))) refl k f
 
--- No search makes more trials than there are at all states.
-pub trials-most : (m : Model) (map : List ℕ) → memberCount (stateCount m) map * trialsAtState m ≤ mostTrials m
-trials-most m map = mul-le-mul-right (trialsAtState m) (most (inMap map) (stateCount m))
+-- No search makes more trials than there are at all states: no more than the moves at a state, and no more states than there are.
+few-with : (M : Transitions) (s : ℕ) (ms : List Move) (x : Seen) → length (trialsWith M s ms x) ≤ length ms
+unfolding trialsWith
+few-with M s [] x = omega arith
+few-with M s (m ∷ ms) x = go (λ y. few-with M s ms y) (meet M s (M .step s (m .command) (m .word)) x)
+  where
+    go : ((y : Seen) → length (trialsWith M s ms y) ≤ length ms) → (o : Progress) → suc (length (afterwards o (trialsWith M s ms))) ≤ suc (length ms)
+    go back (broke y) = omega arith
+    go back (through y) = omega (arith, back y)
+
+few-after : (o : Progress) (f : Seen → List Trial) (n : ℕ) → ((y : Seen) → length (f y) ≤ n) → length (afterwards o f) ≤ n
+few-after (broke y) f n h = omega arith
+few-after (through y) f n h = h y
+
+few-from : (M : Transitions) (n head : ℕ) (x : Seen) → length (trialsFrom M n head x) ≤ n * length (moves M)
+unfolding trialsFrom
+few-from M zero head x = omega arith
+few-from M (suc n) head x =
+    let s = getD (x .queue) head 0 in
+    let o = tryMoves M s (moves M) x in
+    let f = trialsFrom M n (head + 1) in
+    go (ltb head (length (x .queue))) (trialsWith M s (moves M) x) (afterwards o f) (few-with M s (moves M) x)
+    (few-after o f (n * length (moves M)) (λ y. few-from M n (head + 1) y))
+  where
+    go : (b : Bool) (u v : List Trial) → length u ≤ length (moves M) → length v ≤ n * length (moves M) → length (cond b (u ++ v) []) ≤ suc n * length (moves M)
+    go true u v h k = omega (arith, length-append u v, suc-mul n (length (moves M)), h, k)
+    go false u v h k = omega arith
+
+pub trials-within : TrialsWithin
+unfolding trials
+trials-within T m A =
+    le-trans (few-after (takeIn T (T .size) 0 (unseen T)) (trialsFrom T (T .size) 0) (T .size * length (moves T)) (λ y. few-from T (T .size) 0 y))
+    (eq-le (ap (λ n. n * length (moves T)) (A .size) ∙ ap (λ n. stateCount m * n) (moves-are T m A)))
+  where
+    eq-le : {a b : ℕ} → a ≡ b → a ≤ b
+    eq-le e = omega (arith, e)
 
 -- And these are not many.
 sum-few : (ks : List Command) → Every (λ k. length (stars k) ≤ 8) ks → sumOver wordCount ks ≤ length ks * 256

@@ -2,11 +2,11 @@
 -- Assumes nothing.
 use mathlib.Core.Path.{_≡_}
 use mathlib.Core.Option.{some}
-use Prim.Native.Nat.{ℕ}
+use Prim.Native.Nat.{ℕ, _≤_}
 use Rattle.notation.specs.Model.{Model}
 use Rattle.notation.specs.Regular.{Regular}
 use Rattle.exploration.specs.Findings.{Finds}
-use Rattle.exploration.specs.Trials.{trialsOf}
+use Rattle.exploration.specs.Trials.{mostTrials, trialsOf}
 use Rattle.exploration.specs.working.Transitions.{Transitions, Lawful}
 use Rattle.exploration.specs.working.Exploring.{Seen, through, search}
 use Rattle.exploration.specs.working.Trials.{trials, trialCount, everyTrial}
@@ -23,3 +23,7 @@ TrialsListed = (T : Transitions) → Lawful T → (x : Seen) → search T ≡ th
 -- Where a verdict has a number of trials, the search that finds it made so many.
 abbrev pub TrialsCounted : Type 0
 TrialsCounted = (T : Transitions) (m : Model) → Agrees T m → Regular m → (k : ℕ) → trialsOf m (foundIn T) ≡ some k → trialCount T ≡ k
+
+-- No search makes more trials than there are at all states, whether or not it ends at a break.
+abbrev pub TrialsWithin : Type 0
+TrialsWithin = (T : Transitions) (m : Model) → Agrees T m → trialCount T ≤ mostTrials m

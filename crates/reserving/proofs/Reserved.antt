@@ -4,22 +4,22 @@ use mathlib.Core.Path.{_≡_, sym, ap, _∙_, subst}
 use mathlib.Core.Logic.{_⊎_, inl, inr}
 use mathlib.Core.List.{List}
 use mathlib.Core.Option.{some}
-use Prim.Native.Nat.{ℕ, _+_, _*_}
+use Prim.Native.Nat.{ℕ, _+_, _*_, _≤_}
 use native.Mathlib.Omega.{arith}
 use Rattle.notation.specs.Model.{Model}
 use Rattle.notation.specs.Texts.{TextSays, TextRefused}
 use Rattle.notation.specs.working.Machine as N
 use Rattle.notation.proofs.Places.{refusals-bounded}
 use Rattle.notation.proofs.Regular.{all-regular}
-use Rattle.notation.proofs.Texts.{says-answer, refused-answer, one-answer}
+use Rattle.notation.proofs.Texts.{says-answer, refused-answer, one-answer, one-model}
 use Rattle.meaning.specs.OneRow.{stateCount}
 use Rattle.exploration.specs.Trials.{mostTrials}
 use Rattle.exploration.proofs.TrialCounts.{trials-few}
 use Rattle.verdicts.specs.Answers as S
 use Rattle.verdicts.specs.Promises.{Room, SearchRefused}
 use Rattle.verdicts.specs.working.Searching.{searchOf}
-use Rattle.verdicts.proofs.Places.{trials-bounded}
-use Rattle.verdicts.proofs.SearchTells.{search-tells, searched-not-refused}
+use Rattle.verdicts.proofs.Places.{made-within, trials-bounded}
+use Rattle.verdicts.proofs.SearchTells.{madeOf, search-tells, searched-not-refused}
 use Rattle.verdicts.proofs.SheetsPass.{few}
 use Rattle.reserving.specs.Answers.{Wording, reserved, returned, wordingOf}
 use Rattle.reserving.specs.Promises.{answerFor, ReserveTells, RefusalTells, JustEnough, ReservesJustEnough, Bounded, ReservationsBounded}
@@ -56,6 +56,7 @@ module _ (text : List ℕ) (m : Model) (says : TextSays text m) where
         secondShort = λ first second sheet h. missing first second sheet (λ r. omega (arith, r .1));
         sheetShort = λ first second sheet h. missing first second sheet (λ r. omega (arith, r .2));
         most = λ first second sheet v n k e. trials-bounded text m says first second sheet v n k e;
+        made = λ o said. subst (λ (u : Model). madeOf o ≤ mostTrials u) (one-model text o m said says) (made-within o);
       }
     where
       missing : (first second sheet : List ℕ) → ¬ (Room m first second sheet) → SearchRefused 8 0 first second sheet (searchOf text first second sheet)

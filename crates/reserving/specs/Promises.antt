@@ -9,7 +9,10 @@ use lib.ListN.{length}
 use Rattle.notation.specs.Model.{Model}
 use Rattle.notation.specs.Texts.{longestText, TextSays, TextRefused}
 use Rattle.meaning.specs.OneRow.{stateCount}
+use Rattle.sheets.specs.Sheets.{systemOf}
 use Rattle.exploration.specs.Trials.{mostTrials}
+use Rattle.exploration.specs.working.Trials.{trialCount}
+use Rattle.exploration.specs.working.Found.{transitionsOf}
 use Rattle.verdicts.specs.Answers as S
 use Rattle.verdicts.specs.Promises.{answerOf, SearchRefused}
 use Rattle.verdicts.specs.working.Searching.{searchOf}
@@ -29,7 +32,7 @@ abbrev pub RefusalTells : Type 0
 RefusalTells = (text : List ℕ) (n i : ℕ) → TextRefused text n i → answerFor text ≡ returned n i
 
 -- So many entries and bytes are just enough for every search of the text: with as many none is refused, with fewer of any each is refused with 8.
--- And no search makes more trials than so many.
+-- And no search makes more trials than so many, whether or not it ends at a break.
 pub record JustEnough (text : List ℕ) (entries bytes trials : ℕ) : Type 0 where
   pub enough : (first second sheet : List ℕ) → entries ≤ length first → entries ≤ length second → bytes ≤ length sheet
       → (n p : ℕ) → ¬ (answerOf (searchOf text first second sheet) ≡ S.returned n p)
@@ -38,6 +41,7 @@ pub record JustEnough (text : List ℕ) (entries bytes trials : ℕ) : Type 0 wh
   pub sheetShort : (first second sheet : List ℕ) → length sheet < bytes → SearchRefused 8 0 first second sheet (searchOf text first second sheet)
   pub most : (first second sheet : List ℕ) (v : String) (n k : ℕ)
       → answerOf (searchOf text first second sheet) ≡ S.verdict v n (some k) → k ≤ trials
+  pub made : (m : Model) → TextSays text m → trialCount (transitionsOf (systemOf m)) ≤ trials
 
 abbrev pub ReservesJustEnough : Type 0
 ReservesJustEnough = (text : List ℕ) (entries bytes trials : ℕ) → answerFor text ≡ reserved entries bytes trials → JustEnough text entries bytes trials
