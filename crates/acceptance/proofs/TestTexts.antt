@@ -12,8 +12,6 @@ use Rattle.notation.specs.Regular.{Regular}
 use Rattle.notation.specs.Texts.{modelOf, namesOf}
 use Rattle.notation.specs.working.Machine as N
 use Rattle.notation.specs.working.Answer.{answer}
-use Rattle.notation.proofs.Texts.{says-iff-answer}
-use Rattle.notation.proofs.Regular.{all-regular}
 use Rattle.meaning.specs.Meaning.{commandAt, idle}
 use Rattle.meaning.proofs.Lists.{every-at}
 use Rattle.reader.specs.declared.Answer.{Answer}
@@ -24,7 +22,7 @@ use Rattle.reader.specs.Read.{filled, codeOf, readingIn, readingOf}
 use Rattle.reader.specs.working.Commands.{arrays}
 use Rattle.reader.specs.working.Whole.{zeros}
 use Rattle.reader.proofs.Arrays.{filled-front}
-use Rattle.reader.proofs.ReadTexts.{ReadAs, read-as, refused-as, regular}
+use Rattle.reader.proofs.ReadTexts.{ReadAs, read-as, refused-as, read-regular, regular}
 use Rattle.evaluation.specs.Promises.{Computes}
 use Rattle.evaluation.specs.declared.plan.Plan.{Plan}
 use Rattle.evaluation.specs.working.CodeSystem.{starsIn, Sound}
@@ -126,7 +124,7 @@ module _ (text : List ℕ) {told : Answer} {plan : Plan} {ops : List ℕ} (P : R
 -- A plan has at most 12 bits, where nothing was read too.
 few-in : (text : List ℕ) (o : N.Outcome) → answer text ≡ o → readingIn o .code .shared + readingIn o .code .row ≤ 12
 unfolding readingIn codeOf layoutOf
-few-in text (N.read x) q = all-regular text (modelOf x) (record { tree = x; says = says-iff-answer text x .1 q; meant = refl }) .fewNames
+few-in text (N.read x) q = read-regular text x q .fewNames
 few-in text (N.refused n i) q = omega arith
 
 pub few-bits : (text : List ℕ) (c : Code) → c ≡ readingOf text .code → c .shared + c .row ≤ 12

@@ -7,7 +7,7 @@ use native.Mathlib.Omega.{arith}
 use Rattle.notation.specs.Notation.{Tree}
 use Rattle.notation.specs.Layout.{layoutOf}
 use Rattle.notation.specs.Regular.{Regular}
-use Rattle.notation.specs.Texts.{TextSays, modelOf, namesOf}
+use Rattle.notation.specs.Texts.{modelOf, namesOf}
 use Rattle.notation.specs.working.Machine.{Outcome, read, refused}
 use Rattle.notation.specs.working.Answer.{answer}
 use Rattle.notation.proofs.Texts.{says-iff-answer}
@@ -51,9 +51,8 @@ module _ (text : List ℕ) (r : Reading) where
     refused-as n i h = refused-in n i (answer text) e refl h
 
 -- The model of a text that was read.
-module _ {text : List ℕ} {c : Code} (R : ReadAs text c) where
-  pub says-model : TextSays text (modelOf (R .tree))
-  says-model = record { tree = R .tree; says = says-iff-answer text (R .tree) .1 (R .told); meant = refl }
+pub read-regular : (text : List ℕ) (x : Tree) → answer text ≡ read x → Regular (modelOf x)
+read-regular text x e = all-regular text (modelOf x) (record { tree = x; says = says-iff-answer text x .1 e; meant = refl })
 
-  pub regular : Regular (modelOf (R .tree))
-  regular = all-regular text (modelOf (R .tree)) says-model
+pub regular : {text : List ℕ} {c : Code} (R : ReadAs text c) → Regular (modelOf (R .tree))
+regular {text} R = read-regular text (R .tree) (R .told)

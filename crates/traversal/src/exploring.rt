@@ -56,6 +56,7 @@ fn take_in(
 
 // Goes through the queue from a place on, for so many states at most: every command under every word, 64 words at a time, from each state in turn.
 // A state that is met for the first time goes to the queue's end; the first that violates `keep` ends the search.
+// Trials are counted a command at a time, and up to the word that ends the search: a count for each word would be made in the hottest loop.
 fn explore(
     ops: &[u16; 2048],
     plan: Plan,
