@@ -1,11 +1,11 @@
 /* What a build machine does with a design: it reserves what the search takes at most, searches with just that room,
- * and has the sheet tested before it files it.
+ * and has the sheet tested.
  *
  *   reserve TEXT
  *
  * It writes a line each of the reservation, the search and the test, and ends with 0 where the model is safe, with 1
- * where it is unsafe or void, and with 2 where the file can't be read or is refused, memory is short, or the test
- * does not agree with the search. */
+ * where it is unsafe or void, and with 2 where the file can't be read or is refused, memory is short, the test does
+ * not agree with the search, or the lines can't be written. */
 #include <inttypes.h>
 #include <stdio.h>
 #include <stdlib.h>
@@ -116,5 +116,9 @@ int main(int argc, char **argv)
     free(room.first);
     free(room.second);
     free(room.sheet);
+    if (fflush(stdout) != 0) {
+        perror("standard output");
+        return 2;
+    }
     return status;
 }

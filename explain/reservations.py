@@ -28,9 +28,10 @@ def search_of(said, model):
     lines = LINES.fullmatch(said)
     if lines is None:
         raise Unreserved
-    entries, _, trials = map(int, lines.groups())
+    entries, size, trials = map(int, lines.groups())
     words = [1 << len(command.stars) for command in model.commands]
-    if entries != 1 << len(model.names) or trials != entries * sum(words):
+    due = 1 << len(model.names), 7 + 10 * entries, entries * sum(words)
+    if (entries, size, trials) != due:
         raise Unreserved
     return Search(trials,
                   entries * batches(words) * speed.BATCH_NANOSECONDS)

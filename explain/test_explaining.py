@@ -50,6 +50,7 @@ NO_RESERVATIONS = (
     "entries 16 |bytes 167|trials 160|", "Entries 16|bytes 167|trials 160|",
     "entries 16 bytes 167 trials 160|", "entries 0x10|bytes 167|trials 160|",
     "entries 16\r|bytes 167\r|trials 160\r|",
+    "entries 16|bytes 166|trials 160|", "entries 16|bytes 168|trials 160|",
 )
 
 

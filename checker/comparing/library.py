@@ -57,9 +57,14 @@ class Library:
         Of the list `memory` the first entries are lent, so many; it holds
         afterwards what the call left there, behind what was lent too."""
         lent = (ctypes.c_uint64 * len(memory))(*memory)
-        said = self._reserve(text, len(text), lent, count)
+        said = reserve_told(self._reserve(text, len(text), lent, count))
         memory[:] = lent
-        return reserve_told(said)
+        if count and text:
+            return said
+        # A pointer whose length is 0 is not followed, whatever it is.
+        again = reserve_told(self._reserve(text or None, len(text),
+                                           lent if count else None, count))
+        return said if again == said else f"{said}, then {again}"
 
 
 def typed(function, arguments):

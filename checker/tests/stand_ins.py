@@ -22,6 +22,11 @@ def table_in(text):
     return OneRow(read(text))
 
 
+def members(due):
+    """How many the map of a Found has."""
+    return sum(byte.bit_count() for byte in due.sheet[15:])
+
+
 def trials_due(table, due):
     return due.trials
 

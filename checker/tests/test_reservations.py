@@ -11,7 +11,7 @@ from functools import cache
 
 from tests import wrong_calls, wrong_trials
 from tests import wrong_reservations as wrong
-from tests.stand_ins import StandIn, table_in
+from tests.stand_ins import StandIn, members, table_in
 from comparing.differences import Differences
 from comparing.library import reserve_told, search_told
 from comparing.reservations import compare_all
@@ -63,11 +63,6 @@ def models():
         meant = meant_by(label)
         if not isinstance(meant, Refusal):
             yield label, text, meant
-
-
-def members(here):
-    """How many the map has that was written."""
-    return sum(byte.bit_count() for byte in here.sheet[15:])
 
 
 class Noting(OneRow):

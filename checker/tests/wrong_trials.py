@@ -4,6 +4,7 @@ in one number."""
 
 from evidence.reservations import trials_at_a_state
 from evidence.trials import made
+from tests.stand_ins import members
 from tests.wrong_tables import FifteenCommands, WordsBelow64
 
 
@@ -13,11 +14,6 @@ def where(*verdicts):
         return lambda table, due: (trials(table, due)
                                    if due.verdict in verdicts else due.trials)
     return chosen
-
-
-def members(due):
-    """By the map that was written."""
-    return sum(byte.bit_count() for byte in due.sheet[15:])
 
 
 def at_states(holds):

@@ -3,13 +3,13 @@
 use mathlib.Core.List.{List, [], _∷_, _++_}
 use Prim.Native.Nat.{ℕ}
 use Rattle.notation.specs.Bytes.{bytes}
-use Rattle.lines.specs.Lines.{decimalOf, line}
+use Rattle.lines.specs.Lines.{decimalOf, line, numberLine}
 use Rattle.exploration.specs.Members.{memberCount}
 use Rattle.counting.specs.Counts.{countAt, settingsIn}
 
 -- How many there are in all.
 abbrev pub statesLine : ℕ → List ℕ
-statesLine n = line (bytes "states" ∷ decimalOf n ∷ [])
+statesLine n = numberLine (bytes "states") n
 
 -- How many have a setting.
 abbrev pub settingLine : ℕ → ℕ → List ℕ

@@ -239,7 +239,7 @@ unfolding explore
 explore-end M zero head x h = refl
 explore-end M (suc f) head x h = rw (le-ltb head (length (x .queue)) h)
 
-pub trials-end : (M : Transitions) (f head : ℕ) (x : Seen) → length (x .queue) ≤ head → trialsFrom M f head x ≡ []
+trials-end : (M : Transitions) (f head : ℕ) (x : Seen) → length (x .queue) ≤ head → trialsFrom M f head x ≡ []
 unfolding trialsFrom
 trials-end M zero head x h = refl
 trials-end M (suc f) head x h = rw (le-ltb head (length (x .queue)) h)

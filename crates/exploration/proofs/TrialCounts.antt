@@ -160,7 +160,7 @@ module _ (T : Transitions) (m : Model) (A : Agrees T m) (x : Seen) (e : search T
 
 pub trials-counted : TrialsCounted
 unfolding foundIn result verdictFor trialsOf
-trials-counted T m A g k h = go (search T) refl h
+trials-counted T m A k h = go (search T) refl h
   where
     go : (o : Progress) → search T ≡ o → trialsOf m (verdictFor T (resultOf T o)) ≡ some k → trialCount T ≡ k
     go (broke x) e f = absurd (Option·none-ne-some k f)
@@ -209,7 +209,7 @@ unfolding sumOver
 sum-few [] h = omega arith
 sum-few (k ∷ ks) h = omega (arith, pow-mono {i = length (stars k)} {j = 8} (h .0), sum-few ks (h .1))
 
-pub state-few : (m : Model) → Regular m → trialsAtState m ≤ 4096
+state-few : (m : Model) → Regular m → trialsAtState m ≤ 4096
 state-few m g = omega (arith, sum-few (m .commands) (g .fewStars), g .fewCommands)
 
 pub trials-few : (m : Model) → Regular m → mostTrials m ≤ 16777216

@@ -133,7 +133,7 @@ module _ (M : Transitions) (y : Seen) where
           none-left M head x y f (omega (arith, ltb-false head (length (x .queue)) t, ap (λ o. length (seenIn o .queue)) f))
 
 -- The whole search.
-pub queue-short : (M : Transitions) (x : Seen) → Closed M x → length (x .queue) ≤ M .size
+queue-short : (M : Transitions) (x : Seen) → Closed M x → length (x .queue) ≤ M .size
 queue-short M x C =
     omega (arith, ap length (C .good .queue-is), length-map (C .runs) (final M), C .good .counted, marked-le (x .parent), C .good .sized)
 

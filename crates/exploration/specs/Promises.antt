@@ -16,13 +16,13 @@ use Rattle.exploration.specs.working.Found.{foundIn, Agrees}
 abbrev pub FoundIsRight : Type 0
 FoundIsRight = (T : Transitions) (m : Model) → Agrees T m → Regular m → Finds m (foundIn T)
 
--- A search that meets no break makes every trial there is at the states that it meets, each once, in the order of the queue.
+-- A search that meets no break makes every trial there is at each state of its queue, in the queue's order, and no others.
 abbrev pub TrialsListed : Type 0
 TrialsListed = (T : Transitions) → Lawful T → (x : Seen) → search T ≡ through x → trials T ≡ everyTrial T (x .queue)
 
 -- Where a verdict has a number of trials, the search that finds it made so many.
 abbrev pub TrialsCounted : Type 0
-TrialsCounted = (T : Transitions) (m : Model) → Agrees T m → Regular m → (k : ℕ) → trialsOf m (foundIn T) ≡ some k → trialCount T ≡ k
+TrialsCounted = (T : Transitions) (m : Model) → Agrees T m → (k : ℕ) → trialsOf m (foundIn T) ≡ some k → trialCount T ≡ k
 
 -- No search makes more trials than there are at all states, whether or not it ends at a break.
 abbrev pub TrialsWithin : Type 0

@@ -29,6 +29,10 @@ unfoldable pub line : List (List ℕ) → List ℕ
 line [] = 10 ∷ []
 line (w ∷ ws) = w ++ others ws
 
+-- A line of a word and a number.
+abbrev pub numberLine : List ℕ → ℕ → List ℕ
+numberLine title n = line (title ∷ decimalOf n ∷ [])
+
 -- The line of a refusal: its number and its place.
 abbrev pub refusalLine : ℕ → ℕ → List ℕ
 refusalLine n p = line (bytes "refused" ∷ decimalOf n ∷ decimalOf p ∷ [])

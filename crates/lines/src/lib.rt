@@ -1,6 +1,6 @@
 // Lines of words and numbers, put into a lent buffer one part behind the other.
 ghost use mathlib.Core.List.{[], _∷_};
-ghost use Rattle.lines.specs.Lines.{decimalOf, word, line, refusalLine};
+ghost use Rattle.lines.specs.Lines.{decimalOf, word, line, numberLine, refusalLine};
 ghost use Rattle.lines.specs.Puts.{Fits, Puts};
 
 // Puts bytes from a place of the buffer on; the place behind them.
@@ -37,8 +37,8 @@ pub fn put_number(out: &mut [u8], at: usize, n: usize) -> usize
 
 // A line of a word and a number.
 pub fn put_number_line(out: &mut [u8], at: usize, title: &[u8], n: usize) -> usize
-    requires { ⌜ Fits (now out) at (line (now title ∷ decimalOf n ∷ [])) ⌝ }
-    ensures { λ r. ⌜ Puts (now (out .entry)) at (line (now (title .entry) ∷ decimalOf n ∷ [])) (now (out .exit)) r ⌝ }
+    requires { ⌜ Fits (now out) at (numberLine (now title) n) ⌝ }
+    ensures { λ r. ⌜ Puts (now (out .entry)) at (numberLine (now (title .entry)) n) (now (out .exit)) r ⌝ }
 {
     let titled = put(out, at, title);
     let numbered = put_number(out, titled, n);

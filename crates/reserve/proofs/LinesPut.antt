@@ -7,7 +7,7 @@ use native.Mathlib.Omega.{arith}
 use lib.ListN.{length, length-append}
 use Rattle.io.specs.Counts.{Counts}
 use Rattle.notation.specs.Bytes.{bytes}
-use Rattle.lines.specs.Lines.{decimalOf, refusalLine}
+use Rattle.lines.specs.Lines.{decimalOf, refusalLine, numberLine}
 use Rattle.lines.specs.Puts.{Fits, Puts}
 use Rattle.lines.proofs.Digits.{digits-within}
 use Rattle.lines.proofs.LineLengths.{two-words}
@@ -16,7 +16,7 @@ use Rattle.lines.proofs.Stores.{keeps, behind, front-counts}
 use Rattle.reserving.specs.declared.Reservation.{Reservation}
 use Rattle.reserving.specs.declared.Reservation.the-variants.{Needs, Refused}
 use Rattle.reserving.specs.Answers.{wordingOf}
-use Rattle.reserve.specs.Lines.{numberLine, needsLines, linesOf}
+use Rattle.reserve.specs.Lines.{needsLines, linesOf}
 
 -- A line has at most 29 bytes where its word has at most 7.
 line-short : (title : List ℕ) (n : ℕ) → length title ≤ 7 → length (numberLine title n) ≤ 29

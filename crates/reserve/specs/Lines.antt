@@ -1,14 +1,10 @@
 -- The lines that a reservation is written as.
 -- Assumes nothing.
-use mathlib.Core.List.{List, [], _∷_, _++_}
+use mathlib.Core.List.{List, _++_}
 use Prim.Native.Nat.{ℕ}
 use Rattle.notation.specs.Bytes.{bytes}
-use Rattle.lines.specs.Lines.{decimalOf, line, refusalLine}
+use Rattle.lines.specs.Lines.{numberLine, refusalLine}
 use Rattle.reserving.specs.Answers.{Wording, reserved, returned}
-
--- A word and a number.
-abbrev pub numberLine : List ℕ → ℕ → List ℕ
-numberLine title n = line (title ∷ decimalOf n ∷ [])
 
 -- The entries of one table, the bytes of the sheet buffer, and the most trials.
 unfoldable pub needsLines : ℕ → ℕ → ℕ → List ℕ

@@ -8,7 +8,6 @@ use Rattle.notation.specs.Model.{Model}
 use Rattle.notation.specs.Layout.{layoutOf}
 use Rattle.notation.specs.Regular.{Regular}
 use Rattle.notation.specs.Texts.{modelOf, namesOf}
-use Rattle.notation.specs.working.Machine as N
 use Rattle.meaning.specs.OneRow.{stateCount}
 use Rattle.reader.specs.declared.Answer.{Answer}
 use Rattle.reader.specs.declared.Answer.the-variants as A

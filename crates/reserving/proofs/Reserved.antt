@@ -3,7 +3,6 @@
 use mathlib.Core.Path.{_≡_, sym, ap, _∙_, subst}
 use mathlib.Core.Logic.{_⊎_, inl, inr}
 use mathlib.Core.List.{List}
-use mathlib.Core.Option.{some}
 use Prim.Native.Nat.{ℕ, _+_, _*_, _≤_}
 use native.Mathlib.Omega.{arith}
 use Rattle.notation.specs.Model.{Model}
@@ -15,7 +14,6 @@ use Rattle.notation.proofs.Texts.{says-answer, refused-answer, one-answer, one-
 use Rattle.meaning.specs.OneRow.{stateCount}
 use Rattle.exploration.specs.Trials.{mostTrials}
 use Rattle.exploration.proofs.TrialCounts.{trials-few}
-use Rattle.verdicts.specs.Answers as S
 use Rattle.verdicts.specs.Promises.{Room, SearchRefused}
 use Rattle.verdicts.specs.working.Searching.{searchOf}
 use Rattle.verdicts.proofs.Places.{made-within, trials-bounded}

@@ -85,7 +85,7 @@ module _ (m : Model) (g : Regular m) (ns : List Name) where
   told-same (unsafeBy s xs) n t u a b = refl
 
   code-made : Made m (foundIn (transitionsOf (systemOf m))) (trialCount (transitionsOf C))
-  code-made = subst (λ (x : Verdict). Made m x (trialCount (transitionsOf C))) found-same (trials-counted (transitionsOf C) m code-agrees g)
+  code-made = subst (λ (x : Verdict). Made m x (trialCount (transitionsOf C))) found-same (trials-counted (transitionsOf C) m code-agrees)
 
   abbrev leaving : Finding → List ℕ → List ℕ → List ℕ → List ℕ → Left
   leaving f b q p o = record { answer = f; first = zeroed (size C) q; second = zeroed (size C) p; sheet = sets o 0 b }
@@ -97,7 +97,7 @@ module _ (m : Model) (g : Regular m) (ns : List Name) where
       ap (λ (v : Verdict). leaving (verdictOf v (length (sheetBytes C (evidenceOf v))) t) (sheetBytes C (evidenceOf v)) q p o) found-same
       ∙ ap (λ (b : List ℕ). leaving (verdictOf x (length b) t) b q p o) (bytes-same x)
       ∙ ap (λ (f : Finding). leaving f (sheetBytes (systemOf m) (evidenceOf x)) q p o)
-      (told-same x (length (sheetBytes (systemOf m) (evidenceOf x))) t (madeOf m) code-made (made-told m g))
+      (told-same x (length (sheetBytes (systemOf m) (evidenceOf x))) t (madeOf m) code-made (made-told m))
 
   search-same : (q p o : List ℕ) → searchFor C q p o ≡ searchFor (systemOf m) q p o
   unfolding searchFor roomy

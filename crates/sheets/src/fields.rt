@@ -46,7 +46,7 @@ pub fn map_length(states: usize) -> usize
     n
 }
 
-// How many bytes the longest sheet has that a search of so many states writes.
+// How many bytes the longest sheet has that a search of so many states writes: behind the header a start of 8, and a step of 10 to every state but one.
 pub fn sheet_room(states: usize) -> usize
     requires { ⌜ states ≤ 4096 ⌝ }
     ensures { λ r. ⌜ r ≡ 7 + 10 * states ⌝ }

@@ -121,8 +121,8 @@ foundOf m = foundIn (transitionsOf (systemOf m))
 abbrev pub madeOf : Model → ℕ
 madeOf m = trialCount (transitionsOf (systemOf m))
 
-pub made-told : (m : Model) → Regular m → Made m (foundOf m) (madeOf m)
-made-told m g = trials-counted (transitionsOf (systemOf m)) m (own m) g
+pub made-told : (m : Model) → Made m (foundOf m) (madeOf m)
+made-told m = trials-counted (transitionsOf (systemOf m)) m (own m)
 
 module _ (m : Model) where
   module _ (first second sheet : List ℕ) where
@@ -135,10 +135,10 @@ module _ (m : Model) where
           right = finds m g;
           fits = h;
           written = refl;
-          safely = said-safe m (foundOf m) (madeOf m) (made-told m g) (finds m g) n;
-          voidly = said-void m (foundOf m) (madeOf m) (made-told m g) (finds m g) n;
-          unsafely = said-unsafe m (foundOf m) (madeOf m) (made-told m g) (finds m g) n;
-          tried = made-told m g;
+          safely = said-safe m (foundOf m) (madeOf m) (made-told m) (finds m g) n;
+          voidly = said-void m (foundOf m) (madeOf m) (made-told m) (finds m g) n;
+          unsafely = said-unsafe m (foundOf m) (madeOf m) (made-told m) (finds m g) n;
+          tried = made-told m;
           firstCleared = refl;
           secondCleared = refl;
         }

@@ -81,7 +81,7 @@ abbrev pub TextRefusedFirst : Type 0
 TextRefusedFirst =
     (text : List ℕ) (n i : ℕ) → TextRefused text n i → (first second sheet : List ℕ) → SearchRefused n i first second sheet (searchOf text first second sheet)
 
--- No search of a text's model makes more trials than there are at all its states.
+-- No search of a text's model tells more trials than there are at all its states.
 abbrev pub TrialsBounded : Type 0
 TrialsBounded =
     (text : List ℕ) (m : Model) → TextSays text m → (first second sheet : List ℕ) (s : String) (n k : ℕ)

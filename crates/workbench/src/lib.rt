@@ -17,7 +17,7 @@ use reserving::reserve;
 use search::search;
 use verdicts::finding::Finding;
 
-// The number of a verdict: its letter, the sheet's length, and the number of trials above both.
+// The number of a verdict: its letter, the sheet's length, and the number of trials above both. No sheet has more than 7 + 10 * 4096 bytes, and no search makes more than 4096 * 16 * 256 trials.
 fn verdict_number(letter: u8, length: usize, trials: usize) -> u64
     requires { ⌜ (length ≤ 40967) × (trials ≤ 16777216) ⌝ }
     ensures { λ r. ⌜ r ≡ packed letter (length + 65536 * trials) ⌝ }
