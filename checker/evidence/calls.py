@@ -4,9 +4,8 @@ they were lent."""
 from typing import NamedTuple
 
 from evidence.one_row import OneRow
-from evidence.report import found_sheet, verdict
+from evidence.report import searched_in
 from evidence.reservations import Reservation, reservation
-from evidence.searching import search
 from evidence.trials import returned
 from reader.model import Refusal
 from reader.reading import read
@@ -29,9 +28,7 @@ def found_in(text):
     if isinstance(model, Refusal):
         return model
     table = OneRow(model)
-    found = search(table)
-    return Found(reservation(table), verdict(table, found),
-                 found_sheet(table, found), returned(table))
+    return Found(reservation(table), *searched_in(table), returned(table))
 
 
 def refused(refusal):

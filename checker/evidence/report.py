@@ -54,14 +54,16 @@ def report(text):
     return "".join(line + "\n" for line in report_lines(text))
 
 
-def searched(text):
-    """The verdict and the sheet's bytes, or the text's Refusal."""
-    model = read(text)
-    if isinstance(model, Refusal):
-        return model
-    table = OneRow(model)
+def searched_in(table):
+    """The verdict and the sheet's bytes."""
     found = search(table)
     return verdict(table, found), found_sheet(table, found)
+
+
+def searched(text):
+    """The same of a text's model, or the text's Refusal."""
+    model = read(text)
+    return model if isinstance(model, Refusal) else searched_in(OneRow(model))
 
 
 def found_sheet(table, found):

@@ -26,7 +26,6 @@ use Rattle.exploration.specs.Trials.{trialsAtState, mostTrials, trialsOf
 use Rattle.exploration.specs.Promises.{TrialsCounted, TrialsWithin}
 use Rattle.exploration.specs.working.Transitions.{Transitions, Move, wordsFrom, movesFrom, moves}
 use Rattle.exploration.specs.working.Exploring.{Seen, Progress, broke, through, meet, tryMoves, takeIn, search, unseen}
-use Rattle.exploration.specs.working.Runs.{final}
 use Rattle.exploration.specs.working.Tables.{marked}
 use Rattle.exploration.specs.working.Trials.{Trial, trialOf, afterwards, trialsWith, trialsFrom, trials, trialCount, everyTrial, wordsOf}
 use Rattle.exploration.specs.working.Results.{resultOf, result}
@@ -36,7 +35,7 @@ use Rattle.exploration.proofs.First.{Closed}
 use Rattle.exploration.proofs.Members.{more, alike}
 use Rattle.exploration.proofs.MapsFound.{map-has}
 use Rattle.exploration.proofs.RunsOfModels.{lawful}
-use Rattle.exploration.proofs.Trials.{trials-listed, closed}
+use Rattle.exploration.proofs.Trials.{queue-marked, closed, trials-listed}
 use Rattle.exploration.proofs.Whole.{some-marked}
 
 -- Every move at each state.
@@ -125,14 +124,11 @@ module _ (T : Transitions) (m : Model) (A : Agrees T m) (x : Seen) (e : search T
   C : Closed T x
   C = closed T (lawful T m A) x e
 
-  queue-marked : length (x .queue) ≡ marked (x .parent)
-  queue-marked = omega (arith, ap length (C .good .queue-is), length-map (C .runs) (final T), C .good .counted)
-
   made : trialCount T ≡ marked (x .parent) * trialsAtState m
   made =
       ap length (trials-listed T (lawful T m A) x e)
       ∙ every-count T (x .queue)
-      ∙ ap (λ n. n * length (moves T)) queue-marked
+      ∙ ap (λ n. n * length (moves T)) (queue-marked T x C)
       ∙ ap (λ n. marked (x .parent) * n) (moves-are T m A)
 
   abbrev bits : List Bool
@@ -167,18 +163,16 @@ trials-counted T m A k h = go (search T) refl h
     go (through x) e f = told T m A x e (anySet (map (ltb 0) (x .parent))) refl k f
 
 -- No search makes more trials than there are at all states: no more than the moves at a state, and no more states than there are.
-few-with : (M : Transitions) (s : ℕ) (ms : List Move) (x : Seen) → length (trialsWith M s ms x) ≤ length ms
-unfolding trialsWith
-few-with M s [] x = omega arith
-few-with M s (m ∷ ms) x = go (λ y. few-with M s ms y) (meet M s (M .step s (m .command) (m .word)) x)
-  where
-    go : ((y : Seen) → length (trialsWith M s ms y) ≤ length ms) → (o : Progress) → suc (length (afterwards o (trialsWith M s ms))) ≤ suc (length ms)
-    go back (broke y) = omega arith
-    go back (through y) = omega (arith, back y)
-
 few-after : (o : Progress) (f : Seen → List Trial) (n : ℕ) → ((y : Seen) → length (f y) ≤ n) → length (afterwards o f) ≤ n
 few-after (broke y) f n h = omega arith
 few-after (through y) f n h = h y
+
+few-with : (M : Transitions) (s : ℕ) (ms : List Move) (x : Seen) → length (trialsWith M s ms x) ≤ length ms
+unfolding trialsWith
+few-with M s [] x = omega arith
+few-with M s (m ∷ ms) x =
+    let o = meet M s (M .step s (m .command) (m .word)) x in
+    omega (arith, few-after o (trialsWith M s ms) (length ms) (λ y. few-with M s ms y))
 
 few-from : (M : Transitions) (n head : ℕ) (x : Seen) → length (trialsFrom M n head x) ≤ n * length (moves M)
 unfolding trialsFrom

@@ -14,6 +14,7 @@ use Rattle.exploration.specs.Promises.{TrialsListed}
 use Rattle.exploration.specs.working.Transitions.{Transitions, Lawful, Move, moves}
 use Rattle.exploration.specs.working.Exploring.{Seen, Progress, broke, through, andThen, progress, push, meet, tryMoves, explore, takeIn, search, unseen}
 use Rattle.exploration.specs.working.Runs.{final}
+use Rattle.exploration.specs.working.Tables.{marked}
 use Rattle.exploration.specs.working.Trials.{trialOf, afterwards, trialsWith, trialsFrom, trials, everyTrial}
 use Rattle.exploration.proofs.Laws.{marked-le}
 use Rattle.exploration.proofs.First.{Closed, Searched, searched}
@@ -133,9 +134,11 @@ module _ (M : Transitions) (y : Seen) where
           none-left M head x y f (omega (arith, ltb-false head (length (x .queue)) t, ap (λ o. length (seenIn o .queue)) f))
 
 -- The whole search.
+pub queue-marked : (M : Transitions) (x : Seen) → Closed M x → length (x .queue) ≡ marked (x .parent)
+queue-marked M x C = omega (arith, ap length (C .good .queue-is), length-map (C .runs) (final M), C .good .counted)
+
 queue-short : (M : Transitions) (x : Seen) → Closed M x → length (x .queue) ≤ M .size
-queue-short M x C =
-    omega (arith, ap length (C .good .queue-is), length-map (C .runs) (final M), C .good .counted, marked-le (x .parent), C .good .sized)
+queue-short M x C = omega (arith, queue-marked M x C, marked-le (x .parent), C .good .sized)
 
 pub closed : (M : Transitions) → Lawful M → (x : Seen) → search M ≡ through x → Closed M x
 closed M law x e = subst (Searched M) e (searched M law)
