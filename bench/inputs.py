@@ -86,6 +86,7 @@ H = Input("H, map of 3 states", models.H, H_SHEET, "s")
 VOID = Input("G without a start state, map of none", models.VOID, VOID_SHEET,
              "v")
 DEEPEST = H._replace(title="H in parentheses", text=models.DEEPEST_H)
+CASES = H._replace(title="H, names in other cases", text=models.H_CASES)
 WIDE = wide(models.SHORT)
 LONGEST_COMMAND = longest_command()
 COUNT = count(models.BITS)
@@ -98,8 +99,8 @@ TO_SEARCH = [G, H, WIDE, wide(models.LONG), LONGEST_COMMAND, COUNT,
              LONGEST_COUNT, starry_count(models.BITS), LONG_TEXT]
 
 # Those that C, one word at a time, is through with in two seconds.
-QUICK = [G, H, VOID, DEEPEST, WIDE, LONGEST_COMMAND, COUNT, LONGEST_COUNT,
-         STARRY, LONG_TEXT]
+QUICK = [G, H, VOID, DEEPEST, CASES, WIDE, LONGEST_COMMAND, COUNT,
+         LONGEST_COUNT, STARRY, LONG_TEXT]
 
 
 def changed(given, place, byte, answer):
@@ -145,12 +146,23 @@ MANY = "".join(f"command c{j} if 1 do skip else skip. " for j in range(16))
 REFUSED = [refused(number, marked) for number, marked in [
     (1, " " * models.LONGEST_TEXT + "^ "),
     (2, "shared a^, b."), (2, "shared ^abcdefghijklmnopq."),
+    (2, "shared ^Rowaaaaaaaaaaaaaa."), (2, "shared a_ a^\x7f."),
     (3, "shared a^; b."), (3, "shared a ^"), (3, "shared a. row ^end."),
     (3, COMMAND + "a ^: = 1"), (3, COMMAND + "for 1 do ^for"),
     (3, COMMAND + "skip else skip. ^skip"),
+    (3, "^Shared a."), (3, "shared a ^Row."), (3, "shared a. ^ROW."),
+    (3, CLAUSES + "command ^eNd"), (3, COMMAND + "^SKIP else skip."),
+    (3, COMMAND + "a := 1 ^AND 1"), (3, COMMAND + "a := ^Not 1"),
+    (3, COMMAND + "^Or := 1"), (3, CLAUSES + MANY + "^Command"),
     (4, "shared a. row b ^a."), (4, CLAUSES + "command ^w"),
+    (4, "shared page ^Page."), (4, "shared A. row b ^a."),
+    (4, "shared LONG_NAMES_ALIKE ^long_names_alike."),
+    (4, CLAUSES + "command ^W"),
+    (4, COMMAND + "skip else skip. command ^C"),
     (5, "shared a. row. start ^b"), (5, "shared. row w. start ^w"),
     (5, COMMAND + "for 1 do ^a := 1"), (5, COMMAND + "^w := 1"),
+    (5, COMMAND + "^W := 1"), (5, COMMAND + "A := ^C"),
+    (5, "shared long_names_alike. row. start ^Long_names_aliki"),
     (6, "shared. row. start ^*"),
     (7, "shared a b c d e f g h ^i."),
     (7, "shared. row a b c d e f g h i j ^k."),

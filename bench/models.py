@@ -36,6 +36,7 @@ G = ("shared m. row w x.\nstart m each not x.\nkeep 1 each not (w and x).\n"
      "command grant if m do\n"
      "for 1 do w := *; x := * else skip end else skip.")
 H = G.replace("x := *", "x := not w and *")
+H_CASES = H.replace("shared m", "shared M").replace("w :=", "W :=")
 VOID = G.replace("start m each not x", "start 1 each 0")
 DEPTH = 16
 DEEPEST_H = H.replace("and *", f"and {'(' * DEPTH}*{')' * DEPTH}")

@@ -33,7 +33,9 @@ static int shared, row, commands, names, states;
 
 static const uint8_t *text;
 static int text_length, place;
-static char token[LONGEST_WORD + 1]; /* "" at the text's end */
+/* In small letters, as names are compared; "" at the text's end, "!" where it
+ * can stand nowhere. */
+static char token[LONGEST_WORD + 1];
 static int token_place;
 static int fault;               /* how it is refused where it may not stand */
 static int nodes, item_count;
@@ -49,10 +51,50 @@ static _Noreturn void refuse(int number)
     longjmp(outside, 1);
 }
 
-static int in_word(int byte)
+/* A byte of a word, in small letters; 0 where it is of no word. */
+static int word_byte(int byte)
 {
-    return (byte >= 'a' && byte <= 'z') || (byte >= 'A' && byte <= 'Z')
-        || (byte >= '0' && byte <= '9') || byte == '_';
+    if (byte >= 'a' && byte <= 'z')
+        return byte;
+    if (byte >= 'A' && byte <= 'Z')
+        return byte + 'a' - 'A';
+    return (byte >= '0' && byte <= '9') || byte == '_' ? byte : 0;
+}
+
+static int at(const char *word)
+{
+    return strcmp(token, word) == 0;
+}
+
+static int is_reserved(void)
+{
+    static const char words[15][8] = {
+        "shared", "row", "start", "keep", "each", "command", "if", "do",
+        "else", "for", "end", "skip", "and", "or", "not"};
+    for (int j = 0; j < 15; j++)
+        if (at(words[j]))
+            return 1;
+    return 0;
+}
+
+/* Takes down a word in small letters and tells its size. */
+static int take_word(void)
+{
+    int size = 0, capitals = 0, byte;
+    while (place < text_length && (byte = word_byte(text[place]))
+           && size < LONGEST_WORD) {
+        capitals |= byte ^ text[place++];
+        token[size++] = (char)byte;
+    }
+    token[size] = 0;
+    int too_long = place < text_length && word_byte(text[place]);
+    if (too_long)
+        fault = NO_TOKEN;
+    if (too_long || (capitals && is_reserved())) {
+        token[0] = '!';
+        size = 1;
+    }
+    return size;
 }
 
 static void next(void)
@@ -62,15 +104,8 @@ static void next(void)
         place++;
     token_place = place;
     fault = MISPLACED;
-    if (place < text_length && in_word(text[place])) {
-        while (place < text_length && in_word(text[place])
-               && size < LONGEST_WORD)
-            token[size++] = text[place++];
-        if (place < text_length && in_word(text[place])) {
-            fault = NO_TOKEN;
-            strcpy(token, "!");
-            size = 1;
-        }
+    if (place < text_length && word_byte(text[place])) {
+        size = take_word();
     } else if (place < text_length) {
         switch (text[place]) {
         case ':':
@@ -89,11 +124,6 @@ static void next(void)
     token[size] = 0;
 }
 
-static int at(const char *word)
-{
-    return strcmp(token, word) == 0;
-}
-
 static void pass(const char *word)
 {
     if (!at(word))
@@ -101,22 +131,9 @@ static void pass(const char *word)
     next();
 }
 
-static int is_letter(int byte)
-{
-    return (byte >= 'a' && byte <= 'z') || (byte >= 'A' && byte <= 'Z');
-}
-
 static int is_name(void)
 {
-    static const char words[15][8] = {
-        "shared", "row", "start", "keep", "each", "command", "if", "do",
-        "else", "for", "end", "skip", "and", "or", "not"};
-    if (!is_letter(token[0]))
-        return 0;
-    for (int j = 0; j < 15; j++)
-        if (at(words[j]))
-            return 0;
-    return 1;
+    return token[0] >= 'a' && token[0] <= 'z' && !is_reserved();
 }
 
 static void count_node(void)

@@ -8,6 +8,9 @@ from tokens import NAME, Token
 
 TEXT_END = "the end of the text"
 
+# The symbols that declare a name.
+DECLARING = ("shared name", "row name", "title")
+
 # A symbol with its alternatives; what is no symbol is a token's kind. No two
 # alternatives begin alike, so the next token picks one.
 RULES = {
@@ -94,6 +97,11 @@ def walk(tokens):
 
 def in_roles(parts, *roles):
     return [part for part in parts if part.role in roles]
+
+
+def declarations(parts):
+    """The part that declares each name, by the name in small letters."""
+    return {part.token.folded: part for part in in_roles(parts, *DECLARING)}
 
 
 def commands_in(parts):

@@ -4,7 +4,7 @@ rule that the token goes against."""
 from dataclasses import dataclass
 
 from limits import MOST, all_limits, gone_over
-from notation import TEXT_END, in_roles, walk
+from notation import TEXT_END, declarations, in_roles, walk
 from places import Excerpt, excerpt, line_and_column, position, visible
 from tokens import LONGEST_WORD, NAME, cut
 
@@ -70,24 +70,43 @@ def not_allowed(text, before, token):
     said = [kind if kind in (NAME, TEXT_END) else f"`{kind}`"
             for kind in kinds]
     due = " or ".join(filter(None, [", ".join(said[:-1]), said[-1]]))
-    found = "" if token else "The text ends too early. "
-    return f"{found}What may stand here: {due}."
+    return f"{found_instead(token)}What may stand here: {due}."
+
+
+def found_instead(token):
+    """What is to be said of the token itself, where something is."""
+    if token is None:
+        return "The text ends too early. "
+    if token.is_reserved_in_another_case:
+        return (f"`{token.word}` can stand nowhere: the reserved word "
+                f"`{token.folded}` is written in small letters, and is no "
+                "name however it is spelt. ")
+    return ""
 
 
 def declared_before(text, before, token):
-    first = declarations(before)[token.word]
-    return (f"`{token.word}` is declared at "
-            f"{position(text, first.token.place)} as {KINDS[first.role]}; "
+    first = declarations(walk(before)[0])[token.folded]
+    return (f"{same_name(token, first.token)}`{first.token.word}` is declared "
+            f"at {position(text, first.token.place)} as {KINDS[first.role]}; "
             "no name is declared twice, commands included.")
 
 
 def misused(text, before, token):
-    declared = declarations(before)
-    if token.word not in declared:
+    declared = declarations(walk(before)[0])
+    if token.folded not in declared:
         return (f"`{token.word}` is not declared; a name in an expression or "
                 "before `:=` is declared after `shared` or `row`.")
-    role = declared[token.word].role
-    return f"`{token.word}` is {KINDS[role]}; {USES[role]}"
+    first = declared[token.folded]
+    return (f"{same_name(token, first.token)}`{first.token.word}` is "
+            f"{KINDS[first.role]}; {USES[first.role]}")
+
+
+def same_name(token, declared):
+    """That a name is the one declared, where it is spelt otherwise."""
+    if token.word == declared.word:
+        return ""
+    return (f"`{token.word}` and `{declared.word}` are the same name, since "
+            "case makes no difference. ")
 
 
 USES = {
@@ -108,12 +127,6 @@ def over_limit(text, before, token):
     said = " and ".join(f"{MOST[what]:,} {what}" for what in over)
     one = f"With this token there are more than {said}. " if over else ""
     return f"{one}The limits of a text: {all_limits()}."
-
-
-def declarations(tokens):
-    """The part that declares each name, by the name."""
-    return {part.token.word: part
-            for part in in_roles(walk(tokens)[0], *KINDS)}
 
 
 TELLING = {2: bad_bytes, 3: not_allowed, 4: declared_before, 5: misused,

@@ -125,6 +125,7 @@ class Explaining(unittest.TestCase):
         for report in (b"", b"safe\n", b"model 1 1\nsafe\n",
                        b"model 2 2 4\nunsafe 2\nstart 0\nstep 1 lock 0 2\n",
                        b"model 2 2 4\nunsafe 1\nstart 0\nstep 1 none 0 2\n",
+                       b"model 2 2 4\nunsafe 1\nstart 0\nstep 1 Lock 0 2\n",
                        b"model 2 1 4\nunsafe 0\nstart 0\n",
                        b"model 2 2 4\nvoid\n",
                        b"model 2 2 4\nvoid\nstart 0\n"):

@@ -144,7 +144,7 @@ class Pages(unittest.TestCase):
 
     def test_steps(self):
         runs = [case.said for case in cases() if b"unsafe" in case.report]
-        self.assertEqual(len(runs), 3)
+        self.assertEqual(len(runs), 4)
         for said in [*runs, counter()]:
             heads, names, *rows = Page(page_of(*said)).rows
             self.assertEqual(heads[:3], ["step", "command", "choices"])
@@ -158,7 +158,7 @@ class Pages(unittest.TestCase):
     def test_settings(self):
         """The cells are those of the plain table, where bars are marks."""
         safe = [case.said for case in cases() if case.name.startswith("safe")]
-        self.assertEqual(len(safe), 4)
+        self.assertEqual(len(safe), 5)
         for text, report, reservation in [*safe, all_settings()]:
             heads, *rows = Page(page_of(text, report, reservation)).rows
             lines = explained_by(plain, "FILE", text, report_of(report),
@@ -212,21 +212,27 @@ class Pages(unittest.TestCase):
     def test_commands_and_stars_can_be_found(self):
         """By what the script looks for: each command's pieces are the whole
         command, and its stars are numbered in text order."""
-        case = next(case for case in cases() if case.name == "several_steps")
-        pieces, stars = {}, {}
-        found = Page(page_of(*case.said))
-        for attributes, said in found.spans:
-            name = attributes["data-command"]
-            pieces[name] = pieces.get(name, "") + said
-            if attributes.get("class") == "star":
-                stars[name] = stars.get(name, "") + attributes["data-star"]
-                self.assertEqual(said, "*")
-        _, *commands = case.text.decode().split("command ")
-        self.assertEqual(
-            [piece.removeprefix("command ") for piece in pieces.values()],
-            [command.replace("\n", "") for command in commands])
-        self.assertEqual(stars, {"lend": "123", "expose": "12",
-                                 "release": "1"})
+        due = {"several_steps": {"lend": "123", "expose": "12",
+                                 "release": "1"},
+               "other_case": {"Map": "12", "write": "1", "Lock": "1",
+                              "unMap": "1"}}
+        for case in (case for case in cases() if case.name in due):
+            pieces, stars = {}, {}
+            found = Page(page_of(*case.said))
+            for attributes, said in found.spans:
+                name = attributes["data-command"]
+                pieces[name] = pieces.get(name, "") + said
+                if attributes.get("class") == "star":
+                    stars[name] = stars.get(name, "") + attributes["data-star"]
+                    self.assertEqual(said, "*")
+            _, *commands = case.text.decode().split("command ")
+            self.assertEqual(
+                [piece.removeprefix("command ") for piece in pieces.values()],
+                [command.replace("\n", "") for command in commands])
+            self.assertEqual(stars, due.pop(case.name))
+            ran = {step.command for step in report_of(case.report).steps}
+            self.assertLessEqual(ran, set(pieces))
+        self.assertEqual(due, {})
 
     def test_script_finds_its_parts(self):
         case = next(case for case in cases() if case.name == "several_steps")

@@ -1,10 +1,11 @@
 """What a person wants to see of a text that says a model: its names, the
-parts of `start` and `keep`, and the commands with their stars."""
+parts of `start` and `keep`, and the commands with their stars. Every name is
+spelt as it is declared, however the text spells it where it is used."""
 
-from dataclasses import dataclass
+from dataclasses import dataclass, replace
 
-from notation import commands_in, in_roles, walk
-from tokens import cut, quoted
+from notation import commands_in, declarations, in_roles, walk
+from tokens import NAME, cut, quoted
 
 # What ends a test or an assignment.
 ENDS = ("do", ";", "else", "end", ".")
@@ -55,10 +56,22 @@ class Model:
 
 
 def model_of(text):
-    parts, _ = walk(cut(text))
+    parts = as_declared(walk(cut(text))[0])
     return Model(names_in(parts, "shared name"), names_in(parts, "row name"),
                  clause_of(parts, "start"), clause_of(parts, "keep"),
                  tuple(map(command_of, commands_in(parts))))
+
+
+def as_declared(parts):
+    """The parts, each name in the spelling of its declaration. No name gets
+    longer or shorter, so every token ends where it did."""
+    declared = declarations(parts)
+    return [respelt(part, declared[part.token.folded].token.word)
+            if part.kind == NAME else part for part in parts]
+
+
+def respelt(part, word):
+    return replace(part, token=replace(part.token, word=word))
 
 
 def names_in(parts, role):

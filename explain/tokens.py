@@ -27,12 +27,22 @@ class Token:
         return re.fullmatch("[A-Za-z0-9_]+", self.word) is not None
 
     @property
+    def folded(self):
+        """In small letters, which is all that tells names apart."""
+        return self.word.lower()
+
+    @property
+    def is_reserved_in_another_case(self):
+        return self.word not in RESERVED and self.folded in RESERVED
+
+    @property
     def kind(self):
         """What the notation sees; nothing where it has no such token."""
         if self.word in RESERVED + MARKS + ("0", "1"):
             return self.word
         is_name = (self.is_word and self.word[0].isalpha()
-                   and len(self.word) <= LONGEST_WORD)
+                   and len(self.word) <= LONGEST_WORD
+                   and self.folded not in RESERVED)
         return NAME if is_name else ""
 
 
@@ -42,7 +52,7 @@ def cut(text):
 
 
 def quoted(tokens, marks=None):
-    """The tokens as they stand in the text, with single spaces for blanks,
+    """The tokens in one line, with a single space where the text has blanks,
     and behind those at the places marked what they are marked with."""
     said, end = "", None
     for token in tokens:

@@ -4,7 +4,7 @@ refused."""
 from corpora.pairs_models import starred
 from corpora.reports_settings import these
 from corpora.reports_texts import padded
-from inputs.cases import G, G_VOID, H
+from inputs.cases import G, G_CASES, G_VOID, H, H_CASES
 from inputs.phrases import (command, list_of, model, nested, numbered,
                             stars)
 
@@ -18,6 +18,8 @@ def worked():
     yield ("G breaks at the start -> 8 87 32, unsafe",
            G.replace("keep 1 each not (w and x)", "keep 0 each 1"))
     yield "a newline after H -> 8 87 32, safe 12", H + "\n"
+    yield "G, names in other cases -> 8 87 32, unsafe", G_CASES
+    yield "H, names in other cases -> 8 87 32, safe 12", H_CASES
     yield ("a command more, 4 + 1 words -> 8 87 40, safe 15",
            H + " " + command("rest"))
     yield ("a command before, 8 + 4 words -> 8 87 96, safe 36",
@@ -73,10 +75,13 @@ def refused():
             (3, "^"), (3, "shared a^"), (3, "shared a^; b."),
             (3, SAID + command("c", "*") + "^."),
             (3, SAID + command("c", "*") + " ^skip"),
+            (3, SAID + command("c", "*") + " ^Command"),
             (4, "shared a. row b ^a."),
             (4, SAID + command("c", "*") + " command ^c"),
+            (4, SAID + command("c", "*") + " command ^C"),
             (5, "shared a. row. start ^b"),
             (5, SAID + command("c", "*") + " command d if ^w"),
+            (5, SAID + command("c", "*") + " command d if ^W"),
             (6, "shared. row. start ^*"),
             (6, SAID[:-3] + "^*. " + command("c", "*")),
             (7, "shared a b c d e f g h ^i."),

@@ -24,34 +24,40 @@ def declarations():
     yield "undeclared with no names -> 5", model("", "", start=("a", "1"))
 
 
+def uses(word, shared="a b", row="x y"):
+    """Each place where a name is read or assigned, with a text that has the
+    word there, and the kinds of name that fit."""
+    def text(**parts):
+        return model(shared, row, **parts)
+
+    def items(**sides):
+        return text(commands=[command(**sides)])
+
+    for clause in ("start", "keep"):
+        yield f"{clause} shared", text(**{clause: (word, "1")}), "shared"
+        yield f"{clause} row", text(**{clause: ("1", word)}), "shared row"
+    yield "test", text(commands=[command("c", word)]), "shared"
+    yield "do value", items(yes=f"a:={word}"), "shared"
+    yield "else value", items(no=f"a:={word}"), "shared"
+    yield "do target", items(yes=f"{word}:=1"), "shared"
+    yield "else target", items(no=f"{word}:=1"), "shared"
+    for side in ("yes", "no"):
+        for detail, item, fitting in (
+                ("condition", loop(word), "shared row"),
+                ("do target", loop(yes=f"{word}:=1"), "row"),
+                ("else target", loop(no=f"{word}:=1"), "row"),
+                ("do value", loop(yes=f"x:={word}"), "shared row"),
+                ("else value", loop(no=f"x:={word}"), "shared row")):
+            yield f"for {detail} in {side}", items(**{side: item}), fitting
+
+
 def kinds():
     """Names of each kind at each place where a name is read or assigned."""
-    def places(word):
-        yield "start shared", model(start=(word, "1"))
-        yield "start row", model(start=("1", word))
-        yield "keep shared", model(keep=(word, "1"))
-        yield "keep row", model(keep=("1", word))
-        yield "test", model(commands=[command("c", word)])
-        yield "do value", model(commands=[command(yes=f"a:={word}")])
-        yield "else value", model(commands=[command(no=f"a:={word}")])
-        yield "do target", model(commands=[command(yes=f"{word}:=1")])
-        yield "else target", model(commands=[command(no=f"{word}:=1")])
-        for side in ("yes", "no"):
-            for detail, item in (
-                    ("condition", loop(word)),
-                    ("do target", loop(yes=f"{word}:=1")),
-                    ("else target", loop(no=f"{word}:=1")),
-                    ("do value", loop(yes=f"x:={word}")),
-                    ("else value", loop(no=f"x:={word}"))):
-                yield f"for {detail} in {side}", model(
-                    commands=[command(**{side: item})])
-    for word in ("b", "y", "c", "q"):
-        for where, text in places(word):
-            row_place = "row" in where or "for" in where
-            target = "target" in where
-            fits = ((word == "b" and not (row_place and target))
-                    or (word == "y" and row_place))
-            yield f"{word} as {where} -> {'model' if fits else '5'}", text
+    for word, kind in (("b", "shared"), ("y", "row"), ("c", "command"),
+                       ("q", "undeclared")):
+        for where, text, fitting in uses(word):
+            meant = "model" if kind in fitting.split() else "5"
+            yield f"{word} as {where} -> {meant}", text
     for place in ("(q)", "not q", "a and q", "q and a", "a or (b and not q)"):
         yield f"undeclared in {place} -> 5", model(start=(place, "1"))
     yield "a later command's name -> 5", model(

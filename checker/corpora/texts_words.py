@@ -73,15 +73,12 @@ def words():
             f"a{char} a{char}{char}", f"Z{char}z", start=("a" + char, "1"))
     yield "all digits and underscores -> model", model(
         "a0123456789_____ Z_z_0_9", "z9_Z A_________0", start=("Z_z_0_9", "1"))
-    yield "case tells names apart -> model", model(
-        "ab aB Ab AB", start=("ab and aB and Ab and AB", "1"))
-    yield "case tells a name undeclared -> 5", model("ab", start=("aB", "1"))
     yield "a name that begins another -> model", model(
         "a aa aaa", "aaaa", start=("aa or aaa", "aaaa or a"))
     yield "an undeclared beginning -> 5", model("aa", "x", start=("a", "1"))
     yield "an undeclared growth -> 5", model("aa", "x", start=("aaa", "1"))
     yield "last byte differs at 16 -> 5", model(
-        LONG, start=(LONG[:15] + "P", "1"))
+        LONG, start=(LONG[:15] + "q", "1"))
     yield "long word at the text's start -> 2", TOO_LONG + " " + model()
     yield "long word at the text's end -> 2", model() + TOO_LONG
     yield "long word of digits at the text's end -> 2", model() + "1" * 17
@@ -99,8 +96,7 @@ def reserved():
             commands=[command(yes=f"{word} := 1")])
         yield f"{word} as a row target -> 3", model(
             commands=[command(yes=loop(yes=f"{word} := 1"))])
-        like = (word.upper(), word.capitalize(), word + "_", word + "0",
-                word[:-1])
+        like = (word + "_", word + "0", word + "s", word[:-1], "a" + word)
         yield f"words like {word} -> model", model(
             " ".join(like),
             commands=[command(word + word, like[0], f"{like[1]}:=1")])

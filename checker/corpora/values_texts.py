@@ -1,7 +1,7 @@
 """Worked examples, texts with little to value, and texts that are refused."""
 
 from corpora.texts import corpus as reader_texts
-from inputs.cases import G, H
+from inputs.cases import G, G_CASES, H, H_CASES
 from inputs.phrases import command, list_of, loop, model
 
 REFUSED = 6
@@ -18,6 +18,20 @@ def worked():
             for word in range(4):
                 yield (f"{name} in {state} under {word} -> passes {passes}",
                        text, state, word)
+
+
+def names_in_cases():
+    """The same values, whatever the case; a name is read in both."""
+    for name, text, passes in (("G", G_CASES, 12), ("H", H_CASES, 15)):
+        for state in range(8):
+            yield (f"{name} in {state} -> passes {passes}",
+                   text, state, state % 4)
+    text = model("aB b", "X xY", ("AB and not B", "x or XY"),
+                 ("ab or AB", "not xy and Ab"),
+                 [command("Xx", "B or *", "AB := b",
+                          loop("x and Xy", "XY := X", "x := aB"))])
+    for state in range(16):
+        yield (f"four names in {state} -> passes 23", text, state, state % 2)
 
 
 def no_names():
@@ -72,4 +86,4 @@ def refused():
     yield "G without its end -> refused 3", G[:-1], 5, 2
 
 
-GROUPS = (worked, no_names, skipping, refused)
+GROUPS = (worked, names_in_cases, no_names, skipping, refused)

@@ -13,6 +13,14 @@ G = ("shared m. row w x.\n"
      "for 1 do w := *; x := * else skip end else skip.")
 H = G.replace("x := *", "x := not w and *")
 
+# The same with names in other cases, so that the bytes of sheets are too.
+G_CASES = ("shared M. row w X.\n"
+           "start m each not x.\n"
+           "keep 1 each not (W and x).\n"
+           "command Grant if m do\n"
+           "for 1 do W := *; x := * else skip end else skip.")
+H_CASES = G_CASES.replace("x := *", "X := not W and *")
+
 # Nothing starts; 6 and 7 break as in G.
 G_VOID = G.replace("start m each not x", "start 1 each 0")
 

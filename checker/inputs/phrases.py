@@ -46,5 +46,12 @@ def stars(count):
     return " or ".join(["*"] * count)
 
 
+def refused_at(detail, number, text):
+    """A label and the text, which is refused where the mark ^ stands."""
+    place = text.index("^")
+    return (f"{detail} -> refused {number} {place}",
+            text.replace("^", "", 1))
+
+
 def nested(opening, closing, depth, core="1"):
     return opening * depth + core + closing * depth

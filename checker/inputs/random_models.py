@@ -34,7 +34,9 @@ def fresh_word(rng, taken, longest):
         if taken and rng.random() < 0.2:
             # Near namesakes: names that begin or continue one another.
             word = (rng.choice(sorted(taken)) + word)[:longest]
-        if word not in taken and word not in RESERVED:
+        small = word.lower()
+        if small not in RESERVED and all(small != other.lower()
+                                         for other in taken):
             taken.add(word)
             return word
 

@@ -4,6 +4,7 @@ import random
 
 from evidence.one_row import OneRow
 from evidence.reservations import most_trials
+from inputs.random_cases import names_recased
 from inputs.random_models import Writer
 from inputs.random_sheets import random_sheet
 from inputs.random_texts import random_texts
@@ -31,6 +32,8 @@ def random_pairs(count, seed, accepted):
     other = [] if accepted else [text for _, text in random_texts(count, seed)]
     for number in range(count):
         text = model_text(rng)
+        if rng.random() < 0.4:
+            text = names_recased(rng, text)
         sheet = random_sheet(rng, OneRow(read(text)))
         if not accepted and rng.random() < 0.1:
             said = read(other[number])

@@ -4,6 +4,7 @@ import random
 
 from corpora.reports_order import random_graph
 from corpora.reports_random import larger_text
+from inputs.random_cases import names_recased, reserved_recased
 from inputs.random_settings import spread_text
 from inputs.random_stars import starry_text
 from inputs.random_texts import random_texts
@@ -15,6 +16,7 @@ MOST_STEPS = 1500
 
 
 def random_models(count, seed):
+    """Of some the names are in other cases, of a few reserved words."""
     rng = random.Random(seed)
     other = [text for _, text in random_texts(count // 20 + 1, seed)]
     texts = []
@@ -34,5 +36,10 @@ def random_models(count, seed):
             text = other.pop()
             if not isinstance(read(text), Refusal):
                 continue
+        case = rng.random()
+        if case < 0.03:
+            text, _ = reserved_recased(rng, text)
+        elif case < 0.4:
+            text = names_recased(rng, text)
         texts.append(text)
     return texts

@@ -1,7 +1,9 @@
-"""Random texts from a seed: whole models, models at a limit, damaged ones."""
+"""Random texts from a seed: whole models, models at a limit, damaged ones;
+of each some with names or reserved words in other cases."""
 
 import random
 
+from inputs.random_cases import names_recased, reserved_recased
 from inputs.random_models import LIMITS, WORD_BYTES, Writer
 from reader.tokens import RESERVED
 
@@ -42,7 +44,7 @@ def harm_tokens(rng, tokens):
     j = rng.randrange(len(tokens))
     k = rng.randrange(len(tokens))
     words = [i for i, token in enumerate(tokens)
-             if token[0].isalpha() and token not in RESERVED]
+             if token[0].isalpha() and token.lower() not in RESERVED]
     constants = [i for i, token in enumerate(tokens) if token in ("0", "1")]
     way = rng.randrange(12)
     if way == 0:
@@ -106,7 +108,7 @@ def whole(rng, aim=None, over=0):
     return tokens, data
 
 
-def one(rng):
+def as_first_written(rng):
     """A label and a text."""
     way = rng.random()
     if way < 0.25:
@@ -133,6 +135,19 @@ def one(rng):
     for _ in range(harms):
         data = harm_bytes(rng, data)
     return "bytes harmed", data
+
+
+def one(rng):
+    """The label holds for names in other cases too."""
+    label, text = as_first_written(rng)
+    way = rng.random()
+    if way < 0.1:
+        text, place = reserved_recased(rng, text)
+        if place is not None:
+            label = "reserved words in other cases"
+    elif way < 0.4:
+        text = names_recased(rng, text)
+    return label, text
 
 
 def random_texts(count, seed):

@@ -2,6 +2,7 @@
 
 import random
 
+from inputs.random_cases import names_recased
 from inputs.random_models import LIMITS, Writer
 from inputs.random_texts import random_texts, spelled
 from inputs.small_models import small_text
@@ -42,8 +43,13 @@ def model_text(rng):
 
 
 def random_entries(count, seed):
-    """Most texts say a model."""
+    """Most texts say a model; of some the names are in other cases."""
     rng = random.Random(seed)
-    other = [text for _, text in random_texts(count, seed)]
-    return [at_random(rng, model_text(rng).encode("latin-1")
-                      if rng.random() < 0.75 else text) for text in other]
+    entries = []
+    for _, text in random_texts(count, seed):
+        if rng.random() < 0.75:
+            text = model_text(rng).encode("latin-1")
+            if rng.random() < 0.4:
+                text = names_recased(rng, text)
+        entries.append(at_random(rng, text))
+    return entries

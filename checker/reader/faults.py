@@ -32,9 +32,9 @@ def named(parts, *slots):
 def repeated(parts):
     seen = set()
     for part in named(parts, *DECLARING):
-        if part.token.word in seen:
+        if part.token.small in seen:
             yield Refusal(4, part.token.place)
-        seen.add(part.token.word)
+        seen.add(part.token.small)
 
 
 def misused(parts):
@@ -43,8 +43,8 @@ def misused(parts):
     Shared and row names are all declared before the first use of any name,
     and a command's name never fits.
     """
-    shared = {part.token.word for part in named(parts, "shared names")}
-    row = {part.token.word for part in named(parts, "row names")}
+    shared = {part.token.small for part in named(parts, "shared names")}
+    row = {part.token.small for part in named(parts, "row names")}
     for part in parts:
         if part.kind != NAME:
             continue
@@ -57,7 +57,7 @@ def misused(parts):
             fitting = row
         else:
             continue
-        if part.token.word not in fitting:
+        if part.token.small not in fitting:
             yield Refusal(5, part.token.place)
 
 

@@ -25,18 +25,20 @@ def read(text):
 
 
 def model_of(parts):
-    shared = names_of(parts, "shared names")
-    row = names_of(parts, "row names")
-    meanings = {name.word: Shared(j) for j, name in enumerate(shared)}
-    meanings |= {name.word: Row(j) for j, name in enumerate(row)}
+    meanings = {part.token.small: kind(j)
+                for kind, slot in ((Shared, "shared names"),
+                                   (Row, "row names"))
+                for j, part in enumerate(named(parts, slot))}
     return Model(
-        shared, row,
+        names_of(parts, "shared names"),
+        names_of(parts, "row names"),
         clause_of(parts, "start", meanings),
         clause_of(parts, "keep", meanings),
         tuple(command_of(run, meanings) for run in by_command(parts)))
 
 
 def names_of(parts, slot):
+    """As their declarations spell them."""
     return tuple(Name(part.token.word, part.token.place, part.token.length)
                  for part in named(parts, slot))
 
@@ -71,7 +73,7 @@ def item_of(parts, side, meanings):
     if first.kind == "skip":
         return Skip()
     if first.kind == NAME:
-        return Assignment(meanings[first.token.word],
+        return Assignment(meanings[first.token.small],
                           expression_in(parts, f"{side} value", meanings))
     return For(expression_in(parts, f"{side} for condition", meanings),
                items_in(parts, f"{side} for do", meanings),
@@ -99,7 +101,7 @@ def expression_of(tokens, meanings):
         return expression_of(tokens[1:-1], meanings)
     if first.kind in ("0", "1"):
         return Constant(int(first.kind))
-    return meanings[first.word if first.kind == NAME else first.place]
+    return meanings[first.small if first.kind == NAME else first.place]
 
 
 def chain(operator, parts):

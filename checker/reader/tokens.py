@@ -6,6 +6,7 @@ is a token too, so that a fault always has a token to stand at.
 """
 
 import re
+import string
 from dataclasses import dataclass
 
 RESERVED = ("shared", "row", "start", "keep", "each", "command", "if", "do",
@@ -14,7 +15,7 @@ LONGEST_WORD = 16
 
 NAME = "name"
 BAD = "bad byte or long word"
-MISFIT = "word that is neither name nor constant"
+MISFIT = "word that can stand nowhere"
 TEXT_END = "end of text"
 
 # Alternatives are tried in turn: := must come before : alone.
@@ -23,13 +24,24 @@ CUT = re.compile(rb"(?P<blank>[ \n]+)"
                  rb"|(?P<mark>:=|[.;:=()*])"
                  rb"|(?P<other>[\x00-\xff])")
 
+# Only these letters have two cases, and every other byte is itself alone.
+IN_SMALL = str.maketrans(string.ascii_uppercase, string.ascii_lowercase)
+
 
 @dataclass(frozen=True)
 class Token:
+    """The word as the text spells it, and in small letters: names are the
+    same where these are."""
+
     place: int
     length: int
     kind: str
     word: str
+    small: str
+
+
+def in_small(word):
+    return word.translate(IN_SMALL)
 
 
 def word_kind(word):
@@ -37,7 +49,9 @@ def word_kind(word):
         return BAD
     if word in RESERVED or word in ("0", "1"):
         return word
-    return NAME if word[0].isalpha() else MISFIT
+    if in_small(word) in RESERVED or word[0] not in string.ascii_letters:
+        return MISFIT
+    return NAME
 
 
 def cut(text):
@@ -52,6 +66,7 @@ def cut(text):
             kind = word
         else:
             kind = BAD
-        tokens.append(Token(match.start(), len(word), kind, word))
-    tokens.append(Token(len(text), 0, TEXT_END, ""))
+        tokens.append(Token(match.start(), len(word), kind, word,
+                            in_small(word)))
+    tokens.append(Token(len(text), 0, TEXT_END, "", ""))
     return tokens

@@ -36,14 +36,14 @@ def pieces(text, anew=("command",)):
         if kind in BEHIND:
             inside = False
         if inside and kind == NAME:
-            found[-1].append(f"n[{names.index(token.word)}]")
+            found[-1].append(f"n[{names.index(token.word.lower())}]")
         elif inside and kind == "*":
             found[-1].append(f"c[{stars}]")
             stars += 1
         elif inside:
             found[-1].append(kind)
         elif kind == NAME:
-            names.append(token.word)
+            names.append(token.word.lower())
         if kind in AHEAD:
             inside = True
             found.append([])

@@ -85,7 +85,7 @@ class Corpus(unittest.TestCase):
         for (label, text, sheet), said in zip(self.pairs, self.said):
             met = at_random if "_random: " in label else by_hand
             note_void(met, text, sheet, said)
-        for text, sheet in random_pairs(600, 5, False):
+        for text, sheet in random_pairs(1000, 5, False):
             note_void(fuzzed, text, sheet, answer(text, sheet))
         for met, least in ((by_hand, 30), (at_random, 5), (fuzzed, 5)):
             for meant in ("void, empty", "void, members", "B", "C", "D"):

@@ -71,6 +71,15 @@ REFUSED = [
     (3, "@shareda"),
     (3, "@sharedd."),
     (3, "@Shared."),
+    (3, "shared @Shared."),
+    (3, "shared a @eNd."),
+    (3, "shared. @Row."),
+    (3, LISTS + "start a @AND b"),
+    (3, LISTS + "start @Not a"),
+    (3, TO_COMMANDS + "@Command c"),
+    (3, TO_COMMANDS + "command @IF if"),
+    (3, TO_ITEMS + "@SKIP else"),
+    (3, TO_ITEMS + "@For := 1"),
     (3, "shared @shared."),
     (3, "shared a@; b."),
     (3, "shared a. @start 1"),
@@ -153,6 +162,7 @@ REFUSED = [
     (2, TO_COMMANDS + ANY + "@#"),
     (2, TO_COMMANDS + ANY + "\n@" + WORD_17),
     (2, "shared @" + WORD_17 + "\x00"),
+    (2, "shared @Rowaaaaaaaaaaaaaa."),
     # 4: declared before.
     (4, "shared a @a."),
     (4, "shared a b @a b."),
@@ -161,13 +171,19 @@ REFUSED = [
     (4, TO_COMMANDS + "command @b if"),
     (4, TO_COMMANDS + "command @y"),
     (4, TO_COMMANDS + ANY + " command d if 1 do skip else skip. command @c"),
+    (4, "shared a @A."),
+    (4, "shared Page. row x @pagE."),
+    (4, TO_COMMANDS + "command @B if"),
+    (4, TO_COMMANDS + "command @Y"),
+    (4, TO_COMMANDS + ANY + " command @C"),
     # 5: undeclared, or of a kind that does not fit.
     (5, LISTS + "start @c"),
     (5, LISTS + "start @x each"),
     (5, LISTS + "start not (a or @y)"),
     (5, LISTS + "start a each @q"),
     (5, LISTS + "start 1 each 1. keep @x each"),
-    (5, LISTS + "start @A each"),
+    (5, LISTS + "start @C each"),
+    (5, LISTS + "start @X each"),
     (5, TO_TEST + "@c do"),
     (5, TO_TEST + "@x do"),
     (5, TO_ITEMS + "@x := 1"),
@@ -258,7 +274,9 @@ READ = [
     + "command m if 1 do skip else skip.",
     "shared a b c d e f g h. row i j k l. " + CLAUSES
     + "command m if 1 do skip else skip.",
-    "shared " + WORD_16 + " Z_9 z0. row And NOT starts. " + CLAUSES + ANY,
+    "shared " + WORD_16 + " Z_9 z0. row Ands NOT_ starts. " + CLAUSES + ANY,
+    "shared Rowaaaaaaaaaaaaa. row aRow Row_1. start ROWAAAAAAAAAAAAA "
+    "each arow or row_1. keep 1 each 1. " + ANY,
     LISTS + "start " + "(" * 16 + "1" + ")" * 16 + " each " + "not " * 16
     + "x. keep 1 each 1. " + ANY,
     LISTS + "start " + "(" * 15 + "not a and not b or (a) and (b)" + ")" * 15
@@ -382,8 +400,9 @@ class Expected(unittest.TestCase):
             self.assertEqual(read(f"shared a {word}".encode()), Refusal(3, 9))
             self.assertEqual(read(f"shared a {word}_.".encode()),
                              Refusal(3, 11 + len(word)))
-            self.assertEqual(read(f"shared a {word.upper()}".encode()),
-                             Refusal(3, 9 + len(word)))
+            for other in (word.upper(), word.capitalize()):
+                self.assertEqual(read(f"shared a {other} b".encode()),
+                                 Refusal(3, 9))
 
     def test_model(self):
         text = ("shared a. row x. start a each x. keep not a each 1. "
@@ -398,6 +417,20 @@ class Expected(unittest.TestCase):
                       For(Row(0), (Skip(),),
                           (Assignment(Row(0), Star(2)),))),
                      (Skip(),), 3),)))
+
+    def test_names_in_other_cases(self):
+        """Each is spelled as it is declared."""
+        text = ("shared Page. row dIrty. start pAGE each DIRTY. "
+                "keep page each 1. command Wash if PAGE do page := Page; "
+                "for dirty do Dirty := pagE else skip end else skip.")
+        self.assertEqual(read(text.encode()), Model(
+            (Name("Page", 7, 4),), (Name("dIrty", 17, 5),),
+            Clause(Shared(0), Row(0)), Clause(Shared(0), Constant(1)),
+            (Command(Name("Wash", 73, 4), Shared(0),
+                     (Assignment(Shared(0), Shared(0)),
+                      For(Row(0), (Assignment(Row(0), Shared(0)),),
+                          (Skip(),))),
+                     (Skip(),), 0),)))
 
     def test_equal_groupings_are_one_model(self):
         def start(expression):
@@ -484,8 +517,8 @@ else skip ; x := 0 end ; skip else skip ; for 1 do skip else x := 1 end ;
 b := ( 1 ) . command d if 0 do for 0 do skip else skip end
 else for 1 do skip else skip end .
 """.split()
-SPELLINGS = {"name": ("a", "b", "x", "c", "d", "q"),
-             "misfit": ("2", "00", "_a", "1x", "9_")}
+SPELLINGS = {"name": ("a", "b", "x", "c", "d", "q", "A", "X"),
+             "misfit": ("2", "00", "_a", "1x", "9_", "Shared", "anD", "IF")}
 SAMPLE = ["name" if word in SPELLINGS["name"] else word for word in SPELLED]
 
 

@@ -38,8 +38,10 @@ class Corpus(unittest.TestCase):
         for label, text in self.texts:
             _, arrow, meant = label.rpartition(" -> ")
             if arrow:
-                self.assertEqual(outcome(text), meant, label)
-                said[meant] += 1
+                whole = meant.startswith("refused ")
+                self.assertEqual(line(text) if whole else outcome(text),
+                                 meant, label)
+                said[meant.split(" ")[1] if whole else meant] += 1
         for meant in ("model", "1", "2", "3", "4", "5", "6", "7"):
             self.assertGreaterEqual(said[meant], 5, meant)
 
@@ -66,6 +68,8 @@ class RandomTexts(unittest.TestCase):
             elif "over the limit" in label:
                 self.assertEqual(answer, "7", label)
             met[answer] += 1
+            if label.startswith("reserved words"):
+                self.assertNotEqual(answer, "model", label)
         for answer in ("model", "1", "2", "3", "4", "5", "6", "7"):
             self.assertGreater(met[answer], 0, answer)
 

@@ -211,7 +211,7 @@ class Fuzzed(unittest.TestCase):
     def test_what_is_met(self):
         """Most texts say a model, and all of them have their state."""
         met = Counter()
-        for text, state, word in random_entries(600, 4):
+        for text, state, word in random_entries(900, 4):
             said = line(text, state, word).split(" ")
             met[said[0] if said[0] == "values" else said[1]] += 1
             self.assertLess(word, 256)
@@ -219,8 +219,8 @@ class Fuzzed(unittest.TestCase):
                 model_said = read_once(text)
                 self.assertLess(state, 1 << len(model_said.shared
                                                 + model_said.row))
-        self.assertGreater(met["values"], 400)
-        self.assertGreater(600 - met["values"], 60)
+        self.assertGreater(met["values"], 600)
+        self.assertGreater(900 - met["values"], 90)
         for number in "234567":
             self.assertGreater(met[number], 0, number)
 

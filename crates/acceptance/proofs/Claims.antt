@@ -11,14 +11,14 @@ use Rattle.notation.specs.Bytes.{bytes}
 use Rattle.notation.specs.Model.{Model}
 use Rattle.notation.specs.Texts.{TextSays}
 use Rattle.notation.specs.working.Machine as N
-use Rattle.notation.proofs.Texts.{says-answer, refused-answer}
+use Rattle.notation.proofs.Texts.{says-answer, refused-answer, answers-recased}
 use Rattle.notation.proofs.Regular.{all-regular}
 use Rattle.meaning.specs.Evidence.{Verdict, safeBy, voidBy, unsafeBy, Kind, safely, voidly, unsafely, kindOf, Passes, Promise}
 use Rattle.meaning.proofs.Parametric.{claim}
 use Rattle.sheets.specs.Sheets.{systemOf}
 use Rattle.sheets.specs.SheetTexts.{AreBytes}
 use Rattle.conditions.specs.Outcomes.{Wording, words, letter, returned, wordingOf}
-use Rattle.acceptance.specs.Promises.{answerTo, TestTells, PassTells, LetsPass, TextComesFirst, ClaimOfTest}
+use Rattle.acceptance.specs.Promises.{answerTo, TestTells, PassTells, LetsPass, TextComesFirst, TestedWithoutCase, ClaimOfTest}
 use Rattle.conditions.specs.working.Judging.{outcomeOf}
 use Rattle.acceptance.specs.working.Test.{testIn, testOf}
 use Rattle.conditions.specs.declared.outcome.Outcome.{Outcome}
@@ -108,6 +108,10 @@ pass-tells text m says b bytes =
 pub text-comes-first : TextComesFirst
 unfolding testOf testIn wordingOf
 text-comes-first text n i refused b = ap (λ (o : N.Outcome). wordingOf (testIn o b)) (refused-answer refused)
+
+pub tested-without-case : TestedWithoutCase
+unfolding testOf
+tested-without-case text other r b = ap (λ (o : N.Outcome). wordingOf (testIn o b)) (answers-recased r)
 
 -- The answer that lets a sheet pass with a verdict of this kind.
 abbrev passing : Kind → Wording

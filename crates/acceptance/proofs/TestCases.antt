@@ -2,7 +2,7 @@
 -- Assumes nothing.
 use mathlib.Core.Path.{_≡_, refl}
 use mathlib.Core.List.{List, [], _∷_, map}
-use Rattle.notation.specs.Bytes.{bytes, sameWord}
+use Rattle.notation.specs.Bytes.{bytes, inLowerCase, sameWord}
 use Rattle.notation.specs.Tokens.{reserved, wordIn, wordToken}
 use Rattle.notation.specs.Rules.{sameKind, allowed, nameCounts, view, has, elem}
 use Rattle.notation.specs.Model.{starsExpr, starsRow, starsItems, stars}
@@ -29,7 +29,7 @@ use Rattle.acceptance.specs.Cases.{Case, cases, AllCases}
 
 -- To unfold this is to unfold all that computes the answer to a text and a sheet.
 unfoldable pub answering : Unit {0}
-unfolding bytes sameWord reserved wordIn wordToken sameKind allowed nameCounts view has elem starsExpr starsRow starsItems stars
+unfolding bytes inLowerCase sameWord reserved wordIn wordToken sameKind allowed nameCounts view has elem starsExpr starsRow starsItems stars
     placeOf among nameOf exprOf rowItemOf rowItemsOf itemOf itemsOf commandOf clauseOf modelOf
     span mark front lexemes tokensFrom tally note exceeds fault lines skips find T.step ending reads answer
     bit number eval runRow runItem runItems step stateNumber spread spreadWord starts breaks next lastOf

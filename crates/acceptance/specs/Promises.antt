@@ -6,6 +6,7 @@ use mathlib.Core.List.{List}
 use Prim.Native.Nat.{ℕ, _≤_}
 use Rattle.notation.specs.Model.{Model}
 use Rattle.notation.specs.Texts.{TextSays, TextRefused}
+use Rattle.notation.specs.Case.{Recased}
 use Rattle.meaning.specs.Meaning.{CanStart}
 use Rattle.meaning.specs.OneRow.{One, TraceStep}
 use Rattle.meaning.specs.Evidence.{safe, trace, safeBy, voidBy, unsafeBy, IsVoid, Passes, Promise, ConditionA, ConditionB, ConditionC, ConditionD, ConditionE, ConditionF}
@@ -56,6 +57,10 @@ PassTells = (text : List ℕ) (m : Model) → TextSays text m → (b : List ℕ)
 -- A text that says no model gets its own first refusal, whatever the bytes are.
 abbrev pub TextComesFirst : Type 0
 TextComesFirst = (text : List ℕ) (n i : ℕ) → TextRefused text n i → (b : List ℕ) → answerTo text b ≡ returned n i
+
+-- The case of letters inside names changes no answer.
+abbrev pub TestedWithoutCase : Type 0
+TestedWithoutCase = (text other : List ℕ) → Recased text other → (b : List ℕ) → answerTo text b ≡ answerTo other b
 
 -- The numbers in an answer: a refusal has a number from 1 to 10, and its place is no further than the longest sheet reaches.
 abbrev pub Bounded : Wording → Type 0

@@ -10,10 +10,10 @@ use lib.Dec.{eqb}
 use lib.ListN.{length}
 use Rattle.notation.specs.Model.{Model}
 use Rattle.notation.specs.Regular.{Every, Among}
+use Rattle.notation.proofs.Members.{every-among}
 use Rattle.meaning.specs.OneRow.{stateCount}
 use Rattle.meaning.specs.Evidence.{inMap}
 use Rattle.meaning.proofs.Fits.{runs-fit}
-use Rattle.meaning.proofs.Lists.{every-among}
 use Rattle.meaning.proofs.Number.{stateNumber-lt}
 use Rattle.meaning.specs.Meaning.{last}
 use Rattle.exploration.specs.Findings.{Reaches, ExactMap}

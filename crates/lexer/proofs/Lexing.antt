@@ -11,14 +11,14 @@ use lib.Dec.{eqb, ltb, leb}
 use lib.ListN.{length, getD, drop, take, length-drop}
 use lib.Seq.{slice, slice-cons, slice-empty, drop-cons, length-slice, take-add, drop-at, length-take-le}
 use borrow.Author.Tests.{eq-eqb, ne-eqb, eqb-true, eqb-false, ltb-true, ltb-false, leb-true, leb-false, le-leb, lt-leb}
-use Rattle.notation.specs.Bytes.{letter, wordByte, begins}
+use Rattle.notation.specs.Bytes.{letter, wordByte, inLowerCase, begins}
 use Rattle.notation.specs.Tokens.{sign, name, Word, reserved, wordIn, plainWord, wordToken, markOf, ZERO, ONE, STAR, DOT, SEMI, ASSIGN, OPEN, CLOSE, OTHER, longestWord}
 use Rattle.notation.specs.working.Lexing.{span, beginsWith, Front, oneByte, signOf, mark, front, tokensFrom}
 use Rattle.notation.proofs.Lexes.{from-end, from-token}
 use Rattle.lexer.specs.declared.pieces.Piece.{Piece}
-use Rattle.lexer.specs.working.Pieces.{numberOr, pieceOf, tokenOf, listed, Fresh, blanks, plainPiece, numberedPiece, wordPiece, signPiece, markPiece, pieceFrom, pieceAt, WORDS, NAME, BAD, FINISH}
-use Rattle.lexer.proofs.Runs.{word-run, run-step, run-within, Behind, behind-blanks}
-use Rattle.lexer.proofs.Spelling.{token-long, token-reserved, token-plain, plain-other, plain-digit}
+use Rattle.lexer.specs.working.Pieces.{numberOr, otherCase, pieceOf, bytePiece, tokenOf, listed, Fresh, blanks, numberedPiece, wordPiece, signPiece, markPiece, pieceFrom, pieceAt, WORDS, NAME, BAD, FINISH}
+use Rattle.lexer.proofs.Runs.{word-run, run-step, run-last, run-within, Behind, behind-blanks}
+use Rattle.lexer.proofs.Spelling.{token-long, token-reserved, token-other, token-one, token-plain, plain-other, plain-digit}
 
 -- Parts of a text.
 
@@ -64,7 +64,7 @@ record Worded (text : List ℕ) (s e : ℕ) (r : Piece) : Type 0 where
   pub kind : r .kind < FINISH
   pub short : r .kind ≡ NAME → e ≤ s + longestWord
 
--- The word is short and not reserved.
+-- The word is short and not reserved in any case.
 record Plain (text : List ℕ) (s e : ℕ) : Type 0 where
   pub fits : (s < e) × (e ≤ length text)
   pub short : e - s ≤ longestWord
@@ -92,14 +92,18 @@ module _ {text : List ℕ} {s e : ℕ} where
       word-reserved : k < WORDS → Worded text s e (pieceOf k s e 3)
       word-reserved u = is-sign k (omega arith) (token-reserved s (slice s e text) (omega (arith, size text s e fits)) k is u)
 
-      plain : WORDS ≤ k → Plain text s e
-      plain u = record { fits = fits; short = h; token = token-plain s (slice s e text) (omega (arith, size text s e fits)) k is u }
+      module _ (u : WORDS ≤ k) where
+        word-recased : otherCase (slice s e text) ≡ true → Worded text s e (pieceOf OTHER s e 3)
+        word-recased o = is-sign OTHER (omega arith) (token-other s (slice s e text) (omega (arith, size text s e fits)) k is u o)
+
+        plain : otherCase (slice s e text) ≡ false → Plain text s e
+        plain o = record { fits = fits; short = h; token = token-plain s (slice s e text) (omega (arith, size text s e fits)) k is u o }
 
   module _ (p : Plain text s e) where
     word-name : letter (getD text s 0) ≡ true → Worded text s e (pieceOf NAME s e 3)
     unfolding tokenOf
     word-name h =
-        let t : wordToken s (slice s e text) ≡ some (name (record { place = s; word = slice s e text })) = p .token ∙ rw (first text s e (p .fits) ∙ h) in
+        let t : wordToken s (slice s e text) ≡ some (name (record { place = s; word = inLowerCase (slice s e text) })) = p .token ∙ rw (first text s e (p .fits) ∙ h) in
         record { start = refl; ends = refl; token = sym t; fault = refl; kind = omega arith; short = λ z. omega arith }
 
     module _ (h : letter (getD text s 0) ≡ false) where
@@ -125,22 +129,37 @@ module _ {text : List ℕ} {s e : ℕ} where
   by-test true a b = a refl
   by-test false a b = b refl
 
-  worded : (s < e) × (e ≤ length text) → Worded text s e (wordPiece text s e)
-  unfolding wordPiece numberedPiece plainPiece
-  worded fits =
+  either : {t : Piece} (x : Bool) → (x ≡ true → Worded text s e t) → (x ≡ false → Worded text s e t) → Worded text s e t
+  either true a b = a refl
+  either false a b = b refl
+
+  byte-worded : (s < e) × (e ≤ length text) → e - s < 2 → Worded text s e (bytePiece (getD text s 0) s e)
+  unfolding bytePiece
+  byte-worded fits h =
       let b = getD text s 0 in
-      let k = numberOr (wordIn (slice s e text) reserved 0) in
-      by-test (ltb longestWord (e - s)) (λ h. word-long fits (ltb-true longestWord (e - s) h))
-      (λ h. let short : e - s ≤ longestWord = ltb-false longestWord (e - s) h in
-      by-test (ltb k WORDS) (λ u. word-reserved fits short refl (ltb-true k WORDS u))
-      (λ u. let p : Plain text s e = plain fits short refl (ltb-false k WORDS u) in
+      let one : e - s ≡ 1 = omega arith in
+      let word : slice s e text ≡ b ∷ [] = alone text s e fits one in
+      let p : Plain text s e = record { fits = fits; short = omega arith; token = rw word (token-one s b) } in
       by-test (letter b) (λ l. word-name p l)
-      (λ l. by-test (eqb (e - s) 1)
-      (λ n. let one : e - s ≡ 1 = eqb-true (e - s) 1 n in
-      by-test (eqb b 48) (λ z. word-zero p l one (eqb-true b 48 z))
+      (λ l. by-test (eqb b 48) (λ z. word-zero p l one (eqb-true b 48 z))
       (λ z. by-test (eqb b 49) (λ o. word-one p l one (eqb-false b 48 z) (eqb-true b 49 o))
       (λ o. word-digit p l one (eqb-false b 48 z) (eqb-false b 49 o))))
-      (λ n. word-other p l (eqb-false (e - s) 1 n)))))
+
+  worded : (s < e) × (e ≤ length text) → Worded text s e (wordPiece text s e)
+  unfolding wordPiece numberedPiece
+  worded fits =
+      let b = getD text s 0 in
+      let w = slice s e text in
+      let k = numberOr (wordIn w reserved 0) in
+      by-test (ltb (e - s) 2) (λ h. byte-worded fits (ltb-true (e - s) 2 h))
+      (λ q. by-test (ltb longestWord (e - s)) (λ h. word-long fits (ltb-true longestWord (e - s) h))
+      (λ h. let short : e - s ≤ longestWord = ltb-false longestWord (e - s) h in
+      by-test (ltb k WORDS) (λ u. word-reserved fits short refl (ltb-true k WORDS u))
+      (λ u. let more : WORDS ≤ k = ltb-false k WORDS u in
+      by-test (letter b)
+      (λ l. by-test (otherCase w) (λ o. word-recased fits short refl more o) (λ o. word-name (plain fits short refl more o) l))
+      (λ l. let many : 2 ≤ e - s = ltb-false (e - s) 2 q in either (otherCase w) (λ o. word-recased fits short refl more o)
+      (λ o. word-other (plain fits short refl more o) l (λ z. omega arith))))))
 
 -- The piece that stands at the front.
 
@@ -157,7 +176,7 @@ sign-fronts {text} {s} k m e h q i = record {
   ends = q;
   token = sign-token text k s e h;
   kind = omega arith;
-  fresh = record { fault = sign-fault text k s e h; last = λ z. absurd (omega arith); ordered = omega arith; inside = i; short = λ z. absurd (omega arith) };
+  fresh = record { fault = sign-fault text k s e h; last = λ z. absurd (omega arith); ordered = omega arith; inside = i; short = λ z. absurd (omega arith); named = λ z. absurd (omega arith) };
 }
 
 either-fronts : {text : List ℕ} {s : ℕ} {f g : Front} {t u : Piece} (x : Bool) → Fronts text s f t → Fronts text s g u → Fronts text s (cond x f g) (cond x t u)
@@ -185,7 +204,7 @@ module _ {text : List ℕ} {s : ℕ} (h : s < length text) where
     ends = omega arith;
     token = refl;
     kind = omega arith;
-    fresh = record { fault = refl; last = λ z. absurd (omega arith); ordered = omega arith; inside = omega arith; short = λ z. absurd (omega arith) };
+    fresh = record { fault = refl; last = λ z. absurd (omega arith); ordered = omega arith; inside = omega arith; short = λ z. absurd (omega arith); named = λ z. absurd (omega arith) };
   }
 
   -- A colon with the bytes that follow, of which `next` is the first.
@@ -203,6 +222,11 @@ module _ {text : List ℕ} {s : ℕ} (h : s < length text) where
       go none h = barred-fronts
       go (some k) h = one-fronts k (h k refl)
 
+-- A byte of a word is not 0.
+word-some : (b : ℕ) → wordByte b ≡ true → 0 < b
+word-some zero h = let z : _≡_ {A = ℕ} 0 1 = cc in absurd (omega arith)
+word-some (suc b) h = omega arith
+
 -- The next piece.
 
 -- The piece is the next one from place i on.
@@ -213,7 +237,7 @@ pub record Tokened (text : List ℕ) (i : ℕ) (t : Piece) : Type 0 where
 piece-end : {text : List ℕ} {i s : ℕ} → Behind text i s → length text ≤ s → Tokened text i (pieceOf FINISH (length text) (length text) 3)
 unfolding listed
 piece-end {text} {s = s} b h =
-    record { tokens = b .same ∙ from-end text s h; fresh = record { fault = refl; last = λ z. refl; ordered = omega arith; inside = omega arith; short = λ z. absurd (omega arith) } }
+    record { tokens = b .same ∙ from-end text s h; fresh = record { fault = refl; last = λ z. refl; ordered = omega arith; inside = omega arith; short = λ z. absurd (omega arith); named = λ z. absurd (omega arith) } }
 
 module _ {text : List ℕ} {i s : ℕ} (b : Behind text i s) (within : s < length text) where
   fronts : (t : Piece) → Fronts text s (front s (getD text s 0) (drop (suc s) text)) t → Tokened text i t
@@ -249,6 +273,7 @@ module _ {text : List ℕ} {i s : ℕ} (b : Behind text i s) (within : s < lengt
           ordered = omega (arith, q .start, q .ends);
           inside = omega (arith, q .ends);
           short = λ z. omega (arith, q .start, q .ends, q .short z);
+          named = λ z. (omega (arith, q .start, q .ends), rw (q .ends) (word-some _ (run-last word-run text (length text) s (omega arith) within w)));
         };
       }))
 

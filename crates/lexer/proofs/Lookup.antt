@@ -1,25 +1,30 @@
 -- Looking a word up among the declared names, byte by byte or eight bytes at a time, finds its place among their words, which says whether it is a name.
 -- Assumes nothing.
-use mathlib.Core.Path.{_≡_, refl, sym, ap, _∙_}
-use mathlib.Core.Bool.{Bool, true, false, cond, _&&_, _||_, or-false, and-true}
+use mathlib.Core.Path.{_≡_, refl, sym, ap, _∙_, subst}
+use mathlib.Core.Bool.{Bool, true, false, cond, not, _&&_, _||_, or-false, and-true}
+use mathlib.Core.Logic.{_⊎_, inl, inr}
 use mathlib.Core.List.{List, [], _∷_, _++_}
 use Prim.Native.Nat.{ℕ, zero, suc, _+_, _*_, _-_, _≤_, _<_}
 use native.Mathlib.Nat.{add-zero, zero-add, suc-add, sub-zero}
 use native.Mathlib.Numerals.{add-one, towards-suc}
 use native.Mathlib.Omega.{arith}
-use lib.Dec.{eqb, ltb, leb·suc-suc}
+use lib.Dec.{eqb, leb, ltb, leb·suc-suc}
 use lib.ListN.{length, getD, set, length-set}
 use lib.Seq.{slice, slice-cons, slice-empty, length-slice, getD-set-same, getD-set-other}
-use borrow.Author.Tests.{ltb-true, ltb-false, lt-ltb, le-ltb, eq-eqb, ne-eqb, eqb-true, eqb-false}
-use Rattle.notation.specs.Bytes.{sameWord}
+use borrow.Author.Tests.{leb-true, ltb-true, ltb-false, lt-ltb, le-ltb, eq-eqb, ne-eqb, eqb-true, eqb-false}
+use Rattle.notation.specs.Bytes.{between, lowerCase, inLowerCase, sameWord}
 use Rattle.notation.specs.Tokens.{Word}
 use Rattle.notation.specs.Texts.{among, placeOf}
-use Rattle.lexer.specs.working.Names.{Packed, window, wordAt, wordsIn}
-use Rattle.lexer.proofs.Spelling.{lengths-differ}
+use Rattle.notation.proofs.Booleans.{and-split}
+use Rattle.notation.proofs.Case.{lower-length, same-itself}
+use Rattle.lexer.specs.declared.pieces.Piece.{Piece}
+use Rattle.lexer.specs.working.Pieces.{nameIn, Fresh}
+use Rattle.lexer.specs.working.Names.{Packed, upperCase, Ending, window, sameFirst, wordAt, wordsIn}
+use Rattle.lexer.proofs.Spelling.{lengths-differ, upper-le, upper-ge, lower-upper, lower-stays, upper-below, upper-small}
 
 -- ---- windows of the text
 
-pub window-length : (text : List ℕ) (a n : ℕ) → length (window text a n) ≡ n
+window-length : (text : List ℕ) (a n : ℕ) → length (window text a n) ≡ n
 unfolding window
 window-length text a zero = refl
 window-length text a (suc n) = ap suc (window-length text (suc a) n)
@@ -29,57 +34,34 @@ unfolding window
 window-from text e s zero h k = let i : s ≡ e = omega arith in rw i (sym (slice-empty e text))
 window-from text e s (suc n) h k = rw (window-from text e (suc s) n (omega arith) k) (sym (slice-cons s e text 0 (omega arith) k))
 
-pub window-slice : (text : List ℕ) (s e : ℕ) → s ≤ e → e ≤ length text → window text s (e - s) ≡ slice s e text
+window-slice : (text : List ℕ) (s e : ℕ) → s ≤ e → e ≤ length text → window text s (e - s) ≡ slice s e text
 window-slice text s e h k = window-from text e s (e - s) (omega arith) k
+
+-- The word of a piece, and its length.
+module _ (text : List ℕ) (t : Piece) (f : Fresh text t) where
+  pub piece-word : inLowerCase (window text (t .start) (t .end - t .start)) ≡ nameIn text t .word
+  piece-word = ap inLowerCase (window-slice text (t .start) (t .end) (f .ordered) (f .inside))
+
+  pub piece-length : length (nameIn text t .word) ≡ t .end - t .start
+  piece-length = lower-length (slice (t .start) (t .end) text) ∙ length-slice (t .start) (t .end) text (f .inside)
 
 -- The piece from s to e against the name i, of n bytes from a on.
 module _ (text names : List ℕ) (i s e a n : ℕ) (h : s ≤ e) (k : e ≤ length text) (p : a ≡ getD names i 0) (q : n ≡ getD names (28 + i) 0) where
-  pub other-name : (e - s ≡ n → ⊥) → false ≡ sameWord (slice s e text) (wordAt text names i)
+  pub other-name : (e - s ≡ n → ⊥) → false ≡ sameWord (inLowerCase (slice s e text)) (wordAt text names i)
   unfolding wordAt
-  other-name d = lengths-differ _ _ (λ z. d (sym (length-slice s e text k) ∙ z ∙ window-length text _ _ ∙ sym q))
+  other-name d =
+      lengths-differ _ _
+      (λ z. d (sym (length-slice s e text k) ∙ sym (lower-length _) ∙ z ∙ lower-length _ ∙ window-length text _ _ ∙ sym q))
 
-  pub this-name : e - s ≡ n → sameWord (window text s n) (window text a n) ≡ sameWord (slice s e text) (wordAt text names i)
-  unfolding wordAt
+  pub this-name : e - s ≡ n → sameFirst text a s n ≡ sameWord (inLowerCase (slice s e text)) (wordAt text names i)
+  unfolding sameFirst wordAt
   this-name g = rw (sym p, sym q, sym g, window-slice text s e h k)
 
--- Two windows, byte by byte.
-module _ (text : List ℕ) (a b n : ℕ) where
-  -- Whether they are the same from byte j on.
-  abbrev pub sameFrom : ℕ → Bool
-  sameFrom j = sameWord (window text (b + j) (n - j)) (window text (a + j) (n - j))
-
-  pub same-start : sameFrom 0 ≡ sameWord (window text b n) (window text a n)
-  same-start = simp (add-zero, sub-zero)
-
-  module _ (j : ℕ) (h : j < n) where
-    same-turn : sameFrom j ≡ eqb (getD text (b + j) 0) (getD text (a + j) 0) && sameFrom (j + 1)
-    unfolding sameWord window
-    same-turn =
-        let e : n - j ≡ suc (n - (j + 1)) = omega arith in
-        let f : b + (j + 1) ≡ suc (b + j) = omega arith in
-        let g : a + (j + 1) ≡ suc (a + j) = omega arith in
-        rw (e, f, g)
-
-    pub same-no : (getD text (b + j) 0 ≡ getD text (a + j) 0 → ⊥) → false ≡ sameFrom j
-    same-no d = sym (same-turn ∙ rw (ne-eqb (getD text (b + j) 0) (getD text (a + j) 0) d))
-
-    pub same-more : getD text (b + j) 0 ≡ getD text (a + j) 0 → sameFrom (j + 1) ≡ sameFrom j
-    same-more d = sym (same-turn ∙ rw (eq-eqb (getD text (b + j) 0) (getD text (a + j) 0) d))
-
-  pub same-end : (j : ℕ) → n ≤ j → true ≡ sameFrom j
-  unfolding sameWord window
-  same-end j h = let e : n - j ≡ 0 = omega arith in rw e
-
--- ---- eight bytes at once
+-- ---- two windows, compared from their ends
 
 -- The lowest digits of two numbers, and what is above them.
-peel : (x y p q : ℕ) → x < 256 → y < 256 → eqb (x + 256 * p) (y + 256 * q) ≡ eqb x y && eqb p q
-peel x y p q h k = go (eqb x y) refl (eqb p q) refl
-  where
-    go : (s : Bool) → eqb x y ≡ s → (t : Bool) → eqb p q ≡ t → eqb (x + 256 * p) (y + 256 * q) ≡ s && t
-    go true e true f = eq-eqb (x + 256 * p) (y + 256 * q) (omega (arith, eqb-true x y e, eqb-true p q f))
-    go true e false f = ne-eqb (x + 256 * p) (y + 256 * q) (λ z. eqb-false p q f (omega (arith, eqb-true x y e, z)))
-    go false e t f = ne-eqb (x + 256 * p) (y + 256 * q) (λ z. eqb-false x y e (omega (arith, z)))
+peel : (x y p q : ℕ) → x < 256 → y < 256 → x + 256 * p ≡ y + 256 * q → (x ≡ y) × (p ≡ q)
+peel x y p q h k e = (omega arith, omega arith)
 
 and-and : (x y z : Bool) → x && (y && z) ≡ (x && y) && z
 and-and true y z = refl
@@ -89,57 +71,142 @@ and-false : (x : Bool) → x && false ≡ false
 and-false true = refl
 and-false false = refl
 
-window-eight : (text : List ℕ) (a : ℕ) → window text a 8 ≡
-    getD text a 0 ∷ getD text (a + 1) 0 ∷ getD text (a + 2) 0 ∷ getD text (a + 3) 0 ∷ getD text (a + 4) 0 ∷ getD text (a + 5) 0 ∷ getD text (a + 6) 0 ∷ getD text (a + 7) 0 ∷ []
-unfolding window
-window-eight text a = simp towards-suc
+-- What the comparison of two bytes told.
+pub told : {x y p q : ℕ} {r : Bool} → x ≡ p → y ≡ q → r ≡ eqb (lowerCase x) (lowerCase y) → eqb (lowerCase p) (lowerCase q) ≡ r
+told e f g = rw (sym e, sym f) (sym g)
 
-packs-same : (text : List ℕ) (a b x y : ℕ) → Packed text b x → Packed text a y → eqb x y ≡ sameWord (window text b 8) (window text a 8)
-unfolding sameWord
-packs-same text a b x y p q =
-    rw (p .number, q .number, window-eight text a, window-eight text b)
-    (rw (
-      peel _ _ _ _ (p .d0) (q .d0),
-      peel _ _ _ _ (p .d1) (q .d1),
-      peel _ _ _ _ (p .d2) (q .d2),
-      peel _ _ _ _ (p .d3) (q .d3),
-      peel _ _ _ _ (p .d4) (q .d4),
-      peel _ _ _ _ (p .d5) (q .d5),
-      peel _ _ _ _ (p .d6) (q .d6),
-      and-true (eqb (getD text (b + 7) 0) (getD text (a + 7) 0)),
-    ))
+module _ (text : List ℕ) where
+  -- The first k bytes, and the m behind them.
+  same-split : (a b k m : ℕ) → sameFirst text a b (k + m) ≡ sameFirst text a b k && sameFirst text (a + k) (b + k) m
+  unfolding sameFirst sameWord inLowerCase window
+  same-split a b zero m = simp (zero-add, add-zero)
+  same-split a b (suc k) m =
+      let f : b + suc k ≡ suc b + k = omega arith in
+      let g : a + suc k ≡ suc a + k = omega arith in
+      rw (suc-add k m, f, g)
+      (ap (λ (x : Bool). eqb (lowerCase (getD text b 0)) (lowerCase (getD text a 0)) && x) (same-split (suc a) (suc b) k m) ∙
+      and-and (eqb (lowerCase (getD text b 0)) (lowerCase (getD text a 0))) (sameFirst text (suc a) (suc b) k) (sameFirst text (suc a + k) (suc b + k) m))
 
-module _ (text : List ℕ) (a b n : ℕ) where
-  same-run : (m j : ℕ) → j + m ≤ n →
-      sameFrom text a b n j ≡ sameWord (window text (b + j) m) (window text (a + j) m) && sameFrom text a b n (j + m)
-  unfolding sameWord window
-  same-run zero j h = rw (add-zero j)
-  same-run (suc m) j h =
-      let e : j + suc m ≡ j + 1 + m = omega arith in
-      let f : b + (j + 1) ≡ suc (b + j) = omega arith in
-      let g : a + (j + 1) ≡ suc (a + j) = omega arith in
-      same-turn text a b n j (omega arith) ∙
-      rw (same-run m (j + 1) (omega arith), e)
-      (and-and (eqb (getD text (b + j) 0) (getD text (a + j) 0)) (sameWord (window text (b + (j + 1)) m) (window text (a + (j + 1)) m)) (sameFrom text a b n (j + 1 + m)) ∙
-      rw (f, g))
+  same-one : (a b : ℕ) → sameFirst text a b 1 ≡ eqb (lowerCase (getD text b 0)) (lowerCase (getD text a 0))
+  unfolding sameFirst sameWord inLowerCase window
+  same-one a b = and-true _
 
-module _ (text : List ℕ) (a b : ℕ) where
-  -- Whether the first k bytes are the same.
-  abbrev pub sameFirst : ℕ → Bool
-  sameFirst k = sameWord (window text b k) (window text a k)
+  module _ (a b k j : ℕ) (h : j + 1 ≡ k) where
+    same-last : sameFirst text a b k ≡ sameFirst text a b j && eqb (lowerCase (getD text (b + j) 0)) (lowerCase (getD text (a + j) 0))
+    same-last = ap (sameFirst text a b) (sym h) ∙ same-split a b j 1 ∙ ap (λ (x : Bool). sameFirst text a b j && x) (same-one (a + j) (b + j))
 
-  module _ (k m x y : ℕ) (h : m + 8 ≡ k) (p : Packed text (b + m) x) (q : Packed text (a + m) y) where
-    same-last : sameFirst k ≡ sameFirst m && eqb x y
-    same-last =
-        let e : k - m ≡ 8 = omega arith in
-        sym (same-start text a b k) ∙ same-run text a b k m 0 (omega arith) ∙
-        rw (zero-add m, add-zero a, add-zero b, e, packs-same text (a + m) (b + m) x y p q)
+    pub last-no : eqb (lowerCase (getD text (b + j) 0)) (lowerCase (getD text (a + j) 0)) ≡ false → false ≡ sameFirst text a b k
+    last-no d = sym (same-last ∙ rw d (and-false (sameFirst text a b j)))
 
-    pub eight-no : (x ≡ y → ⊥) → false ≡ sameFirst k
-    eight-no d = sym (same-last ∙ rw (ne-eqb x y d) (and-false (sameFirst m)))
+    pub last-more : eqb (lowerCase (getD text (b + j) 0)) (lowerCase (getD text (a + j) 0)) ≡ true → sameFirst text a b j ≡ sameFirst text a b k
+    last-more d = sym (same-last ∙ rw d (and-true (sameFirst text a b j)))
 
-    pub eight-more : x ≡ y → sameFirst m ≡ sameFirst k
-    eight-more d = sym (same-last ∙ rw (eq-eqb x y d) (and-true (sameFirst m)))
+  pub none-left : (a b k : ℕ) → k ≤ 0 → true ≡ sameFirst text a b k
+  unfolding sameFirst sameWord inLowerCase window
+  none-left a b k h = let e : k ≡ 0 = omega arith in rw e
+
+  -- Eight bytes at once.
+
+  window-eight : (a : ℕ) → window text a 8 ≡
+      getD text a 0 ∷ getD text (a + 1) 0 ∷ getD text (a + 2) 0 ∷ getD text (a + 3) 0 ∷ getD text (a + 4) 0 ∷ getD text (a + 5) 0 ∷ getD text (a + 6) 0 ∷ getD text (a + 7) 0 ∷ []
+  unfolding window
+  window-eight a = simp towards-suc
+
+  packs-same : (a b x : ℕ) → Packed text b x → Packed text a x → window text b 8 ≡ window text a 8
+  packs-same a b x p q =
+      let e = sym (p .number) ∙ q .number in
+      let f0 = peel _ _ _ _ (p .d0) (q .d0) e in
+      let f1 = peel _ _ _ _ (p .d1) (q .d1) (f0 .1) in
+      let f2 = peel _ _ _ _ (p .d2) (q .d2) (f1 .1) in
+      let f3 = peel _ _ _ _ (p .d3) (q .d3) (f2 .1) in
+      let f4 = peel _ _ _ _ (p .d4) (q .d4) (f3 .1) in
+      let f5 = peel _ _ _ _ (p .d5) (q .d5) (f4 .1) in
+      let f6 = peel _ _ _ _ (p .d6) (q .d6) (f5 .1) in
+      rw (window-eight a, window-eight b, f0 .0, f1 .0, f2 .0, f3 .0, f4 .0, f5 .0, f6 .0, f6 .1)
+
+  pub eight-more : (a b k m x y : ℕ) → m + 8 ≡ k → Packed text (b + m) x → Packed text (a + m) y → x ≡ y → sameFirst text a b m ≡ sameFirst text a b k
+  unfolding sameFirst
+  eight-more a b k m x y h p q e =
+      let w : window text (b + m) 8 ≡ window text (a + m) 8 = packs-same (a + m) (b + m) y (subst (Packed text (b + m)) e p) q in
+      let s : sameFirst text (a + m) (b + m) 8 ≡ true = rw w (same-itself (inLowerCase (window text (a + m) 8))) in
+      sym (ap (sameFirst text a b) (sym h) ∙ same-split a b m 8 ∙ rw s (and-true (sameFirst text a b m)))
+
+-- ---- the last byte of a word
+
+-- What is the same but for case is the byte in lower or in upper case.
+same-either : (x y : ℕ) → lowerCase x ≡ lowerCase y → (y ≡ lowerCase x) ⊎ (y ≡ upperCase x)
+same-either x y h = go (between 65 90 y) refl h (between 65 90 x) refl
+  where
+    go : (q : Bool) → between 65 90 y ≡ q → lowerCase x ≡ cond q (y + 32) y → (p : Bool) → between 65 90 x ≡ p → (y ≡ lowerCase x) ⊎ (y ≡ upperCase x)
+    go false f h p e = inl (sym h)
+    go true f h true e =
+        let k : x + 32 ≡ y + 32 = lower-upper x e ∙ h in
+        let q : y ≡ x = omega arith in
+        inr (q ∙ upper-below x (omega (arith, upper-le x e)))
+    go true f h false e =
+        let k : x ≡ y + 32 = lower-stays x e ∙ h in
+        let q : y ≡ x - 32 = omega arith in
+        let l = upper-ge y f in
+        let m = upper-le y f in
+        inr (q ∙ upper-small x (omega arith) (omega arith))
+
+module _ (x : ℕ) {lower upper : ℕ} (l : lower ≡ lowerCase x) (u : upper ≡ upperCase x) where
+  last-neither : (y : ℕ) → (y ≡ lower → ⊥) → (y ≡ upper → ⊥) → eqb (lowerCase x) (lowerCase y) ≡ false
+  last-neither y a b = ne-eqb (lowerCase x) (lowerCase y) (λ z. go (same-either x y z))
+    where
+      go : (y ≡ lowerCase x) ⊎ (y ≡ upperCase x) → ⊥
+      go (inl e) = a (e ∙ sym l)
+      go (inr e) = b (e ∙ sym u)
+
+  -- What is neither of the two differs from the byte, and what is one of them is not 0 where the byte is not.
+  neither-differs : (y : ℕ) → not (eqb y lower || eqb y upper) ≡ true → eqb (lowerCase x) (lowerCase y) ≡ false
+  neither-differs y h = go (eqb y lower) refl (eqb y upper) refl h
+    where
+      go : (p : Bool) → eqb y lower ≡ p → (q : Bool) → eqb y upper ≡ q → not (p || q) ≡ true → eqb (lowerCase x) (lowerCase y) ≡ false
+      go true e q f h = cc
+      go false e true f h = cc
+      go false e false f h = last-neither y (eqb-false y lower e) (eqb-false y upper f)
+
+  module _ (h : 0 < x) where
+    lower-some : 0 < lower
+    lower-some = rw l (go (between 65 90 x))
+      where
+        go : (q : Bool) → 0 < cond q (x + 32) x
+        go true = omega arith
+        go false = h
+
+    upper-some : 0 < upper
+    upper-some = rw u (go (between 97 122 x) refl)
+      where
+        go : (q : Bool) → between 97 122 x ≡ q → 0 < cond q (x - 32) x
+        go true e = let k = leb-true 97 x (and-split (leb 97 x) (leb x 122) e .0) in omega arith
+        go false e = h
+
+    one-some : (y : ℕ) → not (eqb y lower || eqb y upper) ≡ false → 0 < y
+    one-some y n = go (eqb y lower) refl (eqb y upper) refl n
+      where
+        go : (p : Bool) → eqb y lower ≡ p → (q : Bool) → eqb y upper ≡ q → not (p || q) ≡ false → 0 < y
+        go true e q f n = omega (arith, eqb-true y lower e, lower-some)
+        go false e true f n = omega (arith, eqb-true y upper f, upper-some)
+        go false e false f n = let z : _≡_ {A = ℕ} 0 1 = cc in absurd (omega arith)
+
+-- A byte that is not 0 is one of the text.
+byte-inside : (text : List ℕ) (j : ℕ) → 0 < getD text j 0 → j < length text
+byte-inside [] j h = absurd (omega arith)
+byte-inside (a ∷ text) zero h = omega arith
+byte-inside (a ∷ text) (suc j) h = omega (arith, byte-inside text j h)
+
+-- The byte y at the place where n bytes from a on end, against the last byte of a word as long.
+module _ {text : List ℕ} {s e lower upper : ℕ} (E : Ending text s e lower upper) (a n y : ℕ) (g : e - s ≡ n) (q : y ≡ getD text (a + (n - 1)) 0) where
+  pub ending-no : not (eqb y lower || eqb y upper) ≡ true → false ≡ sameFirst text a s n
+  ending-no h =
+      let l : s + (n - 1) ≡ e - 1 = omega (arith, E .filled) in
+      last-no text a s n (n - 1) (omega (arith, E .filled)) (rw (l, sym q) (neither-differs (getD text (e - 1) 0) (E .inLower) (E .inUpper) y h))
+
+  pub ending-inside : not (eqb y lower || eqb y upper) ≡ false → a + n ≤ length text
+  ending-inside h =
+      let z : a + (n - 1) < length text = byte-inside text (a + (n - 1)) (rw (sym q) (one-some (getD text (e - 1) 0) (E .inLower) (E .inUpper) (E .some) y h)) in
+      omega (arith, E .filled)
 
 -- ---- the place of a word among words
 
@@ -262,7 +329,7 @@ module _ (text names : List ℕ) (j s n : ℕ) (h : j < 28) where
   words-kept i zero k = refl
   words-kept i (suc m) k = rw (word-kept i (omega arith), words-kept (suc i) m (omega arith))
 
-  word-new : length names ≡ 56 → wordAt text (withName names j s n) j ≡ window text s n
+  word-new : length names ≡ 56 → wordAt text (withName names j s n) j ≡ inLowerCase (window text s n)
   unfolding wordAt
   word-new e =
       rw (
@@ -271,6 +338,6 @@ module _ (text names : List ℕ) (j s n : ℕ) (h : j < 28) where
         getD-set-same (set names j s) (28 + j) n 0 (omega (arith, length-set names j s)),
       )
 
-  pub words-declared : (i m : ℕ) → i + m ≡ j → length names ≡ 56 → wordsIn text (withName names j s n) i (m + 1) ≡ wordsIn text names i m ++ (window text s n ∷ [])
+  pub words-declared : (i m : ℕ) → i + m ≡ j → length names ≡ 56 → wordsIn text (withName names j s n) i (m + 1) ≡ wordsIn text names i m ++ (inLowerCase (window text s n) ∷ [])
   unfolding wordsIn
   words-declared i m k e = words-append text (withName names j s n) i m 1 ∙ rw (words-kept i m (omega arith), k, word-new e)

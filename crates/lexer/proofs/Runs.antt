@@ -3,7 +3,7 @@
 use mathlib.Core.Path.{_≡_, refl, sym, ap, _∙_, subst}
 use mathlib.Core.Bool.{Bool, true, false, cond}
 use mathlib.Core.List.{List, [], _∷_}
-use Prim.Native.Nat.{ℕ, zero, suc, _+_, _≤_, _<_}
+use Prim.Native.Nat.{ℕ, zero, suc, _+_, _-_, _≤_, _<_}
 use native.Mathlib.Numerals.{add-one}
 use native.Mathlib.Omega.{arith}
 use lib.Dec.{ltb}
@@ -48,6 +48,27 @@ module _ {test : ℕ → Bool} {count : List ℕ → ℕ} (c : Counts test count
 pub run-grows : {test : ℕ → Bool} {count : List ℕ → ℕ} (c : Counts test count) (text : List ℕ) (i e : ℕ) →
     i < length text → test (getD text i 0) ≡ true → e ≡ i + count (drop i text) → i < e
 run-grows c text i e h t k = omega (arith, run-step c text i h t)
+
+-- The last byte of a run passes the test too. The number bounds how many bytes there are from i on.
+pub run-last : {test : ℕ → Bool} {count : List ℕ → ℕ} → Counts test count → (text : List ℕ) (n i : ℕ) → length text ≤ i + n → i < length text → test (getD text i 0) ≡ true →
+    test (getD text (i + count (drop i text) - 1) 0) ≡ true
+run-last c text zero i h k t = absurd (omega arith)
+run-last {test} {count} c text (suc n) i h k t = go (ltb (suc i) (length text)) refl (test (getD text (suc i) 0)) refl (run-last c text n (suc i) (omega arith))
+  where
+    step : count (drop i text) ≡ suc (count (drop (suc i) text))
+    step = run-step c text i k t
+
+    here : count (drop (suc i) text) ≡ 0 → test (getD text (i + count (drop i text) - 1) 0) ≡ true
+    here z = let e : i + count (drop i text) - 1 ≡ i = omega (arith, step) in rw e t
+
+    go : (x : Bool) → ltb (suc i) (length text) ≡ x → (y : Bool) → test (getD text (suc i) 0) ≡ y →
+        (suc i < length text → test (getD text (suc i) 0) ≡ true → test (getD text (suc i + count (drop (suc i) text) - 1) 0) ≡ true) →
+        test (getD text (i + count (drop i text) - 1) 0) ≡ true
+    go true e true f rec =
+        let q : i + count (drop i text) - 1 ≡ suc i + count (drop (suc i) text) - 1 = omega (arith, step) in
+        rw q (rec (ltb-true (suc i) (length text) e) f)
+    go true e false f rec = here (let z = run-here c text (suc i) (ltb-true (suc i) (length text) e) f in omega (arith, z))
+    go false e y f rec = here (let z = run-end c text (suc i) (ltb-false (suc i) (length text) e) in omega (arith, z))
 
 -- A run goes no further than the bytes do.
 count-le : {test : ℕ → Bool} {count : List ℕ → ℕ} → Counts test count → (bs : List ℕ) → count bs ≤ length bs

@@ -1,20 +1,25 @@
 -- Bytes are tested and words compared as the notation does it, and the tables of the reserved words give the number by which a word is a token.
 -- Assumes nothing.
 use mathlib.Core.Path.{_≡_, refl, sym, ap, _∙_, subst}
-use mathlib.Core.Bool.{Bool, true, false, cond, _&&_, or-false, and-true}
+use mathlib.Core.Bool.{Bool, true, false, cond, not, _&&_, _||_, or-false, and-true}
 use mathlib.Core.List.{List, [], _∷_, map}
 use mathlib.Core.Option.{Option, none, some}
-use Prim.Native.Nat.{ℕ, zero, suc, _+_, _*_, _≤_, _<_, max}
+use Prim.Native.Nat.{ℕ, zero, suc, _+_, _*_, _-_, _≤_, _<_, max}
 use native.Mathlib.Nat.{zero-add, suc-add}
 use native.Mathlib.Numerals.{add-one}
 use native.Mathlib.Omega.{arith}
-use lib.Dec.{leb, eqb}
+use lib.Dec.{leb, eqb, ltb}
 use lib.ListN.{length, getD, take, drop, drop-of-length-le, List·getD-map}
-use lib.Seq.{slice, drop-cons, getD-drop, getD-take}
-use borrow.Author.Tests.{le-ltb, lt-ltb, le-leb, lt-leb, eq-eqb, ne-eqb}
-use Rattle.notation.specs.Bytes.{bytes, letter, wordByte, begins, sameWord}
-use Rattle.notation.specs.Tokens.{sign, Word, reserved, wordIn, plainWord, signOr, wordToken, ZERO, ONE, OTHER, longestWord}
-use Rattle.lexer.specs.working.Pieces.{numberOr, Tabled, WORDS, LONGEST}
+use lib.Seq.{slice, slice-cons, slice-empty, length-slice, drop-cons, getD-drop, getD-take}
+use borrow.Author.Tests.{le-ltb, lt-ltb, le-leb, lt-leb, leb-true, ltb-true, eq-eqb, ne-eqb, eqb-true, eqb-false}
+use Rattle.notation.specs.Bytes.{bytes, between, letter, wordByte, lowerCase, inLowerCase, all, begins, sameWord}
+use Rattle.notation.specs.Tokens.{sign, Word, reserved, wordIn, plainWord, signOr, isNone, unreserved, wordToken, ZERO, ONE, OTHER, longestWord}
+use Rattle.notation.specs.Rules.{elem}
+use Rattle.notation.specs.Regular.{Every}
+use Rattle.notation.proofs.Booleans.{and-split}
+use Rattle.notation.proofs.Case.{lower-length}
+use Rattle.lexer.specs.working.Names.{upperCase}
+use Rattle.lexer.specs.working.Pieces.{hasUpper, otherCase, numberOf, LowerNumber, numberOr, Tabled, WORDS, LONGEST}
 
 -- Bytes.
 
@@ -49,6 +54,35 @@ word-gap b n h k = rw (lt-leb 97 b (omega arith), lt-leb 65 b k, le-leb 48 b (om
 
 pub word-large : (b : ℕ) → (b ≡ 95 → ⊥) → 65 ≤ b → b < 97 → leb b 90 ≡ wordByte b
 word-large b n h k = rw (lt-leb 97 b k, le-leb 65 b h, le-leb 48 b (omega arith), lt-leb b 57 (omega arith), ne-eqb b 95 n) (sym (or-false (leb b 90)))
+
+pub upper-low : (b : ℕ) → b < 65 → false ≡ between 65 90 b
+upper-low b h = rw (lt-leb 65 b h)
+
+pub upper-from : (b : ℕ) → 65 ≤ b → leb b 90 ≡ between 65 90 b
+upper-from b h = rw (le-leb 65 b h)
+
+pub upper-le : (b : ℕ) → between 65 90 b ≡ true → b ≤ 90
+upper-le b h = leb-true b 90 (and-split (leb 65 b) (leb b 90) h .1)
+
+pub upper-ge : (b : ℕ) → between 65 90 b ≡ true → 65 ≤ b
+upper-ge b h = leb-true 65 b (and-split (leb 65 b) (leb b 90) h .0)
+
+-- A byte in lower case, by whether it is of upper case.
+pub lower-upper : (b : ℕ) → between 65 90 b ≡ true → b + 32 ≡ lowerCase b
+lower-upper b h = rw h
+
+pub lower-stays : (b : ℕ) → between 65 90 b ≡ false → b ≡ lowerCase b
+lower-stays b h = rw h
+
+-- A byte in upper case, by where it stands among the letters.
+pub upper-below : (b : ℕ) → b < 97 → b ≡ upperCase b
+upper-below b h = rw (lt-leb 97 b h)
+
+pub upper-small : (b : ℕ) → 97 ≤ b → b ≤ 122 → b - 32 ≡ upperCase b
+upper-small b h k = rw (le-leb 97 b h, le-leb b 122 k)
+
+pub upper-above : (b : ℕ) → 97 ≤ b → 122 < b → b ≡ upperCase b
+upper-above b h k = rw (le-leb 97 b h, lt-leb b 122 k)
 
 -- The tables of letters and lengths.
 
@@ -147,9 +181,36 @@ module _ {v w : Word} {n j : ℕ} (c : Same v w n j) where
       let r : length w ≤ j = omega arith in
       sym (sym (c .rest) ∙ rw (drop-of-length-le v l, drop-of-length-le w r))
 
+-- Two numbers compared the other way round.
+eqb-turned : (a b : ℕ) → eqb a b ≡ eqb b a
+eqb-turned a b = go (eqb a b) refl
+  where
+    go : (x : Bool) → eqb a b ≡ x → x ≡ eqb b a
+    go true e = sym (eq-eqb b a (sym (eqb-true a b e)))
+    go false e = sym (ne-eqb b a (λ z. eqb-false a b e (sym z)))
+
+-- A test of every byte of every word.
+byte-digits : (v : Word) → all (λ b. ltb b 256) v ≡ true → Every (λ (b : ℕ). b < 256) v
+byte-digits [] h = tt
+byte-digits (b ∷ v) h = let s = and-split (ltb b 256) (all (λ c. ltb c 256) v) h in (ltb-true b 256 (s .0), byte-digits v (s .1))
+
+unfoldable allIn : List Word → Bool
+allIn [] = true
+allIn (v ∷ vs) = all (λ b. ltb b 256) v && allIn vs
+
+all-digits : (vs : List Word) → allIn vs ≡ true → Every (λ (v : Word). Every (λ (b : ℕ). b < 256) v) vs
+unfolding allIn
+all-digits [] h = tt
+all-digits (v ∷ vs) h = let s = and-split (all (λ b. ltb b 256) v) (allIn vs) h in (byte-digits v (s .0), all-digits vs (s .1))
+
+-- The bytes of the reserved words are digits.
+reserved-digits : Every (λ (v : Word). Every (λ (b : ℕ). b < 256) v) reserved
+unfolding reserved bytes allIn
+reserved-digits = all-digits reserved refl
+
 -- The reserved words, looked through from the first.
 
-fifteen : length reserved ≡ WORDS
+pub fifteen : length reserved ≡ WORDS
 unfolding reserved
 fifteen = refl
 
@@ -172,6 +233,92 @@ module _ (w : Word) (k : ℕ) (rest : wordIn w (drop k reserved) k ≡ wordIn w 
       let l : length reserved ≤ k = omega (arith, fifteen) in
       let f : wordIn w reserved 0 ≡ none = sym rest ∙ rw (drop-of-length-le reserved l) in
       sym (ap numberOr f)
+
+-- Words as numbers.
+
+-- The lowest digits of two numbers, and what is above them.
+peel : (x y p q : ℕ) → x < 256 → y < 256 → eqb (x + 256 * p) (y + 256 * q) ≡ eqb x y && eqb p q
+peel x y p q h k = go (eqb x y) refl (eqb p q) refl
+  where
+    go : (s : Bool) → eqb x y ≡ s → (t : Bool) → eqb p q ≡ t → eqb (x + 256 * p) (y + 256 * q) ≡ s && t
+    go true e true f = eq-eqb (x + 256 * p) (y + 256 * q) (omega (arith, eqb-true x y e, eqb-true p q f))
+    go true e false f = ne-eqb (x + 256 * p) (y + 256 * q) (λ z. eqb-false p q f (omega (arith, eqb-true x y e, z)))
+    go false e t f = ne-eqb (x + 256 * p) (y + 256 * q) (λ z. eqb-false x y e (omega (arith, z)))
+
+number-some : (w : Word) → 1 ≤ numberOf w
+unfolding numberOf
+number-some [] = omega arith
+number-some (b ∷ w) = omega (arith, number-some w)
+
+abbrev Digits : Word → Type 0
+Digits w = Every (λ (b : ℕ). b < 256) w
+
+numbers-same : (v w : Word) → Digits v → Digits w → eqb (numberOf w) (numberOf v) ≡ sameWord v w
+unfolding numberOf sameWord
+numbers-same [] [] h k = refl
+numbers-same [] (b ∷ w) h k = ne-eqb (b + 256 * numberOf w) 1 (λ z. absurd (omega (arith, number-some w)))
+numbers-same (a ∷ v) [] h k = ne-eqb 1 (a + 256 * numberOf v) (λ z. absurd (omega (arith, number-some v)))
+numbers-same (a ∷ v) (b ∷ w) h k = peel b a (numberOf w) (numberOf v) (k .0) (h .0) ∙ rw (numbers-same v w (h .1) (k .1), eqb-turned b a)
+
+number-found : (w : Word) → Digits w → (vs : List Word) (i : ℕ) → Every Digits vs → elem (numberOf w) (map numberOf vs) ≡ not (isNone (wordIn w vs i))
+unfolding elem wordIn
+number-found w d [] i h = refl
+number-found w d (v ∷ vs) i h = rw (numbers-same w v d (h .0)) (go (sameWord w v) (number-found w d vs (suc i) (h .1)))
+  where
+    go : (x : Bool) → elem (numberOf w) (map numberOf vs) ≡ not (isNone (wordIn w vs (suc i))) →
+        x || elem (numberOf w) (map numberOf vs) ≡ not (isNone (cond x (some i) (wordIn w vs (suc i))))
+    go true e = refl
+    go false e = e
+
+-- A bound on the numbers of words of so many bytes.
+unfoldable cap : ℕ → ℕ
+cap zero = 2
+cap (suc n) = 256 * cap n
+
+number-lt : (w : Word) (n : ℕ) → Digits w → length w ≤ n → numberOf w < cap n
+unfolding numberOf cap
+number-lt [] zero d h = omega arith
+number-lt [] (suc n) d h = omega (arith, number-lt [] n tt (omega arith))
+number-lt (b ∷ w) zero d h = absurd (omega arith)
+number-lt (b ∷ w) (suc n) d h = omega (arith, d .0, number-lt w n (d .1) (omega arith))
+
+-- The number of what is read of a word so far, from its end.
+module _ (text : List ℕ) (e : ℕ) where
+  pub number-none : LowerNumber (slice e e text) 1
+  unfolding numberOf inLowerCase
+  number-none = let z = slice-empty e text in record { number = sym (ap (λ v. numberOf (inLowerCase v)) z); digits = rw z tt }
+
+  pub number-more : (i j w d : ℕ) → j + 1 ≡ i → j < e → e ≤ length text → LowerNumber (slice i e text) w → d ≡ lowerCase (getD text j 0) → d < 256 →
+      LowerNumber (slice j e text) (256 * w + d)
+  unfolding numberOf inLowerCase
+  number-more i j w d q h k l c f =
+      let z : slice j e text ≡ getD text j 0 ∷ slice i e text = slice-cons j e text 0 h k ∙ rw (sym q, add-one j) in
+      record { number = rw z (omega (arith, l .number, c)); digits = rw z (rw (sym c) f, l .digits) }
+
+  pub number-done : (s i w : ℕ) → s ≤ i → i ≤ s → LowerNumber (slice i e text) w → LowerNumber (slice s e text) w
+  number-done s i w h k l = let q : i ≡ s = omega arith in subst (λ (j : ℕ). LowerNumber (slice j e text) w) q l
+
+  pub number-fits : (i w : ℕ) → i ≤ e → e ≤ length text → e < i + LONGEST → LowerNumber (slice i e text) w → w < 562949953421312
+  unfolding cap
+  number-fits i w h k m l =
+      let n : length (inLowerCase (slice i e text)) ≤ 6 = omega (arith, lower-length (slice i e text), length-slice i e text k) in
+      omega (arith, l .number, number-lt (inLowerCase (slice i e text)) 6 (l .digits) n)
+
+-- A number looked for in a list, from place k on.
+module _ (w : ℕ) (js : List ℕ) (k : ℕ) where
+  elem-turn : k < length js → elem w (drop k js) ≡ eqb (getD js k 0) w || elem w (drop (suc k) js)
+  unfolding elem
+  elem-turn h = ap (elem w) (drop-cons js k 0 h)
+
+  pub elem-here : k < length js → getD js k 0 ≡ w → true ≡ elem w (drop k js)
+  elem-here h e = sym (elem-turn h ∙ rw (eq-eqb _ _ e))
+
+  pub elem-later : k < length js → (getD js k 0 ≡ w → ⊥) → elem w (drop (k + 1) js) ≡ elem w (drop k js)
+  elem-later h e = rw add-one (sym (elem-turn h ∙ rw (ne-eqb _ _ e)))
+
+  pub elem-none : length js ≤ k → false ≡ elem w (drop k js)
+  unfolding elem
+  elem-none h = sym (ap (elem w) (drop-of-length-le js h))
 
 -- A word that is longer than all of them is none.
 longer : (w : Word) (vs : List Word) (i : ℕ) → greatest (map length vs) < length w → wordIn w vs i ≡ none
@@ -199,8 +346,91 @@ pub token-long : (i : ℕ) (w : Word) → longestWord < length w → wordToken i
 unfolding wordToken
 token-long i w h = rw (lt-ltb longestWord (length w) h)
 
+-- Letters of upper case in what is left of a word.
+module _ (text : List ℕ) (i e : ℕ) (h : i < e) (k : e ≤ length text) where
+  upper-turn : hasUpper (slice i e text) ≡ between 65 90 (getD text i 0) || hasUpper (slice (suc i) e text)
+  unfolding hasUpper
+  upper-turn = ap hasUpper (slice-cons i e text 0 h k)
+
+  pub upper-here : between 65 90 (getD text i 0) ≡ true → true ≡ hasUpper (slice i e text)
+  upper-here u = sym (upper-turn ∙ rw u)
+
+  pub upper-later : between 65 90 (getD text i 0) ≡ false → hasUpper (slice (i + 1) e text) ≡ hasUpper (slice i e text)
+  upper-later u = rw add-one (sym (upper-turn ∙ rw u))
+
+pub upper-none : (text : List ℕ) (i e : ℕ) → i ≤ e → e ≤ i → false ≡ hasUpper (slice i e text)
+unfolding hasUpper
+upper-none text i e h k = let q : i ≡ e = omega arith in rw q (sym (ap hasUpper (slice-empty e text)))
+
+-- A word without letters of upper case is in lower case.
+no-upper : (w : Word) → hasUpper w ≡ false → inLowerCase w ≡ w
+unfolding hasUpper inLowerCase
+no-upper [] h = refl
+no-upper (b ∷ w) h = go (between 65 90 b) h (no-upper w)
+  where
+    go : (x : Bool) → x || hasUpper w ≡ false → (hasUpper w ≡ false → inLowerCase w ≡ w) → cond x (b + 32) b ∷ inLowerCase w ≡ b ∷ w
+    go true h r = cc
+    go false h r = ap (λ (v : Word). b ∷ v) (r h)
+
+module _ (i : ℕ) (w : Word) where
+  in-other-case : otherCase w ≡ true → unreserved i w ≡ sign OTHER
+  unfolding otherCase
+  in-other-case h = go (hasUpper w) (isNone (wordIn (inLowerCase w) reserved 0)) h
+    where
+      go : (x y : Bool) → x && not y ≡ true → cond y (plainWord i w) (sign OTHER) ≡ sign OTHER
+      go true true h = cc
+      go true false h = refl
+      go false y h = cc
+
+  in-no-case : otherCase w ≡ false → wordIn w reserved 0 ≡ none → unreserved i w ≡ plainWord i w
+  unfolding otherCase
+  in-no-case h n = go (hasUpper w) refl (isNone (wordIn (inLowerCase w) reserved 0)) refl h
+    where
+      go : (x : Bool) → hasUpper w ≡ x → (y : Bool) → isNone (wordIn (inLowerCase w) reserved 0) ≡ y → x && not y ≡ false → unreserved i w ≡ plainWord i w
+      go true e true f h = rw f
+      go true e false f h = cc
+      go false e y f h = let g : wordIn (inLowerCase w) reserved 0 ≡ none = ap (λ (v : Word). wordIn v reserved 0) (no-upper w e) ∙ n in rw g
+
+and-false : (x : Bool) → x && false ≡ false
+and-false true = refl
+and-false false = refl
+
+-- Where nothing is of upper case, and where nothing as long is reserved, no word is reserved in another case.
+pub other-none : (w : Word) → hasUpper w ≡ false → false ≡ otherCase w
+unfolding otherCase
+other-none w h = rw h
+
+pub other-found : (w : Word) (r : ℕ) → hasUpper w ≡ true → LowerNumber w r → elem r (map numberOf reserved) ≡ otherCase w
+unfolding otherCase
+other-found w r h l = rw (h, l .number) (number-found (inLowerCase w) (l .digits) reserved 0 reserved-digits)
+
+-- No reserved word has one byte.
+no-length : (w : Word) (vs : List Word) (i : ℕ) → elem (length w) (map length vs) ≡ false → wordIn w vs i ≡ none
+unfolding elem wordIn
+no-length w [] i h = refl
+no-length w (v ∷ vs) i h = go (eqb (length v) (length w)) refl h (no-length w vs (suc i))
+  where
+    go : (x : Bool) → eqb (length v) (length w) ≡ x → x || elem (length w) (map length vs) ≡ false → (elem (length w) (map length vs) ≡ false → wordIn w vs (suc i) ≡ none) →
+        cond (sameWord w v) (some i) (wordIn w vs (suc i)) ≡ none
+    go true e f rec = cc
+    go false e f rec = rw (sym (lengths-differ w v (λ z. eqb-false (length v) (length w) e (sym z)))) (rec f)
+
+one-none : (b : ℕ) → wordIn (b ∷ []) reserved 0 ≡ none
+unfolding reserved bytes elem
+one-none b = no-length (b ∷ []) reserved 0 refl
+
+pub token-one : (i b : ℕ) → wordToken i (b ∷ []) ≡ some (plainWord i (b ∷ []))
+unfolding wordToken inLowerCase
+token-one i b = rw (one-none b, one-none (lowerCase b))
+
+pub other-long : (w : Word) → LONGEST < length w → false ≡ otherCase w
+unfolding otherCase reserved bytes greatest
+other-long w h =
+    let n : wordIn (inLowerCase w) reserved 0 ≡ none = longer (inLowerCase w) reserved 0 (omega (arith, lower-length w)) in
+    rw n (sym (and-false (hasUpper w)))
+
 module _ (i : ℕ) (w : Word) (short : length w ≤ longestWord) (k : ℕ) (is : k ≡ numberOr (wordIn w reserved 0)) where
-  by-number : (o : Option ℕ) → wordIn w reserved 0 ≡ o → wordToken i w ≡ some (signOr o (plainWord i w))
+  by-number : (o : Option ℕ) → wordIn w reserved 0 ≡ o → wordToken i w ≡ some (signOr o (unreserved i w))
   unfolding wordToken
   by-number o e = rw (le-ltb longestWord (length w) short, e)
 
@@ -211,12 +441,19 @@ module _ (i : ℕ) (w : Word) (short : length w ≤ longestWord) (k : ℕ) (is :
       go none e = let z : k ≡ WORDS = is ∙ ap numberOr e in absurd (omega arith)
       go (some j) e = by-number (some j) e ∙ rw (is ∙ ap numberOr e)
 
-  pub token-plain : WORDS ≤ k → wordToken i w ≡ some (plainWord i w)
-  token-plain h = go (wordIn w reserved 0) refl
+  -- Not reserved as it is written.
+  unfound : WORDS ≤ k → wordIn w reserved 0 ≡ none
+  unfound h = go (wordIn w reserved 0) refl
     where
-      go : (o : Option ℕ) → wordIn w reserved 0 ≡ o → wordToken i w ≡ some (plainWord i w)
-      go none e = by-number none e
+      go : (o : Option ℕ) → wordIn w reserved 0 ≡ o → o ≡ none
+      go none e = refl
       go (some j) e = let z : k ≡ j = is ∙ ap numberOr e in absurd (omega (arith, found-below w reserved 0 j e, fifteen))
+
+  pub token-other : WORDS ≤ k → otherCase w ≡ true → wordToken i w ≡ some (sign OTHER)
+  token-other h o = by-number none (unfound h) ∙ ap some (in-other-case i w o)
+
+  pub token-plain : WORDS ≤ k → otherCase w ≡ false → wordToken i w ≡ some (plainWord i w)
+  token-plain h o = by-number none (unfound h) ∙ ap some (in-no-case i w o (unfound h))
 
 pub plain-other : (i : ℕ) (w : Word) → begins letter w ≡ false → (length w ≡ 1 → ⊥) → plainWord i w ≡ sign OTHER
 plain-other i w h n = rw (h, sym (lengths-differ w (48 ∷ []) n), sym (lengths-differ w (49 ∷ []) n))

@@ -1,7 +1,9 @@
 // The bytes that a text may have.
 ghost use mathlib.Core.Path.{_≡_};
 ghost use lib.ListN.{getD};
-ghost use Rattle.notation.specs.Bytes.{blankByte, letter, wordByte};
+ghost use lib.Dec.{eqb};
+ghost use Rattle.notation.specs.Bytes.{between, blankByte, letter, lowerCase, wordByte};
+ghost use Rattle.lexer.specs.working.Names.{upperCase};
 
 // A space or a newline.
 pub fn is_blank(b: u8) -> bool
@@ -45,6 +47,49 @@ pub fn is_word(b: u8) -> bool
         return false;
     }
     b <= b'Z'
+}
+
+// A letter of upper case.
+pub fn is_upper(b: u8) -> bool
+    ensures { λ r. ⌜ r ≡ between 65 90 b ⌝ }
+{
+    if b < b'A' {
+        return false;
+    }
+    b <= b'Z'
+}
+
+pub fn lower_case(b: u8) -> u8
+    ensures { λ r. ⌜ r ≡ lowerCase b ⌝ }
+{
+    let upper = is_upper(b);
+    if upper {
+        return b + 32;
+    }
+    b
+}
+
+pub fn upper_case(b: u8) -> u8
+    ensures { λ r. ⌜ r ≡ upperCase b ⌝ }
+{
+    if b < b'a' {
+        return b;
+    }
+    if b <= b'z' {
+        return b - 32;
+    }
+    b
+}
+
+pub fn same_but_for_case(a: u8, b: u8) -> bool
+    ensures { λ r. ⌜ r ≡ eqb (lowerCase a) (lowerCase b) ⌝ }
+{
+    if a == b {
+        return true;
+    }
+    let x = lower_case(a);
+    let y = lower_case(b);
+    x == y
 }
 
 // The byte at i, or 0 past the end.

@@ -1,12 +1,18 @@
 // The declared names, by their places in the text: name i begins at names[i] and is names[28 + i] bytes long.
 ghost use mathlib.Core.Path.{_≡_};
+ghost use mathlib.Core.Bool.{_||_, not};
 ghost use Prim.Native.Nat.{_+_, _-_, _≤_, _<_, _^_};
+ghost use lib.Dec.{eqb};
 ghost use lib.ListN.{length, set};
-ghost use Rattle.notation.specs.Bytes.{sameWord};
+ghost use lib.Seq.{slice};
+ghost use Rattle.notation.specs.Bytes.{inLowerCase, sameWord};
 ghost use Rattle.notation.specs.Texts.{placeOf};
-ghost use Rattle.lexer.specs.working.Pieces.{nameIn, Fresh};
-ghost use Rattle.lexer.specs.working.Names.{Packed, window, wordAt, wordsIn};
+ghost use Rattle.lexer.specs.working.Pieces.{NAME, nameIn, Fresh};
+ghost use Rattle.lexer.specs.working.Names.{Packed, Ending, sameFirst, wordAt, wordsIn};
 use crate::bytes::byte_at;
+use crate::bytes::lower_case;
+use crate::bytes::same_but_for_case;
+use crate::bytes::upper_case;
 use crate::pieces::Piece;
 
 // A byte as a u64.
@@ -32,60 +38,45 @@ fn eight(text: &[u8], i: usize) -> u64
     b0 + 256 * (b1 + 256 * (b2 + 256 * (b3 + 256 * (b4 + 256 * (b5 + 256 * (b6 + 256 * b7))))))
 }
 
-// Whether the n bytes from b on are those from a on.
+// How many of the first k bytes from b on are left to compare with those from a on: eight fewer where the last eight are the same as written.
+fn left_to_compare(text: &[u8], a: usize, b: usize, k: usize) -> usize
+    requires { ⌜ (a + k ≤ length (now text)) × (b + k ≤ length (now text)) ⌝ }
+    ensures { λ r. ⌜ (r ≤ k) × (sameFirst (now (text .entry)) a b r ≡ sameFirst (now (text .entry)) a b k) ⌝ }
+{
+    if k < 8 {
+        return k;
+    }
+    let m = k - 8;
+    let x = eight(text, b + m);
+    let y = eight(text, a + m);
+    if x == y {
+        return m;
+    }
+    k
+}
+
+// Whether the n bytes from b on are those from a on but for case, told from the end, where names that look alike differ.
 fn same_bytes(text: &[u8], a: usize, b: usize, n: usize) -> bool
-    requires { ⌜ (a + n < 2 ^ 64) × (b + n < 2 ^ 64) ⌝ }
-    ensures { λ r. ⌜ r ≡ sameWord (window (now (text .entry)) b n) (window (now (text .entry)) a n) ⌝ }
-{
-    let mut j: usize = 0;
-    while j < n {
-        let x = byte_at(text, b + j);
-        let y = byte_at(text, a + j);
-        if x != y {
-            return false;
-        }
-        j += 1;
-    }
-    true
-}
-
-// The same inside the text.
-fn same_inside(text: &[u8], a: usize, b: usize, n: usize) -> bool
     requires { ⌜ (a + n ≤ length (now text)) × (b + n ≤ length (now text)) ⌝ }
-    ensures { λ r. ⌜ r ≡ sameWord (window (now (text .entry)) b n) (window (now (text .entry)) a n) ⌝ }
+    ensures { λ r. ⌜ r ≡ sameFirst (now (text .entry)) a b n ⌝ }
 {
-    let mut j: usize = 0;
-    while j < n {
-        let x = text[b + j];
-        let y = text[a + j];
-        if x != y {
-            return false;
+    let mut k = n;
+    while 0 < k {
+        let m = left_to_compare(text, a, b, k);
+        if m == k {
+            let j = k - 1;
+            let x = text[b + j];
+            let y = text[a + j];
+            let same = same_but_for_case(x, y);
+            if !same {
+                return false;
+            }
+            k = j;
+        } else {
+            k = m;
         }
-        j += 1;
     }
     true
-}
-
-// The same for a word of the text from b on, eight bytes at a time while there are as many, from the end, where names that look alike differ.
-// A name stands before where it is used; what does not is compared byte by byte.
-fn same_by_eights(text: &[u8], a: usize, b: usize, n: usize) -> bool
-    requires { ⌜ (a + n < 2 ^ 64) × (b + n ≤ length (now text)) ⌝ }
-    ensures { λ r. ⌜ r ≡ sameWord (window (now (text .entry)) b n) (window (now (text .entry)) a n) ⌝ }
-{
-    if b < a {
-        return same_bytes(text, a, b, n);
-    }
-    let mut k = n;
-    while 8 <= k {
-        let m = k - 8;
-        let x = eight(text, b + m);
-        let y = eight(text, a + m);
-        if x != y {
-            return false;
-        }
-        k = m;
-    }
-    same_inside(text, a, b, k)
 }
 
 // An entry of the names, as a usize.
@@ -95,29 +86,55 @@ fn wide(x: u16) -> usize
     x as usize
 }
 
-// Whether the piece t is the name i.
-fn is_name(text: &[u8], names: &[u16; 56], i: usize, t: Piece) -> bool
-    requires { ⌜ (i < 28) × Fresh (now text) t ⌝ }
-    ensures { λ r. ⌜ r ≡ sameWord (nameIn (now (text .entry)) t .word) (wordAt (now (text .entry)) (now (names .entry)) i) ⌝ }
+// Whether y is neither a nor b.
+fn is_neither(y: u8, a: u8, b: u8) -> bool
+    ensures { λ r. ⌜ r ≡ not (eqb y a || eqb y b) ⌝ }
+{
+    if y == a {
+        return false;
+    }
+    y != b
+}
+
+// Whether the word from s to e, whose last byte is this in lower and in upper case, is the name i. The last byte is told first: most names differ there.
+fn is_name(
+    text: &[u8],
+    names: &[u16; 56],
+    i: usize,
+    s: usize,
+    e: usize,
+    lower: u8,
+    upper: u8,
+) -> bool
+    requires { ⌜ (i < 28) × Ending (now text) s e lower upper ⌝ }
+    ensures { λ r. ⌜ r ≡ sameWord (inLowerCase (slice s e (now (text .entry)))) (wordAt (now (text .entry)) (now (names .entry)) i) ⌝ }
 {
     let a = wide(names[i]);
     let n = wide(names[28 + i]);
-    let s = t.start;
-    let e = t.end;
     if e - s != n {
         return false;
     }
-    same_by_eights(text, a, s, n)
+    let y = byte_at(text, a + (n - 1));
+    let other = is_neither(y, lower, upper);
+    if other {
+        return false;
+    }
+    same_bytes(text, a, s, n)
 }
 
 // The first of the names from..to that the piece t is; `to` where it is none.
 pub fn find_name(text: &[u8], names: &[u16; 56], from: usize, to: usize, t: Piece) -> usize
-    requires { ⌜ (from ≤ to) × ((to ≤ 28) × Fresh (now text) t) ⌝ }
+    requires { ⌜ (from ≤ to) × ((to ≤ 28) × (Fresh (now text) t × (t .kind ≡ NAME))) ⌝ }
     ensures { λ r. ⌜ r ≡ from + placeOf (nameIn (now (text .entry)) t .word) (wordsIn (now (text .entry)) (now (names .entry)) from (to - from)) ⌝ }
 {
+    let s = t.start;
+    let e = t.end;
+    let last = text[e - 1];
+    let lower = lower_case(last);
+    let upper = upper_case(last);
     let mut i = from;
     while i < to {
-        let hit = is_name(text, names, i, t);
+        let hit = is_name(text, names, i, s, e, lower, upper);
         if hit {
             return i;
         }

@@ -3,13 +3,14 @@ ghost use mathlib.Core.Path.{_≡_};
 ghost use Prim.Native.Nat.{_+_, _≤_, _<_, _^_};
 ghost use lib.ListN.{length, drop};
 ghost use Rattle.notation.specs.working.Lexing.{span};
-ghost use Rattle.lexer.specs.working.Pieces.{BAD, pieceOf, blanks, wordPiece, markPiece, pieceAt};
+ghost use Rattle.lexer.specs.working.Pieces.{BAD, pieceOf, blanks, bytePiece, wordPiece, markPiece, pieceAt};
 use crate::bytes::byte_at;
 use crate::bytes::is_blank;
 use crate::bytes::is_letter;
 use crate::bytes::is_word;
 use crate::words::WORDS;
 use crate::words::reserved_at;
+use crate::words::reserved_in_other_case;
 
 // The longest word that is a token.
 const MAX_WORD: usize = 16;
@@ -62,6 +63,9 @@ pub const OPEN: usize = 21;
 pub const CLOSE: usize = 22;
 
 pub const OTHER: usize = 23;
+
+// What a reserved word in another case is.
+const RECASED: usize = OTHER;
 
 pub const NAME: usize = 24;
 
@@ -132,26 +136,13 @@ fn word_end(text: &[u8], from: usize) -> usize
     i
 }
 
-// The piece that the word from s to e is.
-fn word_piece(text: &[u8], s: usize, e: usize) -> Piece
-    requires { ⌜ (s < e) × (e ≤ length (now text)) ⌝ }
-    ensures { λ r. ⌜ r ≡ wordPiece (now (text .entry)) s e ⌝ }
+// The piece that a word of the one byte b is; none is reserved.
+fn byte_piece(b: u8, s: usize, e: usize) -> Piece
+    ensures { λ r. ⌜ r ≡ bytePiece b s e ⌝ }
 {
-    let n = e - s;
-    if MAX_WORD < n {
-        return refused(s, e);
-    }
-    let k = reserved_at(text, s, e);
-    if k < WORDS {
-        return token(k, s, e);
-    }
-    let b = text[s];
     let named = is_letter(b);
     if named {
         return token(NAME, s, e);
-    }
-    if n != 1 {
-        return token(OTHER, s, e);
     }
     if b == b'0' {
         return token(ZERO, s, e);
@@ -160,6 +151,34 @@ fn word_piece(text: &[u8], s: usize, e: usize) -> Piece
         return token(ONE, s, e);
     }
     token(OTHER, s, e)
+}
+
+// The piece that the word from s to e is.
+fn word_piece(text: &[u8], s: usize, e: usize) -> Piece
+    requires { ⌜ (s < e) × (e ≤ length (now text)) ⌝ }
+    ensures { λ r. ⌜ r ≡ wordPiece (now (text .entry)) s e ⌝ }
+{
+    let n = e - s;
+    let b = text[s];
+    if n < 2 {
+        return byte_piece(b, s, e);
+    }
+    if MAX_WORD < n {
+        return refused(s, e);
+    }
+    let k = reserved_at(text, s, e);
+    if k < WORDS {
+        return token(k, s, e);
+    }
+    let named = is_letter(b);
+    if !named {
+        return token(OTHER, s, e);
+    }
+    let recased = reserved_in_other_case(text, s, e);
+    if recased {
+        return token(RECASED, s, e);
+    }
+    token(NAME, s, e)
 }
 
 // The piece that the mark b is at s, with the byte after it, or 0.

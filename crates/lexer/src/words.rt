@@ -1,12 +1,15 @@
 // The reserved words: a table of their letters and lengths, and the look-up in it.
 ghost use mathlib.Core.Path.{_≡_};
-ghost use Prim.Native.Nat.{_≤_, _<_};
-ghost use mathlib.Core.List.{[]};
+ghost use Prim.Native.Nat.{_-_, _≤_, _<_};
+ghost use mathlib.Core.List.{[], map};
 ghost use lib.ListN.{length, getD};
 ghost use lib.Seq.{slice};
 ghost use Rattle.notation.specs.Bytes.{sameWord};
 ghost use Rattle.notation.specs.Tokens.{reserved, wordIn};
-ghost use Rattle.lexer.specs.working.Pieces.{WORDS, LONGEST, numberOr, Tabled};
+ghost use Rattle.notation.specs.Rules.{elem};
+ghost use Rattle.lexer.specs.working.Pieces.{WORDS, LONGEST, numberOr, hasUpper, otherCase, numberOf, LowerNumber, Tabled};
+use crate::bytes::is_upper;
+use crate::bytes::lower_case;
 
 // How many words are reserved; as a number, that of none.
 pub const WORDS: usize = 15;
@@ -19,6 +22,25 @@ const LETTERS: [u8; 105] =
     *b"shared\0row\0\0\0\0start\0\0keep\0\0\0each\0\0\0commandif\0\0\0\0\0do\0\0\0\0\0else\0\0\0for\0\0\0\0end\0\0\0\0skip\0\0\0and\0\0\0\0or\0\0\0\0\0not\0\0\0\0";
 
 const LENGTHS: [u8; WORDS] = [6, 3, 5, 4, 4, 7, 2, 2, 4, 3, 3, 4, 3, 2, 3];
+
+// Each word as one number: its letters are the digits, the first lowest, with a 1 above the last.
+const NUMBERS: [u64; WORDS] = [
+    0x1646572616873,
+    0x1776f72,
+    0x17472617473,
+    0x17065656b,
+    0x168636165,
+    0x1646e616d6d6f63,
+    0x16669,
+    0x16f64,
+    0x165736c65,
+    0x1726f66,
+    0x1646e65,
+    0x170696b73,
+    0x1646e61,
+    0x1726f,
+    0x1746f6e,
+];
 
 // Letter j of reserved word k.
 fn letter_of(letters: &[u8; 105], lengths: &[u8; WORDS], k: usize, j: usize) -> u8
@@ -91,4 +113,74 @@ pub fn reserved_at(text: &[u8], s: usize, e: usize) -> usize
     let letters = LETTERS;
     let lengths = LENGTHS;
     number_in(&letters, &lengths, text, s, e)
+}
+
+// Whether a letter of upper case stands from s to e.
+fn has_upper(text: &[u8], s: usize, e: usize) -> bool
+    requires { ⌜ (s ≤ e) × (e ≤ length (now text)) ⌝ }
+    ensures { λ r. ⌜ r ≡ hasUpper (slice s e (now (text .entry))) ⌝ }
+{
+    let mut i = s;
+    while i < e {
+        let upper = is_upper(text[i]);
+        if upper {
+            return true;
+        }
+        i += 1;
+    }
+    false
+}
+
+// A byte as a digit.
+fn digit(x: u8) -> u64
+    ensures { λ r. ⌜ (r ≡ x) × (r < 256) ⌝ }
+{
+    x as u64
+}
+
+// The word from s to e in lower case, as one number.
+fn lower_number(text: &[u8], s: usize, e: usize) -> u64
+    requires { ⌜ (s ≤ e) × ((e ≤ length (now text)) × (e - s ≤ LONGEST)) ⌝ }
+    ensures { λ r. ⌜ LowerNumber (slice s e (now (text .entry))) r ⌝ }
+{
+    let mut w: u64 = 1;
+    let mut i = e;
+    while s < i {
+        i -= 1;
+        let b = lower_case(text[i]);
+        w = 256 * w + digit(b);
+    }
+    w
+}
+
+// Whether the number is that of a reserved word.
+fn is_number(numbers: &[u64; WORDS], w: u64) -> bool
+    requires { ⌜ now numbers ≡ map numberOf reserved ⌝ }
+    ensures { λ r. ⌜ r ≡ elem w (map numberOf reserved) ⌝ }
+{
+    let mut k: usize = 0;
+    while k < WORDS {
+        if numbers[k] == w {
+            return true;
+        }
+        k += 1;
+    }
+    false
+}
+
+// Whether the word from s to e is reserved but for case, and not in lower case. Most words have no letter of upper case, and are not looked up again.
+pub fn reserved_in_other_case(text: &[u8], s: usize, e: usize) -> bool
+    requires { ⌜ (s ≤ e) × (e ≤ length (now text)) ⌝ }
+    ensures { λ r. ⌜ r ≡ otherCase (slice s e (now (text .entry))) ⌝ }
+{
+    if LONGEST < e - s {
+        return false;
+    }
+    let upper = has_upper(text, s, e);
+    if !upper {
+        return false;
+    }
+    let w = lower_number(text, s, e);
+    let numbers = NUMBERS;
+    is_number(&numbers, w)
 }

@@ -7,7 +7,7 @@ use Prim.Native.Nat.{ℕ, zero, suc}
 use Prim.Native.Char.{code}
 use Prim.Native.String as S
 use Prim.Native.String.{String}
-use Rattle.notation.specs.Bytes.{bytes, sameWord}
+use Rattle.notation.specs.Bytes.{bytes, inLowerCase, sameWord}
 use Rattle.notation.specs.Tokens.{reserved, wordIn, wordToken}
 use Rattle.notation.specs.Rules.{sameKind, allowed, nameCounts, view, has, elem}
 use Rattle.notation.specs.Regular.{Every}
@@ -35,8 +35,8 @@ blanks n = replicate n (code " ")
 unfoldable pub longCases : List Case
 longCases =
     -- 16 commands, and 17
-    (begun "" ++ eachNamed "ABCDEFGHIJKLMNOP") gives isRead ∷
-    (begun "" ++ eachNamed "ABCDEFGHIJKLMNOPQ") gives isRefused 7 594 ∷
+    (begun "" ++ eachNamed "ABCDEFGHIJKLNOPQ") gives isRead ∷
+    (begun "" ++ eachNamed "ABCDEFGHIJKLNOPQR") gives isRefused 7 594 ∷
     -- 256 items, and 257: `skip`, assignments, `for` and the items in it
     (begun "command c if 1 do " ++ times 254 "skip; " ++ bytes "skip else skip.") gives isRead ∷
     (begun "command c if 1 do " ++ times 255 "skip; " ++ bytes "skip else skip.") gives isRefused 7 1608 ∷
@@ -53,7 +53,7 @@ longCases =
     []
 
 pub all-long-cases : map (λ (c : Case). came (c .expected) (answer (c .text))) longCases ≡ map (λ (c : Case). c .expected) longCases
-unfolding bytes sameWord reserved wordIn wordToken sameKind allowed nameCounts view has elem span mark front lexemes tokensFrom tally note exceeds fault lines
+unfolding bytes inLowerCase sameWord reserved wordIn wordToken sameKind allowed nameCounts view has elem span mark front lexemes tokensFrom tally note exceeds fault lines
     skips find step ending reads answer longCases
 all-long-cases = refl
 

@@ -1,24 +1,17 @@
 -- What holds of every element of a list, and what holds of whichever of two is taken.
 -- Assumes nothing.
-use mathlib.Core.Path.{sym, subst}
-use mathlib.Core.Logic.{inl, inr}
 use mathlib.Core.Bool.{Bool, true, false, cond}
 use mathlib.Core.List.{List, [], _∷_, _++_}
 use Prim.Native.Nat.{ℕ, zero, suc, _<_}
 use native.Mathlib.Nat.{not-suc-le-zero, le-of-suc-le-suc}
 use lib.ListN.{length, getD}
-use Rattle.notation.specs.Regular.{Every, Among}
+use Rattle.notation.specs.Regular.{Every}
 
 module _ {A : Type 0} where
   pub every-at : (P : A → Type 0) (l : List A) (d : A) (k : ℕ) → Every P l → k < length l → P (getD l k d)
   every-at P [] d k h lt = absurd (not-suc-le-zero lt)
   every-at P (x ∷ xs) d zero h lt = h .0
   every-at P (x ∷ xs) d (suc k) h lt = every-at P xs d k (h .1) (le-of-suc-le-suc lt)
-
-  pub every-among : (P : A → Type 0) (x : A) (l : List A) → Every P l → Among x l → P x
-  every-among P x [] h i = absurd i
-  every-among P x (y ∷ ys) h (inl e) = subst P (sym e) (h .0)
-  every-among P x (y ∷ ys) h (inr i) = every-among P x ys (h .1) i
 
   pub left : (P : A → Type 0) (a b : List A) → Every P (a ++ b) → Every P a
   left P [] b h = tt

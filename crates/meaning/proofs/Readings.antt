@@ -9,7 +9,7 @@ use native.Mathlib.Nat.{not-suc-le-zero}
 use native.Mathlib.Omega.{arith}
 use lib.Dec.{lit<}
 use lib.ListN.{length, getD, set}
-use Rattle.notation.specs.Bytes.{bytes, sameWord}
+use Rattle.notation.specs.Bytes.{bytes, inLowerCase, sameWord}
 use Rattle.notation.specs.Tokens.{reserved, wordIn, wordToken}
 use Rattle.notation.specs.Rules.{sameKind, allowed, nameCounts, has, elem}
 use Rattle.notation.specs.Rules as R
@@ -129,7 +129,7 @@ unreached-member = (
 )
 
 barred-says : TextSays barredText barred
-unfolding bytes sameWord reserved wordIn wordToken sameKind allowed nameCounts R.view has elem placeOf among nameOf exprOf rowItemOf rowItemsOf itemOf itemsOf
+unfolding bytes inLowerCase sameWord reserved wordIn wordToken sameKind allowed nameCounts R.view has elem placeOf among nameOf exprOf rowItemOf rowItemsOf itemOf itemsOf
     commandOf clauseOf modelOf span mark front lexemes tokensFrom tally note exceeds fault lines skips find L.step ending reads answer
 barred-says = record { tree = _; says = says-iff-answer barredText _ .1 refl; meant = refl }
 

@@ -1,16 +1,21 @@
--- Which of the 256 bytes are letters, stand in words, are blanks or are barred: computed for all of them.
+-- Which of the 256 bytes are letters, stand in words, are blanks or are barred, and which are the same but for case: computed for all of them.
 -- Assumes nothing.
-use mathlib.Core.Path.{_≡_, refl}
-use mathlib.Core.Bool.{Bool, true, false, not, _&&_}
+use mathlib.Core.Path.{_≡_, refl, sym, ap, _∙_, subst}
+use mathlib.Core.Bool.{Bool, true, false, cond, not, _&&_, _||_}
 use mathlib.Core.Logic.{_⊎_, inl, inr}
-use Prim.Native.Nat.{ℕ, zero, suc, _<_}
+use mathlib.Core.List.{List, [], _∷_, map}
+use Prim.Native.Nat.{ℕ, zero, suc, _+_, _≤_, _<_}
 use native.Mathlib.Omega.{arith}
 use native.Mathlib.Nat.{eq-or-lt-of-le}
-use Rattle.notation.specs.Bytes.{bytes, letter, wordByte, blankByte}
+use lib.Dec.{eqb, leb}
+use borrow.Author.Tests.{eqb-true, leb-true, le-leb, lt-leb}
+use Rattle.notation.specs.Bytes.{bytes, between, letter, wordByte, blankByte, lowerCase, all}
 use Rattle.notation.specs.Tokens.{barredByte}
 use Rattle.notation.specs.Rules.{elem}
+use Rattle.notation.specs.Regular.{Every, Among}
 use Rattle.notation.proofs.Booleans.{and-split}
-use Rattle.notation.specs.Promises.{letters, inWords, inTexts, BytesTold}
+use Rattle.notation.proofs.Members.{every-among}
+use Rattle.notation.specs.Promises.{small, large, letters, inWords, inTexts, BytesTold, pairs, LettersPaired}
 
 -- Both or neither.
 abbrev same : Bool → Bool → Bool
@@ -61,3 +66,71 @@ bytes-told b h =
       blanks = agree-at 256 blankByte _ blanks-told b h;
       barred = agree-at 256 barredByte _ barred-told b h;
     }
+
+-- The letters of upper case, and their fellows 32 further on.
+
+large-told : agree 256 (between 65 90) (λ b. elem b large) ≡ true
+unfolding agree elem bytes
+large-told = refl
+
+elem-among : (k : ℕ) (js : List ℕ) → elem k js ≡ true → Among k js
+unfolding elem
+elem-among k [] h = let z : _≡_ {A = ℕ} 0 1 = cc in absurd (omega arith)
+elem-among k (j ∷ js) h = go (eqb j k) refl h (elem-among k js)
+  where
+    go : (x : Bool) → eqb j k ≡ x → x || elem k js ≡ true → (elem k js ≡ true → Among k js) → Among k (j ∷ js)
+    go true e h r = inl (sym (eqb-true j k e))
+    go false e h r = inr (r h)
+
+abbrev Pair : Type 0
+Pair = ℕ × ℕ
+
+abbrev fellow : ℕ → Pair
+fellow b = (b + 32, b)
+
+fellow-among : (b : ℕ) (bs : List ℕ) → Among b bs → Among (fellow b) (map fellow bs)
+fellow-among b [] h = absurd h
+fellow-among b (c ∷ bs) (inl e) = inl (ap fellow e)
+fellow-among b (c ∷ bs) (inr h) = inr (fellow-among b bs h)
+
+abbrev Same : Pair → Type 0
+Same p = lowerCase (p .0) ≡ lowerCase (p .1)
+
+fellow-same : (b : ℕ) → between 65 90 b ≡ true → Same (fellow b)
+fellow-same b h =
+    let s = and-split (leb 65 b) (leb b 90) h in
+    let l : 65 ≤ b = leb-true 65 b (s .0) in
+    rw (s .0, s .1, lt-leb (b + 32) 90 (omega arith), le-leb 65 (b + 32) (omega arith))
+
+fellows-same : (bs : List ℕ) → all (between 65 90) bs ≡ true → Every Same (map fellow bs)
+fellows-same [] h = tt
+fellows-same (b ∷ bs) h = let s = and-split (between 65 90 b) (all (between 65 90) bs) h in (fellow-same b (s .0), fellows-same bs (s .1))
+
+-- The 26 pairs are the letters of upper case with their fellows.
+fellows : map fellow large ≡ pairs small large
+unfolding bytes
+fellows = refl
+
+pair-of : (b : ℕ) → b < 256 → between 65 90 b ≡ true → Among (fellow b) (pairs small large)
+pair-of b h e = subst (Among (fellow b)) fellows (fellow-among b large (elem-among b large (sym (agree-at 256 (between 65 90) _ large-told b h) ∙ e)))
+
+pairs-same : Every Same (pairs small large)
+unfolding bytes
+pairs-same = subst (Every Same) fellows (fellows-same large refl)
+
+pub letters-paired : LettersPaired
+letters-paired a b h k = (there (between 65 90 a) (between 65 90 b) refl refl, back)
+  where
+    Paired : ℕ → ℕ → Type 0
+    Paired a b = Among {A = Pair} (a, b) (pairs small large)
+
+    there : (x y : Bool) → between 65 90 a ≡ x → between 65 90 b ≡ y → cond x (a + 32) a ≡ cond y (b + 32) b → (a ≡ b) ⊎ (Paired a b ⊎ Paired b a)
+    there true true e f q = inl (omega (arith, q))
+    there true false e f q = inr (inr (subst (λ c. Paired c a) q (pair-of a h e)))
+    there false true e f q = inr (inl (subst (λ c. Paired c b) (sym q) (pair-of b k f)))
+    there false false e f q = inl q
+
+    back : (a ≡ b) ⊎ (Paired a b ⊎ Paired b a) → lowerCase a ≡ lowerCase b
+    back (inl e) = ap lowerCase e
+    back (inr (inl i)) = every-among Same (a, b) (pairs small large) pairs-same i
+    back (inr (inr i)) = sym (every-among Same (b, a) (pairs small large) pairs-same i)

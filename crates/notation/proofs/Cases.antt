@@ -5,7 +5,7 @@ use mathlib.Core.Bool.{true, false}
 use mathlib.Core.List.{List, [], _∷_, _++_, map}
 use Prim.Native.Nat.{ℕ}
 use Prim.Native.String.{String}
-use Rattle.notation.specs.Bytes.{bytes, sameWord}
+use Rattle.notation.specs.Bytes.{bytes, inLowerCase, sameWord}
 use Rattle.notation.specs.Tokens.{Name, reserved, wordIn, wordToken}
 use Rattle.notation.specs.Notation.{Tree}
 use Rattle.notation.specs.Rules.{sameKind, allowed, nameCounts, view, has, elem}
@@ -113,9 +113,11 @@ cases =
     starting "not (m and n) or not not 1" gives saysModel (startsWith (disj (neg (conj (shared 0) (shared 1))) (neg (neg (lit true))))) ∷
     -- stars are numbered on through the branches of `for` and past `else`, and from 0 in each command
     begun "command c if * do for * do x := *; w := x and * else w := * end; m := * else m := * or *. command d if 1 do skip; m := not * else skip." gives saysModel starred ∷
-    -- where names stand
+    -- where names stand, which have no case
     bytes "shared m. row w x. start m each x. keep 1 each 1. command grant if 1 do skip else skip. command c if 1 do skip else skip." gives
     hasNames (standing 7 "m" ∷ standing 14 "w" ∷ standing 16 "x" ∷ standing 58 "grant" ∷ standing 96 "c" ∷ []) ∷
+    bytes "shared Mode. row oWNER_1. start MODE each Owner_1. keep 1 each 1. command Grant if 1 do skip else skip." gives
+    hasNames (standing 7 "mode" ∷ standing 17 "owner_1" ∷ standing 74 "grant" ∷ []) ∷
     -- bytes outside the notation, neighbours of those inside among them: such a byte ends a word, and is refused where it stands
     bytes "/" gives isRefused 2 0 ∷
     bytes "@" gives isRefused 2 0 ∷
@@ -137,7 +139,7 @@ cases =
     begun "command c if 1&1" gives isRefused 2 64 ∷
     begun "command c if 1 do skip else skip.!" gives isRefused 2 83 ∷
     -- words of 16 bytes and of 17, in every kind of place
-    bytes "shared abcdefghijklmnop. row. start abcdefghijklmnop each 1. keep 1 each 1. command ABCDEFGHIJKLMNOP if 1 do skip else skip." gives isRead ∷
+    bytes "shared abcdefghijklmnop. row. start abcdefghijklmnop each 1. keep 1 each 1. command BCDEFGHIJKLMNOPA if 1 do skip else skip." gives isRead ∷
     bytes "shared abcdefghijklmnopq." gives isRefused 2 7 ∷
     bytes "sharedsharedshared m." gives isRefused 2 0 ∷
     bytes "shared m 0000000000000000." gives isRefused 3 9 ∷
@@ -212,7 +214,7 @@ cases =
     bytes "shared m m @" gives isRefused 4 9 ∷
     -- names that are unknown, or not of the kind wanted
     bytes "shared m. row w. start z" gives isRefused 5 23 ∷
-    bytes "shared m. row w. start M" gives isRefused 5 23 ∷
+    bytes "shared m. row w. start N" gives isRefused 5 23 ∷
     bytes "shared m. row w. start w" gives isRefused 5 23 ∷
     bytes "shared m. row w. start m each w and z" gives isRefused 5 36 ∷
     bytes "shared m. row w. start 1 each 1. keep w" gives isRefused 5 38 ∷
@@ -255,14 +257,32 @@ cases =
     begun "command c if * do m := * and * else for * do x := * else x := * end; m := * or * or *." gives isRefused 7 134 ∷
     begun "command c if * and * and * and * and * and * and * and * and * do" gives isRefused 7 111 ∷
     -- every end of the letters and digits; no names; no blanks; many; names like reserved words
-    bytes "shared A_0 Z. row a z_9 z. start A_0 and Z each a or z_9. keep Z each z. command Zz if Z do Z := A_0 else skip." gives isRead ∷
+    bytes "shared A_0 Z. row a z_9 zZ. start A_0 and Z each a or z_9. keep Z each zZ. command Zzz if Z do Z := A_0 else skip." gives isRead ∷
     bytes "shared. row. start 1 each 0. keep 1 each 0. command c if 1 do skip else skip." gives isRead ∷
     bytes "shared m.row w.start(m)each(w).keep(1)each(1).command c if(m)do m:=not(m);skip else skip." gives isRead ∷
     bytes "\nshared\nm .\n row\n\n.start 1\neach 1 .keep 1 each 1.command c if 1 do skip else skip . \n " gives isRead ∷
-    bytes "shared m M mm shared1 Row. row rows. start M each rows. keep mm each 1. command commands if Row do skip else skip." gives isRead ∷
+    bytes "shared m mm shared1 a_row. row rows. start m each rows. keep mm each 1. command commands if a_row do skip else skip." gives isRead ∷
+    -- names in other cases than they are declared in, used and declared again; reserved words in other cases, where a name, the word itself and nothing of the kind may stand
+    bytes "shared Page. row oWNER. start page each Owner. keep PAGE each ownER. command Grant if pAGE do Page := PagE; for oWnEr do OWNER := page else skip end else skip." gives isRead ∷
+    bytes "shared m M" gives isRefused 4 9 ∷
+    bytes "shared Page. row pAGE" gives isRefused 4 17 ∷
+    bytes "shared m. row w W" gives isRefused 4 16 ∷
+    begun "command GRANT if 1 do skip else skip. command grant" gives isRefused 4 96 ∷
+    begun "command M" gives isRefused 4 58 ∷
+    begun "command c if X" gives isRefused 5 63 ∷
+    bytes "Shared" gives isRefused 3 0 ∷
+    bytes "shared Row" gives isRefused 3 7 ∷
+    bytes "shared m. ROW" gives isRefused 3 10 ∷
+    bytes "shared m. row. start m Each" gives isRefused 3 23 ∷
+    begun "command IF" gives isRefused 3 58 ∷
+    begun "command c if 1 do skip else skip. Command" gives isRefused 3 84 ∷
+    -- a reserved word as a part of another
+    bytes "shared Row_1 aRow. row Rows. start row_1 each ROWS. keep AROW each 1. command Doing if 1 do skip else skip." gives isRead ∷
+    bytes "shared Rowaaaaaaaaaaaaa" gives isRefused 3 23 ∷
+    bytes "shared Rowaaaaaaaaaaaaaa" gives isRefused 2 7 ∷
     []
 
 pub all-cases : map (λ (c : Case). came (c .expected) (answer (c .text))) cases ≡ map (λ (c : Case). c .expected) cases
-unfolding bytes sameWord reserved wordIn wordToken sameKind allowed nameCounts view has elem placeOf among nameOf exprOf rowItemOf rowItemsOf itemOf itemsOf commandOf clauseOf modelOf namesOf
+unfolding bytes inLowerCase sameWord reserved wordIn wordToken sameKind allowed nameCounts view has elem placeOf among nameOf exprOf rowItemOf rowItemsOf itemOf itemsOf commandOf clauseOf modelOf namesOf
     span mark front lexemes tokensFrom tally note exceeds fault lines skips find step ending reads answer cases
 all-cases = refl

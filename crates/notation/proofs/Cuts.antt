@@ -18,7 +18,7 @@ use Rattle.notation.specs.working.Lexing.{span, mark, front, Front, oneB
 use Rattle.notation.specs.Tokens as T
 
 -- A byte of a word is no blank.
-word-no-blank : (b : ℕ) → wordByte b ≡ true → blankByte b ≡ false
+pub word-no-blank : (b : ℕ) → wordByte b ≡ true → blankByte b ≡ false
 word-no-blank b h = go (eqb b 32) refl (eqb b 10) refl
   where
     go : (x : Bool) → eqb b 32 ≡ x → (y : Bool) → eqb b 10 ≡ y → x || y ≡ false
@@ -37,14 +37,14 @@ span-run (c ∷ w) bs h j = go (wordByte c) h (λ k. span-run w bs k j)
     go true k r = ap suc (r k)
     go false k r = cc
 
-all-head : (b : ℕ) (w : List ℕ) → all wordByte (b ∷ w) ≡ true → (wordByte b ≡ true) × (all wordByte w ≡ true)
+pub all-head : (b : ℕ) (w : List ℕ) → all wordByte (b ∷ w) ≡ true → (wordByte b ≡ true) × (all wordByte w ≡ true)
 all-head b w h = go (wordByte b) refl h
   where
     go : (x : Bool) → wordByte b ≡ x → x && all wordByte w ≡ true → (x ≡ true) × (all wordByte w ≡ true)
     go true e k = (refl, k)
     go false e k = (cc, cc)
 
-front-run : (i : ℕ) (b : ℕ) (w bs : List ℕ) → all wordByte (b ∷ w) ≡ true → begins wordByte bs ≡ false → front i b (w ++ bs) ≡ record { token = wordToken i (b ∷ w); more = length w }
+pub front-run : (i : ℕ) (b : ℕ) (w bs : List ℕ) → all wordByte (b ∷ w) ≡ true → begins wordByte bs ≡ false → front i b (w ++ bs) ≡ record { token = wordToken i (b ∷ w); more = length w }
 unfolding front
 front-run i b w bs h j = rw (all-head b w h .0, span-run w bs (all-head b w h .1) j, take-append-seam w bs)
 
@@ -80,7 +80,7 @@ front-bad i b bs h = go (wordByte b) (blankByte b) (eqb b 58) (markOf b) refl re
     go false false false none ew en ec eo h = (en, rw (ew, ec, eo))
 
 -- The first token.
-lexed : (l i b : ℕ) (bs : List ℕ) (f : Front) → blankByte b ≡ false → front i b bs ≡ f → lexemes (suc l) (b ∷ bs) i ≡ at i (f .token) ∷ lexemes l (drop (f .more) bs) (suc (i + f .more))
+pub lexed : (l i b : ℕ) (bs : List ℕ) (f : Front) → blankByte b ≡ false → front i b bs ≡ f → lexemes (suc l) (b ∷ bs) i ≡ at i (f .token) ∷ lexemes l (drop (f .more) bs) (suc (i + f .more))
 unfolding lexemes
 lexed l i b bs f e plain = rw (e, plain)
 

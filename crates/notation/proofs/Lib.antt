@@ -1,8 +1,10 @@
 -- Theorems about the definitions of specs/, by subject.
 pub mod Booleans
+pub mod Members
 pub mod ByteTable
 pub mod Cuts
 pub mod Lexes
+pub mod Case
 pub mod Ledger
 pub mod TableLL1
 pub mod NotationToTable
@@ -14,9 +16,9 @@ pub mod Descents
 pub mod Readers
 pub mod Texts
 pub mod FlatFormTells
-pub mod Members
 pub mod Standing
 pub mod Parts
+pub mod NamesStand
 pub mod Stars
 pub mod Scopes
 pub mod Counts

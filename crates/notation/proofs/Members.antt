@@ -1,13 +1,18 @@
--- The elements of lists that are joined, and sums over them.
+-- The elements of lists, of lists that are joined, and sums over them.
 -- Assumes nothing.
-use mathlib.Core.Path.{_≡_, refl, subst}
+use mathlib.Core.Path.{_≡_, refl, sym, subst}
 use mathlib.Core.Logic.{_⊎_, inl, inr, ⊎-elim}
 use mathlib.Core.List.{List, [], _∷_, _++_, flatMap}
 use Prim.Native.Nat.{ℕ, _+_}
 use native.Mathlib.Omega.{arith}
-use Rattle.notation.specs.Regular.{Among, sumOver}
+use Rattle.notation.specs.Regular.{Every, Among, sumOver}
 
 module _ {A : Type 0} where
+  pub every-among : (P : A → Type 0) (x : A) (l : List A) → Every P l → Among x l → P x
+  every-among P x [] h i = absurd i
+  every-among P x (y ∷ ys) h (inl e) = subst P (sym e) (h .0)
+  every-among P x (y ∷ ys) h (inr i) = every-among P x ys (h .1) i
+
   pub among-left : (t : A) (xs ys : List A) → Among t xs → Among t (xs ++ ys)
   among-left t [] ys h = absurd h
   among-left t (x ∷ xs) ys (inl e) = inl e

@@ -3,21 +3,23 @@
 use mathlib.Core.Path.{_≡_, refl, sym, _∙_, ap, subst}
 use mathlib.Core.Bool.{Bool, true, false}
 use mathlib.Core.List.{List}
-use mathlib.Core.Logic.{_⊎_, inl, inr}
+use mathlib.Core.Logic.{_↔_, _⊎_, inl, inr}
 use Prim.Native.Nat.{ℕ, _≤_}
 use native.Mathlib.Omega.{arith}
 use lib.Dec.{leb}
 use lib.ListN.{length}
 use borrow.Author.Tests.{leb-true, leb-false, le-leb, lt-leb}
 use Rattle.notation.specs.Tokens.{Lexeme, Cut}
+use Rattle.notation.specs.Case.{Recased}
 use Rattle.notation.specs.Notation.{Tree}
 use Rattle.notation.specs.Model.{Model}
 use Rattle.notation.specs.Texts.{longestText, modelOf, TextSaysTree, TextSays, TextRefused, tooLong, inside}
-use Rattle.notation.specs.Promises.{OneTree, OneModel, OneAnswer, SaysIffAnswer, RefusedIffAnswer}
+use Rattle.notation.specs.Promises.{OneTree, OneModel, OneAnswer, SaysIffAnswer, RefusedIffAnswer, CaseSaysNothing}
 use Rattle.notation.specs.working.Lexing.{choose, tokens}
 use Rattle.notation.specs.working.Machine.{Outcome, read, refused, reading}
 use Rattle.notation.specs.working.Answer.{answer}
 use Rattle.notation.proofs.Cuts.{cut-tokens}
+use Rattle.notation.proofs.Case.{recased-length, tokens-recased}
 use Rattle.notation.proofs.Outcomes.{says-read, refused-reading, reading-right, Rightly}
 
 -- What the text is cut into is what the computation cuts it into.
@@ -76,3 +78,24 @@ one-answer text = record {
     go : (o : Outcome) → Right text o → ((m : Model) × TextSays text m) ⊎ ((n i : ℕ) × TextRefused text n i)
     go (read x) s = inl (modelOf x, record { tree = x; says = s; meant = refl })
     go (refused n i) r = inr (n, i, r)
+
+-- Texts that differ only in the case of letters inside names have the same answer.
+pub answers-recased : {a b : List ℕ} → Recased a b → answer a ≡ answer b
+unfolding answer
+answers-recased r = rw (recased-length r, tokens-recased r)
+
+pub case-says-nothing : CaseSaysNothing
+case-says-nothing a b r = record {
+  trees = trees;
+  models = λ m. (
+    λ t. record { tree = t .tree; says = trees (t .tree) .0 (t .says); meant = t .meant },
+    λ t. record { tree = t .tree; says = trees (t .tree) .1 (t .says); meant = t .meant },
+  );
+  refusals = λ n i. (
+    λ t. refused-iff-answer b n i .1 (sym (answers-recased r) ∙ refused-answer t),
+    λ t. refused-iff-answer a n i .1 (answers-recased r ∙ refused-answer t),
+  );
+}
+  where
+    trees : (x : Tree) → TextSaysTree a x ↔ TextSaysTree b x
+    trees x = (λ s. says-iff-answer b x .1 (sym (answers-recased r) ∙ says-answer s), λ s. says-iff-answer a x .1 (answers-recased r ∙ says-answer s))

@@ -1,9 +1,10 @@
 -- Bytes: a written text as its bytes, and the bytes that a text may have.
 -- Assumes nothing.
-use mathlib.Core.Bool.{Bool, true, false, _&&_, _||_}
+use mathlib.Core.Path.{_≡_}
+use mathlib.Core.Bool.{Bool, true, false, cond, _&&_, _||_}
 use mathlib.Core.List as L
 use mathlib.Core.List.{List}
-use Prim.Native.Nat.{ℕ}
+use Prim.Native.Nat.{ℕ, _+_}
 use Prim.Native.Char.{code}
 use Prim.Native.String.{String, [], _∷_}
 use lib.Dec.{eqb, leb}
@@ -28,6 +29,19 @@ wordByte b = letter b || (between 48 57 b || eqb b 95)
 -- A space or a newline.
 abbrev pub blankByte : ℕ → Bool
 blankByte b = eqb b 32 || eqb b 10
+
+-- The byte in lower case: `A` to `Z` become `a` to `z`, every other byte stays.
+abbrev pub lowerCase : ℕ → ℕ
+lowerCase b = cond (between 65 90 b) (b + 32) b
+
+-- THE SAME BUT FOR CASE: bytes that are one in lower case.
+abbrev pub SameButForCase : ℕ → ℕ → Type 0
+SameButForCase a b = lowerCase a ≡ lowerCase b
+
+-- All of the bytes in lower case.
+unfoldable pub inLowerCase : List ℕ → List ℕ
+inLowerCase L.[] = L.[]
+inLowerCase (L._∷_ b bs) = L._∷_ (lowerCase b) (inLowerCase bs)
 
 -- The test holds of every byte.
 abbrev pub all : (ℕ → Bool) → List ℕ → Bool

@@ -4,6 +4,7 @@ pub mod Notation
 pub mod Rules
 pub mod Model
 pub mod Texts
+pub mod Case
 pub mod Layout
 pub mod Regular
 pub mod Expressions

@@ -51,7 +51,7 @@ pub data Part : Type 0 where
 abbrev pub plain : ℕ → Part
 plain k = part quiet (sign k)
 
--- Trees: what a text says, with its names as written.
+-- Trees: what a text says, with its names where they stand.
 pub data Expr : Type 0 where
   false′ true′ star′ : Expr
   name′ : Name → Expr

@@ -7,13 +7,14 @@ use mathlib.Core.Option.{Option, none, some}
 use Prim.Native.Nat.{ℕ, suc, _+_}
 use lib.Dec.{eqb, ltb}
 use lib.ListN.{length}
-use Rattle.notation.specs.Bytes.{bytes, letter, wordByte, blankByte, all, begins, sameWord}
+use Rattle.notation.specs.Bytes.{bytes, letter, wordByte, blankByte, inLowerCase, all, begins, sameWord}
 
 -- A run of letters, digits and underscores, by its bytes.
 abbrev pub Word : Type 0
 Word = List ℕ
 
--- A name as it stands in a text: the place of its first byte, and its word.
+-- A name as it stands in a text: the place of its first byte, and its word in lower case, so that names which differ only in case are one.
+-- How it is spelt, the text tells at that place.
 pub record Name : Type 0 where
   pub place : ℕ
   pub word : Word
@@ -108,10 +109,10 @@ unfoldable pub wordIn : Word → List Word → ℕ → Option ℕ
 wordIn w [] i = none
 wordIn w (v ∷ vs) i = cond (sameWord w v) (some i) (wordIn w vs (suc i))
 
--- A word that is not reserved, at its place: a name if it begins with a letter, else `0`, `1` or nothing that the notation uses.
+-- A word that is not reserved in any case, at its place: a name if it begins with a letter, else `0`, `1` or nothing that the notation uses.
 abbrev pub plainWord : ℕ → Word → Token
 plainWord i w =
-    cond (begins letter w) (name (record { place = i; word = w }))
+    cond (begins letter w) (name (record { place = i; word = inLowerCase w }))
     (cond (sameWord w (48 ∷ [])) (sign ZERO) (cond (sameWord w (49 ∷ [])) (sign ONE) (sign OTHER)))
 
 abbrev pub signOr : Option ℕ → Token → Token
@@ -122,9 +123,17 @@ signOr (some k) t = sign k
 abbrev pub longestWord : ℕ
 longestWord = 16
 
--- The token that a word at place i is; none for a word that is too long.
+abbrev pub isNone : {A : Type 0} → Option A → Bool
+isNone none = true
+isNone (some k) = false
+
+-- A word that is reserved but for case, which the notation uses nowhere, or one that is not reserved.
+abbrev pub unreserved : ℕ → Word → Token
+unreserved i w = cond (isNone (wordIn (inLowerCase w) reserved 0)) (plainWord i w) (sign OTHER)
+
+-- The token that a word at place i is; none for a word that is too long. Reserved words are written in lower case.
 unfoldable pub wordToken : ℕ → Word → Option Token
-wordToken i w = cond (ltb longestWord (length w)) none (some (signOr (wordIn w reserved 0) (plainWord i w)))
+wordToken i w = cond (ltb longestWord (length w)) none (some (signOr (wordIn w reserved 0) (unreserved i w)))
 
 -- The marks of one byte. An equals sign alone is a token that the notation uses nowhere.
 abbrev pub markOf : ℕ → Option ℕ
@@ -136,10 +145,6 @@ markOf b =
     (cond (eqb b 42) (some STAR)
     (cond (eqb b 61) (some OTHER)
     none)))))
-
-abbrev pub isNone : {A : Type 0} → Option A → Bool
-isNone none = true
-isNone (some k) = false
 
 -- A byte that is not allowed: no letter, digit, underscore, blank, colon or other mark.
 abbrev pub barredByte : ℕ → Bool

@@ -30,7 +30,7 @@ use Rattle.reader.specs.Read.{placed}
 use Rattle.reader.specs.working.Clauses.{grown, Listing, nameAt, NameSays}
 use Rattle.statements.proofs.Moves.{Past, is-past}
 use Rattle.reader.proofs.NameRules.{declares-again, declares-many, declares-full, declares-fits, note-declares}
-use Rattle.lexer.proofs.Lookup.{window-slice, found-among, withName, with-length, words-kept, words-declared}
+use Rattle.lexer.proofs.Lookup.{piece-word, piece-length, found-among, withName, with-length, words-kept, words-declared}
 use Rattle.statements.proofs.NameKinds.{any-name}
 
 -- ---- one name more, in the ledger and among names with their kinds
@@ -72,13 +72,13 @@ module _ (text names : List ℕ) (l : Ledger) (rows : Bool) (c : Cursor) (g : Li
 
   placed-one : more ≡ placed names n (w ∷ [])
   unfolding placed
-  placed-one = ap (λ (k : ℕ). set (set names n (t .start)) (28 + n) k) (sym (length-slice (t .start) (t .end) text (g .fresh .inside)))
+  placed-one = ap (λ (k : ℕ). set (set names n (t .start)) (28 + n) k) (sym (piece-length text t (g .fresh)))
 
   -- ---- the words of the names
 
   declared-words : (i m : ℕ) → i + m ≡ n → wordsIn text more i (m + 1) ≡ wordsIn text names i m ++ w .word ∷ []
   declared-words i m e = words-declared text names n (t .start) (t .end - t .start) (omega (arith, g .few)) i m e (g .long)
-      ∙ ap (λ (v : Word). wordsIn text names i m ++ v ∷ []) (window-slice text (t .start) (t .end) (g .fresh .ordered) (g .fresh .inside))
+      ∙ ap (λ (v : Word). wordsIn text names i m ++ v ∷ []) (piece-word text t (g .fresh))
 
   kept-words : (i m : ℕ) → i + m ≤ n → wordsIn text more i m ≡ wordsIn text names i m
   kept-words i m h = words-kept text names n (t .start) (t .end - t .start) (omega (arith, g .few)) i m h

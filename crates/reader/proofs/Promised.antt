@@ -11,12 +11,12 @@ use Rattle.notation.specs.Texts.{TextSaysTree, TextSays, TextRefused, modelOf, 
 use Rattle.notation.specs.Layout.{layoutOf}
 use Rattle.notation.specs.working.Machine.{Outcome, read, refused}
 use Rattle.notation.specs.working.Answer.{answer}
-use Rattle.notation.proofs.Texts.{says-answer, refused-answer, says-iff-answer, refused-iff-answer}
+use Rattle.notation.proofs.Texts.{says-answer, refused-answer, says-iff-answer, refused-iff-answer, answers-recased}
 use Rattle.reader.specs.declared.Answer.the-variants.{Read, Refused}
 use Rattle.reader.specs.declared.Reading.{Reading}
 use Rattle.reader.specs.Read.{codeOf, emptyCode, readingIn, readingOf}
 use Rattle.reader.specs.Answers.{model, returned, wordingIn, wordingOf}
-use Rattle.reader.specs.Promises.{Counted, Answers, ReadAnswers}
+use Rattle.reader.specs.Promises.{Counted, Answers, ReadAnswers, ReadWithoutCase}
 
 -- The reading of a text that says a tree, and of one that is refused.
 pub reading-read : {text : List ℕ} {x : Tree} → TextSaysTree text x → readingOf text ≡ record { answer = Read; code = codeOf (layoutOf (modelOf x)) (namesOf x) }
@@ -65,3 +65,6 @@ module _ (text : List ℕ) where
 
 pub read-answers : ReadAnswers
 read-answers text = answers text
+
+pub read-without-case : ReadWithoutCase
+read-without-case a b r = ap readingIn (answers-recased r)

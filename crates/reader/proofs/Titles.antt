@@ -24,14 +24,14 @@ use Rattle.statements.specs.declared.cursor.Cursor.{Cursor}
 use Rattle.statements.specs.declared.cursor.Ledger.{Ledger}
 use Rattle.reader.specs.declared.clauses.Declared.the-variants as D
 use Rattle.lexer.specs.working.Pieces.{nameIn, listed, Fresh}
-use Rattle.lexer.specs.working.Names.{window, wordsIn}
+use Rattle.lexer.specs.working.Names.{wordsIn}
 use Rattle.statements.specs.working.Names.{sharedWords, rowWords, commandWords, namesKept}
 use Rattle.statements.specs.working.Cursors.{bookOf}
 use Rattle.reader.specs.Read.{placed}
 use Rattle.reader.specs.working.Commands.{withCommands, titleAt, TitleSays}
 use Rattle.statements.proofs.Moves.{Past}
 use Rattle.statements.proofs.Symbols.{listed-name, missing}
-use Rattle.lexer.proofs.Lookup.{window-slice, window-length, found-among, withName, words-kept, words-declared}
+use Rattle.lexer.proofs.Lookup.{piece-word, piece-length, found-among, withName, words-kept, words-declared}
 use Rattle.statements.proofs.NameKinds.{any-name}
 
 pub title-bad : (text names : List ℕ) (l : Ledger) (c : Cursor) (n i : ℕ) → titleAt text names l c ≡ stop n i → TitleSays text names l c names (D.Refused n i)
@@ -44,15 +44,9 @@ module _ (text names : List ℕ) (t : Piece) (f : Fresh text t) (long : length n
   abbrev w : Word
   w = nameIn text t .word
 
-  word-window : window text (t .start) (t .end - t .start) ≡ w
-  word-window = window-slice text (t .start) (t .end) (f .ordered) (f .inside)
-
-  word-length : length w ≡ t .end - t .start
-  word-length = ap length (sym word-window) ∙ window-length text (t .start) (t .end - t .start)
-
   pub place-one : (j : ℕ) → withName names j (t .start) (t .end - t .start) ≡ placed names j (nameIn text t ∷ [])
   unfolding placed
-  place-one j = ap (λ (k : ℕ). withName names j (t .start) k) (sym word-length)
+  place-one j = ap (λ (k : ℕ). withName names j (t .start) k) (sym (piece-length text t f))
 
   module _ (l : Ledger) (j : ℕ) (e : j ≡ l .shared + l .row + l .commands) (few : j < 28) where
     abbrev after : List ℕ
@@ -65,7 +59,7 @@ module _ (text names : List ℕ) (t : Piece) (f : Fresh text t) (long : length n
     same-row = words-kept text names j (t .start) (t .end - t .start) few (l .shared) (l .row) (omega arith)
 
     one-more : commandWords text after (withCommands 1 l) ≡ commandWords text names l ++ w ∷ []
-    one-more = words-declared text names j (t .start) (t .end - t .start) few (l .shared + l .row) (l .commands) (sym e) long ∙ ap (λ (v : Word). commandWords text names l ++ v ∷ []) word-window
+    one-more = words-declared text names j (t .start) (t .end - t .start) few (l .shared + l .row) (l .commands) (sym e) long ∙ ap (λ (v : Word). commandWords text names l ++ v ∷ []) (piece-word text t f)
 
     pub names-more : namesKept text after (withCommands 1 l) ≡ namesKept text names l ++ (w, commandName) ∷ []
     unfolding namesKept

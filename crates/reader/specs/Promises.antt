@@ -9,6 +9,7 @@ use Rattle.notation.specs.Notation.{Tree}
 use Rattle.notation.specs.Model.{Model}
 use Rattle.notation.specs.Texts.{TextSaysTree, TextSays, TextRefused, modelOf, namesOf}
 use Rattle.notation.specs.Layout.{layoutOf}
+use Rattle.notation.specs.Case.{Recased}
 use Rattle.reader.specs.Read.{codeOf, emptyCode, readingOf}
 use Rattle.reader.specs.Answers.{model, returned, wordingOf}
 
@@ -16,7 +17,7 @@ use Rattle.reader.specs.Answers.{model, returned, wordingOf}
 abbrev pub Counted : Model → ℕ → ℕ → ℕ → Type 0
 Counted m shared row commands = (m .sharedNames ≡ shared) × (m .rowNames ≡ row) × (length (m .commands) ≡ commands)
 
--- The answer is a model's counts exactly where the text says a model that has them; then the code is the flat form of the model and the names as written.
+-- The answer is a model's counts exactly where the text says a model that has them; then the code is the flat form of the model and the places of its names.
 -- It is a refusal exactly where that is the text's first, and then nothing stands beside it.
 pub record Answers (text : List ℕ) : Type 0 where
   pub reads : (a b k : ℕ) → (wordingOf (readingOf text) ≡ model a b k) ↔ ((m : Model) × TextSays text m × Counted m a b k)
@@ -26,3 +27,7 @@ pub record Answers (text : List ℕ) : Type 0 where
 
 abbrev pub ReadAnswers : Type 0
 ReadAnswers = (text : List ℕ) → Answers text
+
+-- The case of letters inside names changes nothing of what the reader returns.
+abbrev pub ReadWithoutCase : Type 0
+ReadWithoutCase = (a b : List ℕ) → Recased a b → readingOf a ≡ readingOf b

@@ -1,6 +1,6 @@
 -- The reader's array of names tells the word of each command's name.
 -- Assumes nothing.
-use mathlib.Core.Path.{_≡_, refl, sym, ap, _∙_}
+use mathlib.Core.Path.{_≡_, refl, sym, ap, _∙_, subst}
 use mathlib.Core.List.{List, [], _∷_, _++_, map}
 use Prim.Native.Nat.{ℕ, zero, suc, _+_, _≤_, _<_}
 use native.Mathlib.Omega.{arith}
@@ -9,12 +9,13 @@ use lib.Seq.{getD-set-same, getD-set-other, getD-append-add}
 use Rattle.notation.specs.Tokens.{Name}
 use Rattle.notation.specs.Notation.{Tree, tree′}
 use Rattle.notation.specs.Regular.{Regular}
-use Rattle.notation.specs.Texts.{TextSaysTree, modelOf, namesOf, titleOf, wordsOf}
+use Rattle.notation.specs.Texts.{TextSaysTree, modelOf, namesOf, titleOf, spelling}
 use Rattle.meaning.proofs.Lists.{every-at}
+use Rattle.notation.proofs.Case.{lower-length}
+use Rattle.notation.proofs.NamesStand.{Stands, names-stand}
 use Rattle.reader.specs.Read.{placed, nameArray}
 use Rattle.reporting.specs.Reports.{commandName}
 use Rattle.reporting.specs.working.Writing.{nameIn, Named}
-use Rattle.reporting.proofs.NamesStand.{Stands, titles-stand}
 
 -- The name n stored at number i.
 abbrev with : List ℕ → ℕ → Name → List ℕ
@@ -58,11 +59,11 @@ noName = record { place = 0; word = [] }
 -- What the array says of the name of command k, in a text that says the tree.
 pub record Told (text : List ℕ) (x : Tree) (k : ℕ) : Type 0 where
   pub named : Named text (nameArray (namesOf x)) (modelOf x .sharedNames + modelOf x .rowNames + k)
-  pub word : nameIn text (nameArray (namesOf x)) (modelOf x .sharedNames + modelOf x .rowNames + k) ≡ commandName x k
-  pub short : length (commandName x k) ≤ 16
+  pub word : nameIn text (nameArray (namesOf x)) (modelOf x .sharedNames + modelOf x .rowNames + k) ≡ commandName text x k
+  pub short : length (commandName text x k) ≤ 16
 
 pub told : (text : List ℕ) (x : Tree) → TextSaysTree text x → Regular (modelOf x) → (k : ℕ) → k < length (modelOf x .commands) → Told text x k
-unfolding modelOf namesOf commandName
+unfolding modelOf namesOf commandName spelling
 told text (tree′ ws vs s c cs) says g k h =
     let ts : List Name = map titleOf cs in
     let ns : List Name = ws ++ (vs ++ ts) in
@@ -70,18 +71,19 @@ told text (tree′ ws vs s c cs) says g k h =
     let lm : length (modelOf (tree′ ws vs s c cs) .commands) ≡ length cs = length-map cs _ in
     let ln : length ns ≡ length ws + (length vs + length ts) = length-append ws (vs ++ ts) ∙ ap (λ q. length ws + q) (length-append vs ts) in
     let i : ℕ = length ws + length vs + k in
-    let S : Stands text (getD ts k noName) = every-at (Stands text) ts noName k (titles-stand text (tree′ ws vs s c cs) says) (omega (arith, lt, lm)) in
     let e : getD ns i noName ≡ getD ts k noName =
     (let z : i ≡ length ws + (length vs + k) = omega arith in
     ap (λ q. getD ns q noName) z ∙ getD-append-add ws (vs ++ ts) (length vs + k) noName ∙ getD-append-add vs ts k noName) in
+    let S : Stands text (getD ts k noName) =
+    subst (Stands text) e (every-at (Stands text) ns noName i (names-stand text (tree′ ws vs s c cs) says) (omega (arith, lt, lm, ln))) in
     let p = placed-at ns (replicate 56 0) 0 i noName (omega (arith, lt, lm, ln)) (omega (arith, lt, lm, ln, g .fewNames, g .fewCommands)) refl in
     let z : 0 + i ≡ i = omega arith in
     let a : getD (nameArray ns) i 0 ≡ getD ts k noName .place = ap (λ q. getD (nameArray ns) q 0) (sym z) ∙ p .0 ∙ ap (λ (n : Name). n .place) e in
     let b : getD (nameArray ns) (28 + i) 0 ≡ length (getD ts k noName .word) =
     ap (λ q. getD (nameArray ns) (28 + q) 0) (sym z) ∙ p .1 ∙ ap (λ (n : Name). length (n .word)) e in
-    let w : getD (wordsOf ts) k [] ≡ getD ts k noName .word = List·getD-map (λ (n : Name). n .word) ts k noName in
+    let w : getD (map (spelling text) ts) k [] ≡ spelling text (getD ts k noName) = List·getD-map (spelling text) ts k noName in
     record {
       named = record { index = omega (arith, lm, g .fewNames, g .fewCommands); inside = omega (arith, a, b, S .inside) };
-      word = ap (λ q. take q (drop (getD (nameArray ns) i 0) text)) b ∙ ap (λ q. take (length (getD ts k noName .word)) (drop q text)) a ∙ S .there ∙ sym w;
-      short = omega (arith, ap length w, S .short);
+      word = ap (λ q. take q (drop (getD (nameArray ns) i 0) text)) b ∙ ap (λ q. take (length (getD ts k noName .word)) (drop q text)) a ∙ sym w;
+      short = omega (arith, ap length w, ap length (S .spelt), lower-length (spelling text (getD ts k noName)), S .short);
     }

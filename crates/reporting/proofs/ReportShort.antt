@@ -83,7 +83,7 @@ steps-short called i (x ∷ xs) h f =
     )
 
 module _ (text : List ℕ) (x : Tree) (says : TextSaysTree text x) where
-  step-small : (y : TraceStep) → StepFits (modelOf x) y → Short (commandName x) y
+  step-small : (y : TraceStep) → StepFits (modelOf x) y → Short (commandName text x) y
   step-small y f =
       record {
         name = told text x says (regular text x says) (y .command) (f .command) .short;
@@ -103,7 +103,7 @@ module _ (text : List ℕ) (x : Tree) (says : TextSaysTree text x) where
             (omega (arith, g .fewCommands)),
       )
 
-  found-short : (v : Verdict) → foundFor (modelOf x) ≡ v → length (reportLines x v) ≤ longestReport
+  found-short : (v : Verdict) → foundFor (modelOf x) ≡ v → length (reportLines text x v) ≤ longestReport
   unfolding reportLines verdictLines
   found-short (safeBy map) e =
       let g = regular text x says in
@@ -116,7 +116,7 @@ module _ (text : List ℕ) (x : Tree) (says : TextSaysTree text x) where
       let g = regular text x says in
       let p = passes text x says s xs e in
       let n : length xs ≤ 4095 = omega (arith, sheet-short text x says s xs e, sheet-length (modelOf x) s xs, few text x says) in
-      let l = stepLines (commandName x) 1 xs in
+      let l = stepLines (commandName text x) 1 xs in
       omega (
         arith,
         length-append (countsLine (modelOf x .sharedNames) (modelOf x .rowNames) (length (modelOf x .commands)))
@@ -129,7 +129,7 @@ module _ (text : List ℕ) (x : Tree) (says : TextSaysTree text x) where
         unsafe-short (length xs) (omega arith),
         start-short s (omega (arith, p .startFits, few text x says)),
         steps-short
-            (commandName x) 1 xs (omega arith) (weaken (StepFits (modelOf x)) (Short (commandName x)) step-small xs (p .stepsFit)),
+            (commandName text x) 1 xs (omega arith) (weaken (StepFits (modelOf x)) (Short (commandName text x)) step-small xs (p .stepsFit)),
       )
 
 pub reports-fit : ReportsFit

@@ -20,9 +20,9 @@ use Rattle.reporting.specs.working.Reporting.{foundFor, reportIn, report
 
 -- A text that says a tree.
 module _ (text : List ℕ) (x : Tree) (says : TextSaysTree text x) where
-  pub found-lines : reportOf text ≡ reportLines x (foundFor (modelOf x))
+  pub found-lines : reportOf text ≡ reportLines text x (foundFor (modelOf x))
   unfolding reportIn
-  found-lines = ap reportIn (says-answer says)
+  found-lines = ap (reportIn text) (says-answer says)
 
   some : Finds (modelOf x) (foundFor (modelOf x))
   some = finds (modelOf x) (all-regular text (modelOf x) (record { tree = x; says = says; meant = refl }))
@@ -32,12 +32,12 @@ module _ (text : List ℕ) (x : Tree) (says : TextSaysTree text x) where
 
 pub refused-lines : (text : List ℕ) (n i : ℕ) → answer text ≡ refused n i → reportOf text ≡ refusalLine n i
 unfolding reportIn
-refused-lines text n i e = ap reportIn e
+refused-lines text n i e = ap (reportIn text) e
 
 pub report-tells : ReportTells
 report-tells text =
     record {
       some = λ x says. (foundFor (modelOf x), some text x says);
-      finds = λ x v says F. found-lines text x says ∙ ap (reportLines x) (found text x says v F);
+      finds = λ x v says F. found-lines text x says ∙ ap (reportLines text x) (found text x says v F);
       refuses = λ n i r. refused-lines text n i (refused-answer r);
     }

@@ -136,7 +136,7 @@ module _ (text : List ℕ) (x : Tree) (says : TextSaysTree text x) where
           bytes = subst AreBytes (sym (map-read m map)) (exact .bytes);
         }
 
-    safe-lines : safeReport code (mapSheet m map) ≡ reportLines x (safeBy map)
+    safe-lines : safeReport code (mapSheet m map) ≡ reportLines text x (safeBy map)
     unfolding reportLines verdictLines codeOf layoutOf
     safe-lines =
         ap (λ l. countsLine (m .sharedNames) (m .rowNames) (length (m .commands)) ++ (safeLine ++ countLines (stateCount m) (settingCount m) l)) (map-read m map)
@@ -145,15 +145,15 @@ module _ (text : List ℕ) (x : Tree) (says : TextSaysTree text x) where
     map-shown = subst (λ c. MapShown c (mapSheet m map)) (sym code-read) counted-map
 
     pub safe-said : safeReport (readingOf text .code) (mapSheet m map) ≡ reportOf text
-    safe-said = ap (λ c. safeReport c (mapSheet m map)) code-read ∙ safe-lines ∙ sym (found-lines text x says ∙ ap (reportLines x) e)
+    safe-said = ap (λ c. safeReport c (mapSheet m map)) code-read ∙ safe-lines ∙ sym (found-lines text x says ∙ ap (reportLines text x) e)
 
   -- Where nothing starts.
-  void-lines : (map : List ℕ) → voidReport code ≡ reportLines x (voidBy map)
+  void-lines : (map : List ℕ) → voidReport code ≡ reportLines text x (voidBy map)
   unfolding reportLines verdictLines codeOf layoutOf
   void-lines map = refl
 
   pub void-said : (map : List ℕ) → S ≡ voidBy map → voidReport (readingOf text .code) ≡ reportOf text
-  void-said map e = ap voidReport code-read ∙ void-lines map ∙ sym (found-lines text x says ∙ ap (reportLines x) e)
+  void-said map e = ap voidReport code-read ∙ void-lines map ∙ sym (found-lines text x says ∙ ap (reportLines text x) e)
 
   -- Where a trace is found.
   module _ (s : ℕ) (xs : List TraceStep) (e : S ≡ unsafeBy s xs) where
@@ -185,18 +185,18 @@ module _ (text : List ℕ) (x : Tree) (says : TextSaysTree text x) where
     abbrev counted : List ℕ
     counted = countsLine (m .sharedNames) (m .rowNames) (length (m .commands))
 
-    trace-lines : traceReport text code sheet ≡ reportLines x (unsafeBy s xs)
+    trace-lines : traceReport text code sheet ≡ reportLines text x (unsafeBy s xs)
     unfolding reportLines verdictLines codeOf layoutOf
     trace-lines =
         ap (λ n. counted ++ (unsafeLine n ++ (startLine (startIn sheet) ++ stepLines called 1 (traceSteps sheet)))) (count-read m s xs)
         ∙ ap (λ t. counted ++ (unsafeLine (length xs) ++ (startLine t ++ stepLines called 1 (traceSteps sheet)))) (start-read m s xs (omega (arith, few, passes .startFits)))
         ∙ ap (λ ys. counted ++ (unsafeLine (length xs) ++ (startLine s ++ stepLines called 1 ys))) (steps-read m s xs regular (passes .stepsFit))
         ∙ ap (λ l. counted ++ (unsafeLine (length xs) ++ (startLine s ++ l)))
-        (lines-same called (commandName x) 1 xs
-        (weaken (StepFits m) (λ (y : TraceStep). called (y .command) ≡ commandName x (y .command)) (λ y k. told text x says regular (y .command) (k .command) .word) xs (passes .stepsFit)))
+        (lines-same called (commandName text x) 1 xs
+        (weaken (StepFits m) (λ (y : TraceStep). called (y .command) ≡ commandName text x (y .command)) (λ y k. told text x says regular (y .command) (k .command) .word) xs (passes .stepsFit)))
 
     pub trace-shown : Printable text (readingOf text .code) sheet
     trace-shown = subst (λ c. Printable text c sheet) (sym code-read) shown
 
     pub trace-said : traceReport text (readingOf text .code) sheet ≡ reportOf text
-    trace-said = ap (λ c. traceReport text c sheet) code-read ∙ trace-lines ∙ sym (found-lines text x says ∙ ap (reportLines x) e)
+    trace-said = ap (λ c. traceReport text c sheet) code-read ∙ trace-lines ∙ sym (found-lines text x says ∙ ap (reportLines text x) e)

@@ -16,7 +16,7 @@ use Rattle.reporting.specs.working.Reporting.{reportOf}
 -- the report of a text that is refused is the line of its first refusal.
 pub record Tells (text : List ℕ) : Type 0 where
   pub some : (x : Tree) → TextSaysTree text x → (v : Verdict) × Finds (modelOf x) v
-  pub finds : (x : Tree) (v : Verdict) → TextSaysTree text x → Finds (modelOf x) v → reportOf text ≡ reportLines x v
+  pub finds : (x : Tree) (v : Verdict) → TextSaysTree text x → Finds (modelOf x) v → reportOf text ≡ reportLines text x v
   pub refuses : (n i : ℕ) → TextRefused text n i → reportOf text ≡ refusalLine n i
 
 abbrev pub ReportTells : Type 0

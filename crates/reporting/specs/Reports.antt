@@ -7,7 +7,7 @@ use Rattle.notation.specs.Bytes.{bytes}
 use Rattle.notation.specs.Tokens.{Word}
 use Rattle.notation.specs.Notation.{Tree, tree′}
 use Rattle.notation.specs.Model.{Model}
-use Rattle.notation.specs.Texts.{modelOf, wordsOf, titleOf}
+use Rattle.notation.specs.Texts.{modelOf, titleOf, spelling}
 use Rattle.meaning.specs.OneRow.{stateCount, TraceStep}
 use Rattle.meaning.specs.Evidence.{Verdict, safeBy, voidBy, unsafeBy}
 use Rattle.lines.specs.Lines.{decimalOf, line}
@@ -43,9 +43,9 @@ unfoldable pub stepLines : (ℕ → Word) → ℕ → List TraceStep → List �
 stepLines called number [] = []
 stepLines called number (x ∷ xs) = stepLine number (called (x .command)) (x .word) (x .after) ++ stepLines called (number + 1) xs
 
--- The name of command i of a tree.
-unfoldable pub commandName : Tree → ℕ → Word
-commandName (tree′ ws vs s k cs) i = getD (wordsOf (map titleOf cs)) i []
+-- The name of command i of a tree, as its declaration in the text spells it.
+unfoldable pub commandName : List ℕ → Tree → ℕ → Word
+commandName text (tree′ ws vs s k cs) i = getD (map (spelling text) (map titleOf cs)) i []
 
 -- The lines of a verdict on a model: after `safe` follow the counts of the map, after `unsafe` the run, its steps numbered from 1.
 unfoldable pub verdictLines : Model → (ℕ → Word) → Verdict → List ℕ
@@ -53,10 +53,10 @@ verdictLines m called (safeBy map) = safeLine ++ countLines (stateCount m) (sett
 verdictLines m called (voidBy map) = voidLine
 verdictLines m called (unsafeBy s xs) = unsafeLine (length xs) ++ (startLine s ++ stepLines called 1 xs)
 
--- THE REPORT of the model that a tree says, where this is found.
-unfoldable pub reportLines : Tree → Verdict → List ℕ
-reportLines x v =
-    countsLine (modelOf x .sharedNames) (modelOf x .rowNames) (length (modelOf x .commands)) ++ verdictLines (modelOf x) (commandName x) v
+-- THE REPORT of the model of a text that says the tree, where this is found.
+unfoldable pub reportLines : List ℕ → Tree → Verdict → List ℕ
+reportLines text x v =
+    countsLine (modelOf x .sharedNames) (modelOf x .rowNames) (length (modelOf x .commands)) ++ verdictLines (modelOf x) (commandName text x) v
 
 -- A bound on the length of a report: 37 bytes for the first three lines, and 36 for each of 4,095 steps.
 abbrev pub longestReport : ℕ

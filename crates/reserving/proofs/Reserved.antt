@@ -10,7 +10,7 @@ use Rattle.notation.specs.Texts.{TextSays, TextRefused}
 use Rattle.notation.specs.working.Machine as N
 use Rattle.notation.proofs.Places.{refusals-bounded}
 use Rattle.notation.proofs.Regular.{all-regular}
-use Rattle.notation.proofs.Texts.{says-answer, refused-answer, one-answer, one-model}
+use Rattle.notation.proofs.Texts.{says-answer, refused-answer, one-answer, one-model, answers-recased}
 use Rattle.meaning.specs.OneRow.{stateCount}
 use Rattle.exploration.specs.Trials.{mostTrials}
 use Rattle.exploration.proofs.TrialCounts.{trials-few}
@@ -20,7 +20,7 @@ use Rattle.verdicts.proofs.Places.{made-within, trials-bounded}
 use Rattle.verdicts.proofs.SearchTells.{madeOf, search-tells, searched-not-refused}
 use Rattle.verdicts.proofs.SheetsPass.{few}
 use Rattle.reserving.specs.Answers.{Wording, reserved, returned, wordingOf}
-use Rattle.reserving.specs.Promises.{answerFor, ReserveTells, RefusalTells, JustEnough, ReservesJustEnough, Bounded, ReservationsBounded}
+use Rattle.reserving.specs.Promises.{answerFor, ReserveTells, RefusalTells, ReservedWithoutCase, JustEnough, ReservesJustEnough, Bounded, ReservationsBounded}
 use Rattle.reserving.specs.working.Reserving.{needsOf, reserveIn, reserveOf}
 
 pub reserve-tells : ReserveTells
@@ -31,6 +31,10 @@ reserve-tells text m s =
 pub refusal-tells : RefusalTells
 unfolding reserveOf reserveIn wordingOf
 refusal-tells text n i r = ap (λ (o : N.Outcome). wordingOf (reserveIn o)) (refused-answer r)
+
+pub reserved-without-case : ReservedWithoutCase
+unfolding reserveOf
+reserved-without-case text other r = ap (λ (o : N.Outcome). wordingOf (reserveIn o)) (answers-recased r)
 
 -- The numbers in an answer.
 abbrev entriesIn : Wording → ℕ

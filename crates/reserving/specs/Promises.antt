@@ -8,6 +8,7 @@ use Prim.Native.String.{String}
 use lib.ListN.{length}
 use Rattle.notation.specs.Model.{Model}
 use Rattle.notation.specs.Texts.{longestText, TextSays, TextRefused}
+use Rattle.notation.specs.Case.{Recased}
 use Rattle.meaning.specs.OneRow.{stateCount}
 use Rattle.sheets.specs.Sheets.{systemOf}
 use Rattle.exploration.specs.Trials.{mostTrials}
@@ -45,6 +46,10 @@ pub record JustEnough (text : List ℕ) (entries bytes trials : ℕ) : Type 0 wh
 
 abbrev pub ReservesJustEnough : Type 0
 ReservesJustEnough = (text : List ℕ) (entries bytes trials : ℕ) → answerFor text ≡ reserved entries bytes trials → JustEnough text entries bytes trials
+
+-- The case of letters inside names changes no answer.
+abbrev pub ReservedWithoutCase : Type 0
+ReservedWithoutCase = (text other : List ℕ) → Recased text other → answerFor text ≡ answerFor other
 
 -- The numbers in an answer: no model has more than 4096 states, 16 commands and 256 words of a command.
 abbrev pub Bounded : Wording → Type 0

@@ -17,7 +17,7 @@ use Rattle.notation.specs.Model.{Model}
 use Rattle.notation.specs.Regular.{Regular}
 use Rattle.notation.specs.Texts.{TextSays, TextRefused}
 use Rattle.notation.specs.working.Machine as N
-use Rattle.notation.proofs.Texts.{says-answer, refused-answer, one-answer}
+use Rattle.notation.proofs.Texts.{says-answer, refused-answer, one-answer, answers-recased}
 use Rattle.notation.proofs.Regular.{all-regular}
 use Rattle.meaning.specs.Meaning.{Safe, Unsafe, CanStart}
 use Rattle.meaning.specs.OneRow.{One, stateCount}
@@ -29,7 +29,7 @@ use Rattle.exploration.specs.Trials.{trialsOf}
 use Rattle.exploration.specs.working.Trials.{trialCount}
 use Rattle.verdicts.specs.Answers.{Wording, verdict, returned, wordingOf}
 use Rattle.verdicts.specs.Left.{Left}
-use Rattle.verdicts.specs.Promises.{LeavesTell, RoomTells, Room, SearchDone, SearchRefused, SearchTells, TextRefusedFirst}
+use Rattle.verdicts.specs.Promises.{LeavesTell, RoomTells, Room, SearchDone, SearchRefused, SearchTells, TextRefusedFirst, SearchedWithoutCase}
 use Rattle.exploration.specs.working.Found.{foundIn, transitionsOf}
 use Rattle.verdicts.specs.working.Searching.{roomy, verdictOf, leftWith, leftAlone, searchFor, searchIn, searchOf}
 use Rattle.exploration.proofs.FindsRight.{own, finds}
@@ -178,6 +178,10 @@ refused-left text n i r first second sheet = ap (λ (o : N.Outcome). searchIn o 
 pub text-refused-first : TextRefusedFirst
 text-refused-first text n i r first second sheet =
     subst (SearchRefused n i first second sheet) (sym (refused-left text n i r first second sheet)) (left-alone n i first second sheet)
+
+pub searched-without-case : SearchedWithoutCase
+unfolding searchOf
+searched-without-case text other r first second sheet = ap (λ (o : N.Outcome). searchIn o first second sheet) (answers-recased r)
 
 -- A property holds of what a call leaves if it does where the text is refused, where there is no room, and where a model is searched.
 pub whatever-left : (text first second sheet : List ℕ) (P : Left → Type 0)

@@ -11,6 +11,7 @@ use lib.ListN.{length, take}
 use lib.Seq.{sets}
 use Rattle.notation.specs.Model.{Model}
 use Rattle.notation.specs.Texts.{longestText, TextSays, TextRefused}
+use Rattle.notation.specs.Case.{Recased}
 use Rattle.meaning.specs.Meaning.{Safe, Unsafe, CanStart}
 use Rattle.meaning.specs.OneRow.{One, stateCount}
 use Rattle.sheets.specs.Sheets.{systemOf, sheetRoom, sheetBytes}
@@ -80,6 +81,10 @@ SearchTells =
 abbrev pub TextRefusedFirst : Type 0
 TextRefusedFirst =
     (text : List ℕ) (n i : ℕ) → TextRefused text n i → (first second sheet : List ℕ) → SearchRefused n i first second sheet (searchOf text first second sheet)
+
+-- The case of letters inside names changes neither the answer nor what is left in the lent buffers.
+abbrev pub SearchedWithoutCase : Type 0
+SearchedWithoutCase = (text other : List ℕ) → Recased text other → (first second sheet : List ℕ) → searchOf text first second sheet ≡ searchOf other first second sheet
 
 -- No search of a text's model tells more trials than there are at all its states.
 abbrev pub TrialsBounded : Type 0

@@ -17,10 +17,10 @@ abbrev pub foundFor : Model → Verdict
 foundFor m = foundIn (transitionsOf (systemOf m))
 
 -- The report of a text that was read or refused.
-unfoldable pub reportIn : Outcome → List ℕ
-reportIn (read x) = reportLines x (foundFor (modelOf x))
-reportIn (refused n p) = refusalLine n p
+unfoldable pub reportIn : List ℕ → Outcome → List ℕ
+reportIn text (read x) = reportLines text x (foundFor (modelOf x))
+reportIn text (refused n p) = refusalLine n p
 
 -- The report of a text. What it is on every input is said by `ReportTells`, which is proved of it.
 abbrev pub reportOf : List ℕ → List ℕ
-reportOf text = reportIn (answer text)
+reportOf text = reportIn text (answer text)

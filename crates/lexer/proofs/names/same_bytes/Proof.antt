@@ -1,67 +1,71 @@
--- `same_bytes` meets its contract: the windows are the same from byte j on if and only if they are the same, since the bytes before j are.
+-- The first k bytes are the same but for case exactly if all are, since those behind them are.
 -- Assumes nothing.
-use mathlib.Core.Path.{_≡_, sym, _∙_}
-use Prim.Native.Nat.{_≤_, _-_}
+use mathlib.Core.Path.{_≡_, refl, sym, _∙_}
+use Prim.Native.Nat.{_≤_}
 use native.Mathlib.Omega.{arith}
-use Rattle.notation.specs.Bytes.{sameWord}
-use Rattle.lexer.specs.working.Names.{window}
-use Rattle.lexer.proofs.Lookup.{sameFrom, same-start, same-no, same-more, same-end}
+use borrow.Author.Tests.{not-true, not-false}
+use Rattle.lexer.specs.working.Names.{sameFirst}
+use Rattle.lexer.proofs.Lookup.{last-no, last-more, none-left}
 use Rattle.lexer.proofs.names.same_bytes.Statement.{statement}
 use Rattle.lexer.proofs.names.same_bytes.Tie as tie
 
 abbrev Inv-loop : tie.InvT-loop
-Inv-loop text a b n j₀ j = (j ≤ n) × (sameFrom text a b n j ≡ sameWord (window text b n) (window text a n))
+Inv-loop text a b n k₀ k = (k ≤ n) × (sameFirst text a b k ≡ sameFirst text a b n)
 
 abbrev μ-loop : tie.MeasureT-loop
-μ-loop text a b n j₀ j = n - j
+μ-loop text a b n k₀ k = k
 
 -- The places that the answers name.
-abbrev After-byte-at : Type 0
-After-byte-at = tie.After-byte-at Inv-loop μ-loop
-
 abbrev At-loop : Type 0
 At-loop = tie.At-loop Inv-loop μ-loop
 
 loop-holds : tie.Need-loop-holds Inv-loop μ-loop
-loop-holds c = (omega arith, same-start _ _ _ _)
+loop-holds c = (omega arith, refl)
 
-add-byte-at : tie.Need-add-byte-at Inv-loop μ-loop
-add-byte-at c = omega arith
+left-to-compare-requires : tie.Need-left-to-compare-requires Inv-loop μ-loop
+left-to-compare-requires c κs = omega arith
 
-byte-at-requires : tie.Need-byte-at-requires Inv-loop μ-loop
-byte-at-requires c κs = tt
+sub-j : tie.Need-sub-j Inv-loop μ-loop
+sub-j c = omega arith
 
-add-byte-at-2 : tie.Need-add-byte-at-2 Inv-loop μ-loop
-add-byte-at-2 c = omega arith
+add-x : tie.Need-add-x Inv-loop μ-loop
+add-x c = omega arith
 
-byte-at-requires-2 : tie.Need-byte-at-requires-2 Inv-loop μ-loop
-byte-at-requires-2 c κs = tt
+shared-slice-read-x : tie.Need-shared-slice-read-x Inv-loop μ-loop
+shared-slice-read-x c = omega arith
+
+add-y : tie.Need-add-y Inv-loop μ-loop
+add-y c = omega arith
+
+shared-slice-read-y : tie.Need-shared-slice-read-y Inv-loop μ-loop
+shared-slice-read-y c = omega arith
+
+same-but-for-case-requires : tie.Need-same-but-for-case-requires Inv-loop μ-loop
+same-but-for-case-requires c κs = tt
 
 returns : tie.Need-returns Inv-loop μ-loop
 returns c =
-    let after-byte-at : After-byte-at = search in
     let at-loop : At-loop = search in
-    same-no _ _ _ _ _ (omega arith)
-    (λ z. c .if1 .taken (after-byte-at .byte-at .ensures ∙ z ∙ sym (c .before .byte-at2 .ensures))) ∙
-    at-loop .loop .inv .1
-
-add-j : tie.Need-add-j Inv-loop μ-loop
-add-j c = omega arith
+    last-no _ _ _ _ _ (omega arith) (sym (c .before .same-but-for-case .ensures) ∙ not-true _ (c .if2 .taken)) ∙ at-loop .loop .inv .1
 
 loop-less : tie.Need-loop-less Inv-loop μ-loop
 loop-less c = omega arith
 
 loop-again : tie.Need-loop-again Inv-loop μ-loop
 loop-again c =
-    let after-byte-at : After-byte-at = search in
-    let at-loop : At-loop = search in (
-      omega arith,
-      same-more _ _ _ _ _ (omega arith)
-          (sym (after-byte-at .byte-at .ensures) ∙ c .if1 .left ∙ c .before .byte-at2 .ensures) ∙ at-loop .loop .inv .1,
-    )
+    let at-loop : At-loop = search in
+    (omega arith, last-more _ _ _ _ _ (omega arith) (sym (c .before .same-but-for-case .ensures) ∙ not-false _ (c .if2 .left)) ∙ at-loop .loop .inv .1)
+
+loop-less-2 : tie.Need-loop-less-2 Inv-loop μ-loop
+loop-less-2 c = omega (arith, c .before .left-to-compare .ensures .0)
+
+loop-again-2 : tie.Need-loop-again-2 Inv-loop μ-loop
+loop-again-2 c =
+    let at-loop : At-loop = search in
+    (omega (arith, c .before .left-to-compare .ensures .0), c .before .left-to-compare .ensures .1 ∙ at-loop .loop .inv .1)
 
 returns-2 : tie.Need-returns-2 Inv-loop μ-loop
-returns-2 c = same-end _ _ _ _ _ (omega arith) ∙ c .before .loop .inv .1
+returns-2 c = none-left _ _ _ _ (omega arith) ∙ c .before .loop .inv .1
 
 pub same-bytes-spec : {M : Type 1} → statement M
 same-bytes-spec =
@@ -70,12 +74,16 @@ same-bytes-spec =
     Inv-loop
     μ-loop
     loop-holds
-    add-byte-at
-    byte-at-requires
-    add-byte-at-2
-    byte-at-requires-2
+    left-to-compare-requires
+    sub-j
+    add-x
+    shared-slice-read-x
+    add-y
+    shared-slice-read-y
+    same-but-for-case-requires
     returns
-    add-j
     loop-less
     loop-again
+    loop-less-2
+    loop-again-2
     returns-2)

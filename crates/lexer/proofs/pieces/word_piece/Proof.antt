@@ -1,40 +1,51 @@
 -- Each answer is the token that the definition gives a word that passed the tests so far.
 -- Assumes nothing.
 use mathlib.Core.Path.{_≡_, sym, _∙_}
-use mathlib.Core.Bool.{false}
-use lib.ListN.{getD}
-use borrow.Author.Needs.{needs}
+use mathlib.Core.Bool.{true, false, cond}
 use Prim.Native.Nat.{_-_}
-use borrow.Author.Tests.{lt-ltb, le-ltb, eq-eqb, ne-eqb}
+use lib.ListN.{getD}
+use lib.Seq.{slice}
+use borrow.Author.Needs.{needs}
+use borrow.Author.Tests.{lt-ltb, le-ltb, not-true, not-false}
 use Rattle.notation.specs.Bytes.{letter}
-use Rattle.lexer.specs.working.Pieces.{plainPiece, numberedPiece, wordPiece}
+use Rattle.notation.specs.Tokens.{OTHER}
+use Rattle.lexer.specs.working.Pieces.{NAME, otherCase, pieceOf, numberedPiece, wordPiece}
 use Rattle.lexer.proofs.pieces.word_piece.Statement.{statement}
 use Rattle.lexer.proofs.pieces.word_piece.Tie as tie
 
-is-plain : (c : tie.Else2) →
+-- A word of several bytes, not long and not reserved as it is written.
+unreserved : (c : tie.Else3) →
     let start : tie.Start = search in
     let a = start .args in
-    plainPiece (a .e - a .s) (getD (a .text .now) (a .s) 0) (a .s) (a .e) ≡ wordPiece (a .text .now) (a .s) (a .e)
+    cond (letter (getD (a .text .now) (a .s) 0)) (cond (otherCase (slice (a .s) (a .e) (a .text .now))) (pieceOf OTHER (a .s) (a .e) 3) (pieceOf NAME (a .s) (a .e) 3)) (pieceOf OTHER (a .s) (a .e) 3)
+    ≡ wordPiece (a .text .now) (a .s) (a .e)
 unfolding numberedPiece wordPiece
-is-plain c =
+unreserved c =
     let else1 : tie.Else1 = search in
-    rw (le-ltb _ _ (else1 .if1 .left), sym (c .before .reserved-at .ensures), le-ltb _ _ (c .if2 .left))
-
-no-letter : (c : tie.Else3) →
-    let start : tie.Start = search in
-    let a = start .args in
-    letter (getD (a .text .now) (a .s) 0) ≡ false
-no-letter c = sym (c .before .is-letter .ensures) ∙ c .if3 .left
+    let else2 : tie.Else2 = search in
+    rw (le-ltb _ _ (else1 .if1 .left), le-ltb _ _ (else2 .if2 .left), sym (c .before .reserved-at .ensures), le-ltb _ _ (c .if3 .left))
 
 sub-n : tie.Need-sub-n
 sub-n c = search needs
 
-refused-requires : tie.Need-refused-requires
-refused-requires c κs = search needs
+shared-slice-read-b : tie.Need-shared-slice-read-b
+shared-slice-read-b c = search needs
+
+byte-piece-requires : tie.Need-byte-piece-requires
+byte-piece-requires c κs = search needs
 
 returns : tie.Need-returns
 unfolding numberedPiece wordPiece
-returns c = rw (lt-ltb _ _ (c .before .if1 .taken)) (c .refused .ensures)
+returns c = rw (lt-ltb _ _ (c .before .if1 .taken)) (c .byte-piece .ensures)
+
+refused-requires : tie.Need-refused-requires
+refused-requires c κs = search needs
+
+returns-2 : tie.Need-returns-2
+unfolding numberedPiece wordPiece
+returns-2 c =
+    let else1 : tie.Else1 = search in
+    rw (le-ltb _ _ (else1 .if1 .left), lt-ltb _ _ (c .before .if2 .taken)) (c .refused .ensures)
 
 reserved-at-requires : tie.Need-reserved-at-requires
 reserved-at-requires c κs = search needs
@@ -42,16 +53,19 @@ reserved-at-requires c κs = search needs
 token-requires : tie.Need-token-requires
 token-requires c κs = search needs
 
-returns-2 : tie.Need-returns-2
+returns-3 : tie.Need-returns-3
 unfolding numberedPiece wordPiece
-returns-2 c =
+returns-3 c =
     let after-reserved-at : tie.After-reserved-at = search in
     let else1 : tie.Else1 = search in
-    rw (le-ltb _ _ (else1 .if1 .left), sym (after-reserved-at .reserved-at .ensures), lt-ltb _ _ (c .before .if2 .taken))
+    let else2 : tie.Else2 = search in
+    rw (
+      le-ltb _ _ (else1 .if1 .left),
+      le-ltb _ _ (else2 .if2 .left),
+      sym (after-reserved-at .reserved-at .ensures),
+      lt-ltb _ _ (c .before .if3 .taken),
+    )
     (c .token .ensures)
-
-shared-slice-read-b : tie.Need-shared-slice-read-b
-shared-slice-read-b c = search needs
 
 is-letter-requires : tie.Need-is-letter-requires
 is-letter-requires c κs = search needs
@@ -59,79 +73,63 @@ is-letter-requires c κs = search needs
 token-requires-2 : tie.Need-token-requires-2
 token-requires-2 c κs = search needs
 
-returns-3 : tie.Need-returns-3
-unfolding plainPiece
-returns-3 c =
+returns-4 : tie.Need-returns-4
+returns-4 c =
     let after-is-letter : tie.After-is-letter = search in
-    let else2 : tie.Else2 = search in
-    c .token2 .ensures ∙ rw (sym (after-is-letter .is-letter .ensures) ∙ c .before .if3 .taken) at (is-plain else2)
+    let else3 : tie.Else3 = search in
+    c .token2 .ensures ∙ rw (sym (after-is-letter .is-letter .ensures) ∙ not-true _ (c .before .if4 .taken)) at (unreserved else3)
+
+reserved-in-other-case-requires : tie.Need-reserved-in-other-case-requires
+reserved-in-other-case-requires c κs = search needs
 
 token-requires-3 : tie.Need-token-requires-3
 token-requires-3 c κs = search needs
 
-returns-4 : tie.Need-returns-4
-unfolding plainPiece
-returns-4 c =
+returns-5 : tie.Need-returns-5
+returns-5 c =
+    let after-other : tie.After-reserved-in-other-case = search in
+    let after-is-letter : tie.After-is-letter = search in
+    let else4 : tie.Else4 = search in
     let else3 : tie.Else3 = search in
-    let else2 : tie.Else2 = search in
-    c .token3 .ensures ∙ rw (no-letter else3, ne-eqb _ _ (c .before .if4 .taken)) at (is-plain else2)
+    c .token3 .ensures
+    ∙ rw (
+      sym (after-is-letter .is-letter .ensures) ∙ not-false _ (else4 .if4 .left),
+      sym (after-other .reserved-in-other-case .ensures) ∙ c .before .if5 .taken,
+    ) at (unreserved else3)
 
 token-requires-4 : tie.Need-token-requires-4
 token-requires-4 c κs = search needs
 
-returns-5 : tie.Need-returns-5
-unfolding plainPiece
-returns-5 c =
-    let else4 : tie.Else4 = search in
-    let else3 : tie.Else3 = search in
-    let else2 : tie.Else2 = search in
-    c .token4 .ensures ∙ rw (no-letter else3, eq-eqb _ _ (else4 .if4 .left), eq-eqb _ _ (c .before .if5 .taken)) at (is-plain else2)
-
-token-requires-5 : tie.Need-token-requires-5
-token-requires-5 c κs = search needs
-
 returns-6 : tie.Need-returns-6
-unfolding plainPiece
 returns-6 c =
-    let else5 : tie.Else5 = search in
+    let after-other : tie.After-reserved-in-other-case = search in
+    let after-is-letter : tie.After-is-letter = search in
     let else4 : tie.Else4 = search in
     let else3 : tie.Else3 = search in
-    let else2 : tie.Else2 = search in
-    c .token5 .ensures
-    ∙ rw (no-letter else3, eq-eqb _ _ (else4 .if4 .left), ne-eqb _ _ (else5 .if5 .left), eq-eqb _ _ (c .before .if6 .taken)) at (is-plain else2)
-
-token-requires-6 : tie.Need-token-requires-6
-token-requires-6 c κs = search needs
-
-returns-7 : tie.Need-returns-7
-unfolding plainPiece
-returns-7 c =
-    let else5 : tie.Else5 = search in
-    let else4 : tie.Else4 = search in
-    let else3 : tie.Else3 = search in
-    let else2 : tie.Else2 = search in
-    c .token6 .ensures
-    ∙ rw (no-letter else3, eq-eqb _ _ (else4 .if4 .left), ne-eqb _ _ (else5 .if5 .left), ne-eqb _ _ (c .before .if6 .left)) at (is-plain else2)
+    c .token4 .ensures
+    ∙ rw (
+      sym (after-is-letter .is-letter .ensures) ∙ not-false _ (else4 .if4 .left),
+      sym (after-other .reserved-in-other-case .ensures) ∙ c .before .if5 .left,
+    ) at (unreserved else3)
 
 pub word-piece-spec : {M : Type 1} → statement M
 word-piece-spec =
     tie.close
     (tie.spec
     sub-n
-    refused-requires
+    shared-slice-read-b
+    byte-piece-requires
     returns
+    refused-requires
+    returns-2
     reserved-at-requires
     token-requires
-    returns-2
-    shared-slice-read-b
+    returns-3
     is-letter-requires
     token-requires-2
-    returns-3
-    token-requires-3
     returns-4
-    token-requires-4
+    reserved-in-other-case-requires
+    token-requires-3
     returns-5
-    token-requires-5
-    returns-6
-    token-requires-6
-    returns-7)
+    token-requires-4
+    returns-6)

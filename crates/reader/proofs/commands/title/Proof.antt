@@ -29,12 +29,13 @@ add-n-2 c =
 
 find-name-requires : tie.Need-find-name-requires
 find-name-requires c κs =
+    let else2 : tie.Else2 = search in
     let after-past : tie.After-past = search in
     let start : tie.Start = search in (
       omega arith,
       (
         omega (arith, start .pre .0 .ready .names, start .pre .0 .ready .commands),
-        is-past {c = start .args .c} (after-past .past .ensures) .next .fresh,
+        (is-past {c = start .args .c} (after-past .past .ensures) .next .fresh, else2 .if2 .left),
       ),
     )
 

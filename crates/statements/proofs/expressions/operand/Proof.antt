@@ -46,13 +46,14 @@ returns-5 c =
 
 find-name-requires : tie.Need-find-name-requires
 find-name-requires c κs =
+    let then6 : tie.Then6 = search in
     let start : tie.Start = search in
     let l = start .args .l in (
       omega arith,
       (
         omega
             (arith, visible-few (start .args .sc .rows) (l .shared) (l .row) _ (c .visible .ensures) (start .pre .0 .names)),
-        start .pre .0 .fresh,
+        (start .pre .0 .fresh, then6 .if6 .taken),
       ),
     )
 

@@ -25,7 +25,7 @@ find-name-requires c κs =
     let l = start .args .l in
     let k = target-range (start .args .rows) (l .shared) (l .row) _ _ (c .before .first-target .ensures)
     (c .visible .ensures) (start .pre .0 .names) in
-    (k .0, (k .1, start .pre .0 .fresh))
+    (k .0, (k .1, (start .pre .0 .fresh, start .pre .1)))
 
 returns : tie.Need-returns
 returns c =

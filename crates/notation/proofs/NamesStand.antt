@@ -1,4 +1,4 @@
--- The name of each command stands in the text where the reader's array of names says.
+-- Every name that a text declares stands in the text at its place.
 -- Assumes nothing.
 use mathlib.Core.Path.{_≡_, refl, sym, ap, _∙_}
 use mathlib.Core.Bool.{Bool, true, false, cond}
@@ -10,16 +10,18 @@ use lib.Dec.{ltb}
 use lib.ListN.{length, take, drop, length-append}
 use lib.Seq.{take-append-seam, drop-at}
 use borrow.Author.Tests.{ltb-false}
-use Rattle.notation.specs.Bytes.{letter, begins, sameWord}
-use Rattle.notation.specs.Tokens.{Name, Token, sign, name, reserved, wordIn, plainWord, signOr, longestWord, wordToken, Lexeme, at, Cut, ended, blank, run, mark, assign, colon, barred, ZERO, ONE, OTHER}
-use Rattle.notation.specs.Notation.{Part, part, Tree, tree′, Command, TextIs, isText, CommandIs, isCommand, Several, final, andThen}
+use Rattle.notation.specs.Bytes.{letter, inLowerCase, begins, sameWord}
+use Rattle.notation.specs.Tokens.{Name, Token, sign, name, reserved, wordIn, plainWord, signOr, isNone, unreserved, longestWord, wordToken, Lexeme, at, Cut, ended, blank, run, mark, assign, colon, barred, ZERO, ONE, OTHER}
+use Rattle.notation.specs.Notation.{Kind, Part, part, declared, sharedName, rowName, Tree, tree′, Command, TextIs, isText, CommandIs, isCommand, Several, final, andThen}
 use Rattle.notation.specs.Regular.{Every}
-use Rattle.notation.specs.Texts.{Spells, spellsNone, spells, TextSaysTree, titleOf}
+use Rattle.notation.specs.Texts.{Spells, spellsNone, spells, TextSaysTree, titleOf, namesOf, spelling}
+use Rattle.notation.specs.Promises.{NamesSpelt}
+use Rattle.notation.proofs.Case.{lower-length}
 use Rattle.notation.proofs.Parts.{parted, text-parts}
 
--- A name stands in the text: its bytes from its place on are its word, which is not long.
+-- A name stands in the text: it is spelt there as its word is but for case, and it is not long.
 pub record Stands (text : List ℕ) (n : Name) : Type 0 where
-  pub there : take (length (n .word)) (drop (n .place) text) ≡ n .word
+  pub spelt : inLowerCase (spelling text n) ≡ n .word
   pub inside : n .place + length (n .word) ≤ length text
   pub short : length (n .word) ≤ longestWord
 
@@ -39,18 +41,23 @@ ToldPart text (part r t) = Told text t
 
 -- A word behind the bytes `pre`.
 module _ (text pre post w : List ℕ) (i : ℕ) (e : text ≡ pre ++ (w ++ post)) (l : length pre ≡ i) where
-  stands : length w ≤ longestWord → Stands text (record { place = i; word = w })
+  spelt : spelling text (record { place = i; word = inLowerCase w }) ≡ w
+  unfolding spelling
+  spelt =
+      ap (λ t. take (length (inLowerCase w)) (drop i t)) e ∙ ap (take (length (inLowerCase w))) (drop-at pre (w ++ post) i l) ∙ rw (lower-length w) (take-append-seam w post)
+
+  stands : length w ≤ longestWord → Stands text (record { place = i; word = inLowerCase w })
   stands h =
       record {
-        there = ap (λ t. take (length w) (drop i t)) e ∙ ap (take (length w)) (drop-at pre (w ++ post) i l) ∙ take-append-seam w post;
-        inside = omega (arith, ap length e, length-append pre (w ++ post), length-append w post);
-        short = h;
+        spelt = ap inLowerCase spelt;
+        inside = omega (arith, ap length e, length-append pre (w ++ post), length-append w post, lower-length w);
+        short = omega (arith, lower-length w);
       }
 
   plain-told : length w ≤ longestWord → Told text (plainWord i w)
   plain-told h = go (begins letter w) (sameWord w (48 ∷ [])) (sameWord w (49 ∷ []))
     where
-      go : (a b c : Bool) → Told text (cond a (name (record { place = i; word = w })) (cond b (sign ZERO) (cond c (sign ONE) (sign OTHER))))
+      go : (a b c : Bool) → Told text (cond a (name (record { place = i; word = inLowerCase w })) (cond b (sign ZERO) (cond c (sign ONE) (sign OTHER))))
       go true b c = stands h
       go false true c = tt
       go false false true = tt
@@ -60,11 +67,15 @@ module _ (text pre post w : List ℕ) (i : ℕ) (e : text ≡ pre ++ (w ++ post)
   unfolding wordToken
   word-told = go (ltb longestWord (length w)) refl (wordIn w reserved 0)
     where
-      sign-or : (o : Option ℕ) → length w ≤ longestWord → Told text (signOr o (plainWord i w))
-      sign-or none h = plain-told h
+      unreserved-told : (x : Bool) → length w ≤ longestWord → Told text (cond x (plainWord i w) (sign OTHER))
+      unreserved-told true h = plain-told h
+      unreserved-told false h = tt
+
+      sign-or : (o : Option ℕ) → length w ≤ longestWord → Told text (signOr o (unreserved i w))
+      sign-or none h = unreserved-told (isNone (wordIn (inLowerCase w) reserved 0)) h
       sign-or (some k) h = tt
 
-      go : (b : Bool) → ltb longestWord (length w) ≡ b → (o : Option ℕ) → ToldAt text (cond b none (some (signOr o (plainWord i w))))
+      go : (b : Bool) → ltb longestWord (length w) ≡ b → (o : Option ℕ) → ToldAt text (cond b none (some (signOr o (unreserved i w))))
       go true q o = tt
       go false q o = sign-or o (ltb-false longestWord (length w) q)
 
@@ -96,12 +107,30 @@ module _ (text : List ℕ) where
   titles-told (final o) h = (title-told o h, tt)
   titles-told (andThen {ps} {qs} o more) h = let x = parted (ToldPart text) ps qs h in (title-told o (x .0), titles-told more (x .1))
 
-abbrev pub commandsOf : Tree → List Command
-commandsOf (tree′ ws vs s k cs) = cs
+  -- The names of a list of declarations.
+  names-told : (k : Kind) (ws : List Name) → Every (ToldPart text) (declared k ws) → Every (Stands text) ws
+  names-told k [] h = tt
+  names-told k (w ∷ ws) h = (h .0, names-told k ws (h .1))
 
-form-told : (text : List ℕ) {ps : List Part} {x : Tree} → TextIs ps x → Every (ToldPart text) ps → Every (Stands text) (map titleOf (commandsOf x))
-form-told text (isText {ss} {ks} {cs} ws vs s k o) h = titles-told text o (text-parts (ToldPart text) ws vs ss ks cs h .2)
+both : {A : Type 0} (P : A → Type 0) (xs ys : List A) → Every P xs → Every P ys → Every P (xs ++ ys)
+both P [] ys h k = k
+both P (x ∷ xs) ys h k = (h .0, both P xs ys (h .1) k)
 
--- The names of a tree's commands stand in every text that says the tree.
-pub titles-stand : (text : List ℕ) (x : Tree) → TextSaysTree text x → Every (Stands text) (map titleOf (commandsOf x))
-titles-stand text x t = form-told text (t .says .form) (parts-told text (t .says .spelt) (cut-told text (t .cut) [] refl refl))
+form-told : (text : List ℕ) {ps : List Part} {x : Tree} → TextIs ps x → Every (ToldPart text) ps → Every (Stands text) (namesOf x)
+unfolding namesOf
+form-told text (isText {ss} {ks} {cs} ws vs s k o) h =
+    let a = parted (ToldPart text) (declared sharedName ws) _ (h .1) in
+    let b = parted (ToldPart text) (declared rowName vs) _ (a .1 .1 .1) in
+    both (Stands text) ws _ (names-told text sharedName ws (a .0))
+    (both (Stands text) vs _ (names-told text rowName vs (b .0)) (titles-told text o (text-parts (ToldPart text) ws vs ss ks cs h .2)))
+
+-- The names of a tree stand in every text that says the tree.
+pub names-stand : (text : List ℕ) (x : Tree) → TextSaysTree text x → Every (Stands text) (namesOf x)
+names-stand text x t = form-told text (t .says .form) (parts-told text (t .says .spelt) (cut-told text (t .cut) [] refl refl))
+
+pub names-spelt : NamesSpelt
+names-spelt text x t = go (namesOf x) (names-stand text x t)
+  where
+    go : (ns : List Name) → Every (Stands text) ns → Every (λ (n : Name). inLowerCase (spelling text n) ≡ n .word) ns
+    go [] h = tt
+    go (n ∷ ns) h = (h .0 .spelt, go ns (h .1))
