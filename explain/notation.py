@@ -8,8 +8,9 @@ from tokens import NAME, Token
 
 TEXT_END = "the end of the text"
 
-# The symbols that declare a name.
-DECLARING = ("shared name", "row name", "title")
+# The symbols that declare a name, each with what it declares.
+DECLARING = {"shared name": "a shared name", "row name": "a row name",
+             "title": "a command"}
 
 # A symbol with its alternatives; what is no symbol is a token's kind. No two
 # alternatives begin alike, so the next token picks one.

@@ -4,7 +4,7 @@ rule that the token goes against."""
 from dataclasses import dataclass
 
 from limits import MOST, all_limits, gone_over
-from notation import TEXT_END, declarations, in_roles, walk
+from notation import DECLARING, TEXT_END, declarations, in_roles, walk
 from places import Excerpt, excerpt, line_and_column, position, visible
 from tokens import LONGEST_WORD, NAME, cut
 
@@ -19,8 +19,6 @@ MEANINGS = {
     6: "a star in `start` or `keep`",
     7: "over a limit",
 }
-KINDS = {"shared name": "a shared name", "row name": "a row name",
-         "title": "a command"}
 BYTES = {9: "tab", 13: "carriage return"}
 
 
@@ -87,8 +85,9 @@ def found_instead(token):
 def declared_before(text, before, token):
     first = declarations(walk(before)[0])[token.folded]
     return (f"{same_name(token, first.token)}`{first.token.word}` is declared "
-            f"at {position(text, first.token.place)} as {KINDS[first.role]}; "
-            "no name is declared twice, commands included.")
+            f"at {position(text, first.token.place)} as "
+            f"{DECLARING[first.role]}; no name is declared twice, commands "
+            "included.")
 
 
 def misused(text, before, token):
@@ -98,7 +97,7 @@ def misused(text, before, token):
                 "before `:=` is declared after `shared` or `row`.")
     first = declared[token.folded]
     return (f"{same_name(token, first.token)}`{first.token.word}` is "
-            f"{KINDS[first.role]}; {USES[first.role]}")
+            f"{DECLARING[first.role]}; {USES[first.role]}")
 
 
 def same_name(token, declared):

@@ -6,7 +6,7 @@ from corpora.reports_settings import these
 from corpora.reports_texts import padded
 from inputs.cases import G, G_CASES, G_VOID, H, H_CASES
 from inputs.phrases import (command, list_of, model, nested, numbered,
-                            stars)
+                            refused_at, stars)
 
 
 def worked():
@@ -57,13 +57,6 @@ def names():
                these(shared, row, (0,), starred((1,))))
 
 
-def marked(number, text):
-    """A text that is refused where the mark stands."""
-    before, after = text.split("^")
-    return (f"{before[-16:]!r}, then {after[:8]!r} "
-            f"-> refused {number} {len(before)}", before + after)
-
-
 SAID = "shared a. row w. start 1 each 1. keep 1 each 1. "
 
 
@@ -94,7 +87,9 @@ def refused():
             (7, SAID + command("c", yes=list_of("skip", 256) + ";^skip")),
             (7, SAID + " ".join(command(f"c{j}", "*") for j in range(16))
              + " ^command c if 1 do skip else skip.")):
-        yield marked(number, text)
+        before, after = text.split("^")
+        yield refused_at(f"{before[-16:]!r}, then {after[:8]!r}",
+                         number, text)
 
 
 def lengths():

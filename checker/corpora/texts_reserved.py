@@ -20,7 +20,7 @@ def every_casing():
         for letters in product(*((letter, letter.upper()) for letter in word)):
             spelled = "".join(letters)
             if spelled != word:
-                yield refused_at(f"{spelled}", 3, f"shared a ^{spelled} b.")
+                yield refused_at(spelled, 3, f"shared a ^{spelled} b.")
 
 
 def in_its_own_place():

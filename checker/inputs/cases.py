@@ -13,7 +13,8 @@ G = ("shared m. row w x.\n"
      "for 1 do w := *; x := * else skip end else skip.")
 H = G.replace("x := *", "x := not w and *")
 
-# The same with names in other cases, so that the bytes of sheets are too.
+# Names in other cases: these texts say the same models, and so have the same
+# sheets.
 G_CASES = ("shared M. row w X.\n"
            "start m each not x.\n"
            "keep 1 each not (W and x).\n"

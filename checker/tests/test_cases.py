@@ -10,7 +10,7 @@ from functools import cache
 from unittest import mock
 
 from tests import wrong_cases as wrong
-from corpora import pairs, pairs_cases, reports, reports_cases
+from corpora import pairs_cases, reports, reports_cases
 from corpora import texts, texts_cases, texts_reserved, values, values_texts
 from corpora.texts_reserved import casings
 from evidence.acceptance import answer
@@ -27,7 +27,6 @@ from reader.reading import read
 from reader.tokens import NAME, RESERVED, cut
 
 WORD = re.compile(rb"[A-Za-z0-9_]+")
-WORD_BYTES = (string.ascii_letters + string.digits + "_").encode()
 CUT = "reader.reading.cut"
 
 
@@ -114,13 +113,6 @@ class Answers(unittest.TestCase):
 class Inputs(unittest.TestCase):
     """What is met in the corpora and at random."""
 
-    def test_bytes_of_words_that_differ_in_one_bit(self):
-        """None but letters: to set or clear that bit is right in words."""
-        pairs_met = {(one, two) for one in WORD_BYTES for two in WORD_BYTES
-                     if one < two and one | 0x20 == two | 0x20}
-        self.assertEqual(pairs_met, set(zip(string.ascii_uppercase.encode(),
-                                            string.ascii_lowercase.encode())))
-
     def test_reserved_words(self):
         casing = {WORD.findall(text)[2].decode()
                   for text in groups()["every_casing"]}
@@ -173,12 +165,14 @@ class Inputs(unittest.TestCase):
                               for _, text, state, word in tried}, stored)
 
     def test_pairs(self):
-        stored = {tuple(entry) for _, *entry in pairs.corpus()}
-        for group in pairs_cases.GROUPS:
+        """A sheet is answered as for the text in small letters."""
+        for group in (pairs_cases.worked_in_cases,
+                      pairs_cases.readings_in_cases):
             for label, text, sheet in group():
-                self.assertIn((text.encode(), sheet), stored, label)
+                small = text.lower()
+                self.assertNotEqual(text, small, label)
                 self.assertEqual(answer(text.encode(), sheet),
-                                 label.rpartition(" -> ")[2], label)
+                                 answer(small.encode(), sheet), label)
 
 
 class WrongReaders(unittest.TestCase):

@@ -52,7 +52,7 @@ def small_in(part):
     return compared(lambda one, two: small(one) == small(two))
 
 
-# Not wrong: no two bytes of words that these take for one are unlike.
+# Not wrong: bytes of words that differ in 0x20 alone are a letter's two cases.
 all_small = compared(lambda one, two: one.lower() == two.lower())
 bit_set = by_bytes(lambda byte: byte | 0x20)
 bit_cleared = by_bytes(lambda byte: byte & 0xDF)

@@ -10,6 +10,7 @@ use native.Mathlib.Numerals.{add-one}
 use native.Mathlib.Nat.{mod-lt, not-suc-le-zero, le-of-suc-le-suc, eq-or-lt-of-le}
 use lib.Seq.{slice}
 use lib.Pow.{pow-pos}
+use Rattle.notation.proofs.Booleans.{and-false}
 use Rattle.meaning.specs.Evidence.{inMap}
 use Rattle.meaning.specs.working.Conditions.{every, implies, wordsStay, testVoid, testA, testB, testC, closedAt}
 use Rattle.evaluation.specs.working.CodeMachine.{runOf, startOf}
@@ -31,10 +32,6 @@ pub every-next : (f : ℕ → Bool) (i : ℕ) → every i f ≡ true → f i ≡
 unfolding every
 every-next f i e h = rw (add-one, e, h)
 
-and-no : (a : Bool) → a && false ≡ false
-and-no true = refl
-and-no false = refl
-
 and-yes : (a : Bool) → a ≡ a && true
 and-yes true = refl
 and-yes false = refl
@@ -45,7 +42,7 @@ every-fail zero f i h e = absurd (not-suc-le-zero h)
 every-fail (suc n) f i h e = go (every-fail n f i) (eq-or-lt-of-le (le-of-suc-le-suc h))
   where
     go : (i < n → f i ≡ false → false ≡ every n f) → (i ≡ n) ⊎ (i < n) → false ≡ every n f && f n
-    go below (inl q) = let z : f n ≡ false = subst (λ (x : ℕ). f x ≡ false) q e in sym (rw z (and-no (every n f)))
+    go below (inl q) = let z : f n ≡ false = subst (λ (x : ℕ). f x ≡ false) q e in sym (rw z (and-false (every n f)))
     go below (inr lt) = rw (← below lt e)
 
 pub every-done : (n : ℕ) (f : ℕ → Bool) (i : ℕ) → i ≤ n → n ≤ i → every i f ≡ true → true ≡ every n f

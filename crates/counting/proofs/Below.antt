@@ -9,8 +9,7 @@ use native.Mathlib.Omega.{arith}
 use native.Mathlib.Nat.{not-suc-le-zero, le-of-suc-le-suc, eq-or-lt-of-le}
 use lib.ListN.{length}
 use Rattle.notation.specs.Regular.{Every, Among}
-use Rattle.notation.proofs.Members.{among-left, among-right, among-split}
-use Rattle.meaning.proofs.Lists.{joined}
+use Rattle.notation.proofs.Members.{among-left, among-right, among-split, joined}
 use Rattle.exploration.specs.Members.{below}
 use Rattle.exploration.proofs.Members.{more}
 use Rattle.counting.specs.Counts.{Ascending, ThereAre}

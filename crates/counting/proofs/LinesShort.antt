@@ -9,7 +9,7 @@ use lib.ListN.{length, length-append}
 use Rattle.notation.specs.Bytes.{bytes}
 use Rattle.notation.specs.Regular.{Every}
 use Rattle.meaning.specs.Evidence.{inMap}
-use Rattle.meaning.proofs.Lists.{weaken}
+use Rattle.notation.proofs.Members.{weaken}
 use Rattle.lines.specs.Lines.{decimalOf}
 use Rattle.lines.proofs.Digits.{digits-below}
 use Rattle.lines.proofs.LineLengths.{two-words, three-words}

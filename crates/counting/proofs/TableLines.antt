@@ -10,7 +10,7 @@ use lib.Dec.{ltb}
 use lib.ListN.{length, getD, length-append}
 use borrow.Author.Tests.{lt-ltb, le-ltb}
 use Rattle.notation.specs.Regular.{Every}
-use Rattle.meaning.proofs.Lists.{weaken}
+use Rattle.notation.proofs.Members.{weaken}
 use Rattle.lines.specs.Puts.{Fits, Puts}
 use Rattle.lines.proofs.Stores.{none, behind, rest-fits}
 use Rattle.exploration.specs.Members.{below}

@@ -8,8 +8,7 @@ use Rattle.notation.specs.Model as M
 use Rattle.notation.specs.Model.{Expr, RowItem, skipRow, putRow, Item, skip, for, Command, Model, Place, outside, inside, starsExpr, starsRow, starsItems, stars}
 use Rattle.notation.specs.Regular.{Every, Among, Scoped, ScopedRow, ScopedItem, ScopedCommand, Low, LowRow, LowItem, LowCommand, NumberedFrom, Regular}
 use Rattle.notation.specs.Expressions.{StandsIn, ofStart, ofStartEach, ofKeep, ofKeepEach, ofTest, ofAssignment, ofCondition, ofRowItem}
-use Rattle.notation.proofs.Members.{every-among}
-use Rattle.meaning.proofs.Lists.{joined}
+use Rattle.notation.proofs.Members.{every-among, joined}
 use Rattle.evaluation.proofs.Values.{Below, below-parts, numbered-below, starless-below}
 
 -- The row names that are seen from a place: all inside, none outside.

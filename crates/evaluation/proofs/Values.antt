@@ -19,7 +19,8 @@ use Rattle.evaluation.specs.declared.machine.Machine.{Machine}
 use Rattle.evaluation.specs.working.CodeMachine.{nodeKind, nodeOf, valuesOf, valueOf, kindOf, stepOf, runOf}
 use Rattle.meaning.specs.working.OnNumbers.{evalAt}
 use Rattle.meaning.proofs.PutBits.{bit-digit}
-use Rattle.meaning.proofs.Lists.{left, right, joined}
+use Rattle.notation.proofs.Members.{joined}
+use Rattle.meaning.proofs.Lists.{left, right}
 use Rattle.evaluation.proofs.CodeRuns.{values-append}
 
 abbrev pub mach : ℕ → ℕ → ℕ → Machine

@@ -13,7 +13,8 @@ use Rattle.meaning.specs.Meaning.{State, Choice, Move, step, idle, commandAt, F
 use Rattle.meaning.specs.OneRow.{One, stateNumber, stateCount, wordCount, spread, spreadWord, starts, breaks, next, TraceStep, spreadStep, lastOf}
 use Rattle.meaning.specs.Evidence.{StepFits, TracePasses}
 use Rattle.meaning.specs.working.Conditions.{testE}
-use Rattle.meaning.proofs.Lists.{every-at, joined}
+use Rattle.notation.proofs.Members.{joined}
+use Rattle.meaning.proofs.Lists.{every-at}
 use Rattle.meaning.proofs.Number.{stateNumber-lt, spread-stateNumber, stateNumber-spread}
 use Rattle.meaning.proofs.Words.{wordOf, wordOf-lt, step-word}
 use Rattle.meaning.proofs.Fits.{step-fits}

@@ -1,21 +1,21 @@
 -- Looking a word up among the declared names, byte by byte or eight bytes at a time, finds its place among their words, which says whether it is a name.
 -- Assumes nothing.
 use mathlib.Core.Path.{_≡_, refl, sym, ap, _∙_, subst}
-use mathlib.Core.Bool.{Bool, true, false, cond, not, _&&_, _||_, or-false, and-true}
+use mathlib.Core.Bool.{Bool, true, false, cond, not, _&&_, _||_, and-true}
 use mathlib.Core.Logic.{_⊎_, inl, inr}
 use mathlib.Core.List.{List, [], _∷_, _++_}
 use Prim.Native.Nat.{ℕ, zero, suc, _+_, _*_, _-_, _≤_, _<_}
-use native.Mathlib.Nat.{add-zero, zero-add, suc-add, sub-zero}
+use native.Mathlib.Nat.{add-zero, zero-add, suc-add}
 use native.Mathlib.Numerals.{add-one, towards-suc}
 use native.Mathlib.Omega.{arith}
 use lib.Dec.{eqb, leb, ltb, leb·suc-suc}
 use lib.ListN.{length, getD, set, length-set}
 use lib.Seq.{slice, slice-cons, slice-empty, length-slice, getD-set-same, getD-set-other}
-use borrow.Author.Tests.{leb-true, ltb-true, ltb-false, lt-ltb, le-ltb, eq-eqb, ne-eqb, eqb-true, eqb-false}
-use Rattle.notation.specs.Bytes.{between, lowerCase, inLowerCase, sameWord}
+use borrow.Author.Tests.{leb-true, ltb-true, ltb-false, lt-ltb, le-ltb, ne-eqb, eqb-true, eqb-false}
+use Rattle.notation.specs.Bytes.{between, lowerCase, inLowerCase, sameWord, upperLetter}
 use Rattle.notation.specs.Tokens.{Word}
 use Rattle.notation.specs.Texts.{among, placeOf}
-use Rattle.notation.proofs.Booleans.{and-split}
+use Rattle.notation.proofs.Booleans.{and-split, and-false}
 use Rattle.notation.proofs.Case.{lower-length, same-itself}
 use Rattle.lexer.specs.declared.pieces.Piece.{Piece}
 use Rattle.lexer.specs.working.Pieces.{nameIn, Fresh}
@@ -59,17 +59,13 @@ module _ (text names : List ℕ) (i s e a n : ℕ) (h : s ≤ e) (k : e ≤ leng
 
 -- ---- two windows, compared from their ends
 
--- The lowest digits of two numbers, and what is above them.
-peel : (x y p q : ℕ) → x < 256 → y < 256 → x + 256 * p ≡ y + 256 * q → (x ≡ y) × (p ≡ q)
-peel x y p q h k e = (omega arith, omega arith)
+-- Two numbers that are the same have the same lowest digit, and the same above it.
+digit-apart : (x y p q : ℕ) → x < 256 → y < 256 → x + 256 * p ≡ y + 256 * q → (x ≡ y) × (p ≡ q)
+digit-apart x y p q h k e = (omega arith, omega arith)
 
 and-and : (x y z : Bool) → x && (y && z) ≡ (x && y) && z
 and-and true y z = refl
 and-and false y z = refl
-
-and-false : (x : Bool) → x && false ≡ false
-and-false true = refl
-and-false false = refl
 
 -- What the comparison of two bytes told.
 pub told : {x y p q : ℕ} {r : Bool} → x ≡ p → y ≡ q → r ≡ eqb (lowerCase x) (lowerCase y) → eqb (lowerCase p) (lowerCase q) ≡ r
@@ -115,13 +111,13 @@ module _ (text : List ℕ) where
   packs-same : (a b x : ℕ) → Packed text b x → Packed text a x → window text b 8 ≡ window text a 8
   packs-same a b x p q =
       let e = sym (p .number) ∙ q .number in
-      let f0 = peel _ _ _ _ (p .d0) (q .d0) e in
-      let f1 = peel _ _ _ _ (p .d1) (q .d1) (f0 .1) in
-      let f2 = peel _ _ _ _ (p .d2) (q .d2) (f1 .1) in
-      let f3 = peel _ _ _ _ (p .d3) (q .d3) (f2 .1) in
-      let f4 = peel _ _ _ _ (p .d4) (q .d4) (f3 .1) in
-      let f5 = peel _ _ _ _ (p .d5) (q .d5) (f4 .1) in
-      let f6 = peel _ _ _ _ (p .d6) (q .d6) (f5 .1) in
+      let f0 = digit-apart _ _ _ _ (p .d0) (q .d0) e in
+      let f1 = digit-apart _ _ _ _ (p .d1) (q .d1) (f0 .1) in
+      let f2 = digit-apart _ _ _ _ (p .d2) (q .d2) (f1 .1) in
+      let f3 = digit-apart _ _ _ _ (p .d3) (q .d3) (f2 .1) in
+      let f4 = digit-apart _ _ _ _ (p .d4) (q .d4) (f3 .1) in
+      let f5 = digit-apart _ _ _ _ (p .d5) (q .d5) (f4 .1) in
+      let f6 = digit-apart _ _ _ _ (p .d6) (q .d6) (f5 .1) in
       rw (window-eight a, window-eight b, f0 .0, f1 .0, f2 .0, f3 .0, f4 .0, f5 .0, f6 .0, f6 .1)
 
   pub eight-more : (a b k m x y : ℕ) → m + 8 ≡ k → Packed text (b + m) x → Packed text (a + m) y → x ≡ y → sameFirst text a b m ≡ sameFirst text a b k
@@ -135,9 +131,9 @@ module _ (text : List ℕ) where
 
 -- What is the same but for case is the byte in lower or in upper case.
 same-either : (x y : ℕ) → lowerCase x ≡ lowerCase y → (y ≡ lowerCase x) ⊎ (y ≡ upperCase x)
-same-either x y h = go (between 65 90 y) refl h (between 65 90 x) refl
+same-either x y h = go (upperLetter y) refl h (upperLetter x) refl
   where
-    go : (q : Bool) → between 65 90 y ≡ q → lowerCase x ≡ cond q (y + 32) y → (p : Bool) → between 65 90 x ≡ p → (y ≡ lowerCase x) ⊎ (y ≡ upperCase x)
+    go : (q : Bool) → upperLetter y ≡ q → lowerCase x ≡ cond q (y + 32) y → (p : Bool) → upperLetter x ≡ p → (y ≡ lowerCase x) ⊎ (y ≡ upperCase x)
     go false f h p e = inl (sym h)
     go true f h true e =
         let k : x + 32 ≡ y + 32 = lower-upper x e ∙ h in
@@ -169,7 +165,7 @@ module _ (x : ℕ) {lower upper : ℕ} (l : lower ≡ lowerCase x) (u : upper �
 
   module _ (h : 0 < x) where
     lower-some : 0 < lower
-    lower-some = rw l (go (between 65 90 x))
+    lower-some = rw l (go (upperLetter x))
       where
         go : (q : Bool) → 0 < cond q (x + 32) x
         go true = omega arith

@@ -12,14 +12,15 @@ use lib.Dec.{leb, eqb, ltb}
 use lib.ListN.{length, getD, take, drop, drop-of-length-le, List·getD-map}
 use lib.Seq.{slice, slice-cons, slice-empty, length-slice, drop-cons, getD-drop, getD-take}
 use borrow.Author.Tests.{le-ltb, lt-ltb, le-leb, lt-leb, leb-true, ltb-true, eq-eqb, ne-eqb, eqb-true, eqb-false}
-use Rattle.notation.specs.Bytes.{bytes, between, letter, wordByte, lowerCase, inLowerCase, all, begins, sameWord}
-use Rattle.notation.specs.Tokens.{sign, Word, reserved, wordIn, plainWord, signOr, isNone, unreserved, wordToken, ZERO, ONE, OTHER, longestWord}
+use Rattle.notation.specs.Bytes.{bytes, letter, wordByte, lowerCase, inLowerCase, begins, sameWord, upperLetter}
+use Rattle.notation.specs.Tokens.{sign, Word, reserved, wordIn, plainWord, signOr, isNone, otherWord, wordToken, ZERO, ONE, OTHER, longestWord}
 use Rattle.notation.specs.Rules.{elem}
 use Rattle.notation.specs.Regular.{Every}
-use Rattle.notation.proofs.Booleans.{and-split}
+use Rattle.notation.proofs.Booleans.{and-split, and-false}
+use Rattle.notation.proofs.Members.{weaken, allPass, every-test}
 use Rattle.notation.proofs.Case.{lower-length}
 use Rattle.lexer.specs.working.Names.{upperCase}
-use Rattle.lexer.specs.working.Pieces.{hasUpper, otherCase, numberOf, LowerNumber, numberOr, Tabled, WORDS, LONGEST}
+use Rattle.lexer.specs.working.Pieces.{hasUpper, otherCase, Digits, numberOf, LowerNumber, numberOr, Tabled, WORDS, LONGEST}
 
 -- Bytes.
 
@@ -55,23 +56,23 @@ word-gap b n h k = rw (lt-leb 97 b (omega arith), lt-leb 65 b k, le-leb 48 b (om
 pub word-large : (b : ℕ) → (b ≡ 95 → ⊥) → 65 ≤ b → b < 97 → leb b 90 ≡ wordByte b
 word-large b n h k = rw (lt-leb 97 b k, le-leb 65 b h, le-leb 48 b (omega arith), lt-leb b 57 (omega arith), ne-eqb b 95 n) (sym (or-false (leb b 90)))
 
-pub upper-low : (b : ℕ) → b < 65 → false ≡ between 65 90 b
+pub upper-low : (b : ℕ) → b < 65 → false ≡ upperLetter b
 upper-low b h = rw (lt-leb 65 b h)
 
-pub upper-from : (b : ℕ) → 65 ≤ b → leb b 90 ≡ between 65 90 b
+pub upper-from : (b : ℕ) → 65 ≤ b → leb b 90 ≡ upperLetter b
 upper-from b h = rw (le-leb 65 b h)
 
-pub upper-le : (b : ℕ) → between 65 90 b ≡ true → b ≤ 90
+pub upper-le : (b : ℕ) → upperLetter b ≡ true → b ≤ 90
 upper-le b h = leb-true b 90 (and-split (leb 65 b) (leb b 90) h .1)
 
-pub upper-ge : (b : ℕ) → between 65 90 b ≡ true → 65 ≤ b
+pub upper-ge : (b : ℕ) → upperLetter b ≡ true → 65 ≤ b
 upper-ge b h = leb-true 65 b (and-split (leb 65 b) (leb b 90) h .0)
 
 -- A byte in lower case, by whether it is of upper case.
-pub lower-upper : (b : ℕ) → between 65 90 b ≡ true → b + 32 ≡ lowerCase b
+pub lower-upper : (b : ℕ) → upperLetter b ≡ true → b + 32 ≡ lowerCase b
 lower-upper b h = rw h
 
-pub lower-stays : (b : ℕ) → between 65 90 b ≡ false → b ≡ lowerCase b
+pub lower-stays : (b : ℕ) → upperLetter b ≡ false → b ≡ lowerCase b
 lower-stays b h = rw h
 
 -- A byte in upper case, by where it stands among the letters.
@@ -110,7 +111,7 @@ past-row zero w r i = rw (zero-add i)
 past-row (suc n) [] r i = rw (suc-add n i) (past-row n [] r i)
 past-row (suc n) (b ∷ w) r i = rw (suc-add n i) (past-row n w r i)
 
-pub letter-at : (ws : List Word) (k j : ℕ) → j < 7 → getD (rows ws) (7 * k + j) 0 ≡ getD (getD ws k []) j 0
+letter-at : (ws : List Word) (k j : ℕ) → j < 7 → getD (rows ws) (7 * k + j) 0 ≡ getD (getD ws k []) j 0
 unfolding rows
 letter-at [] k j h = refl
 letter-at (w ∷ ws) zero j h = rw (zero-add j) (in-row 7 w (rows ws) j h)
@@ -189,24 +190,16 @@ eqb-turned a b = go (eqb a b) refl
     go true e = sym (eq-eqb b a (sym (eqb-true a b e)))
     go false e = sym (ne-eqb b a (λ z. eqb-false a b e (sym z)))
 
--- A test of every byte of every word.
-byte-digits : (v : Word) → all (λ b. ltb b 256) v ≡ true → Every (λ (b : ℕ). b < 256) v
-byte-digits [] h = tt
-byte-digits (b ∷ v) h = let s = and-split (ltb b 256) (all (λ c. ltb c 256) v) h in (ltb-true b 256 (s .0), byte-digits v (s .1))
-
-unfoldable allIn : List Word → Bool
-allIn [] = true
-allIn (v ∷ vs) = all (λ b. ltb b 256) v && allIn vs
-
-all-digits : (vs : List Word) → allIn vs ≡ true → Every (λ (v : Word). Every (λ (b : ℕ). b < 256) v) vs
-unfolding allIn
-all-digits [] h = tt
-all-digits (v ∷ vs) h = let s = and-split (all (λ b. ltb b 256) v) (allIn vs) h in (byte-digits v (s .0), all-digits vs (s .1))
-
 -- The bytes of the reserved words are digits.
-reserved-digits : Every (λ (v : Word). Every (λ (b : ℕ). b < 256) v) reserved
-unfolding reserved bytes allIn
-reserved-digits = all-digits reserved refl
+reserved-told : allPass (allPass (λ b. ltb b 256)) reserved ≡ true
+unfolding allPass reserved bytes
+reserved-told = refl
+
+reserved-digits : Every Digits reserved
+reserved-digits =
+    weaken (λ (v : Word). allPass (λ b. ltb b 256) v ≡ true) Digits
+    (λ v h. weaken (λ (b : ℕ). ltb b 256 ≡ true) (λ (b : ℕ). b < 256) (λ b e. ltb-true b 256 e) v (every-test (λ b. ltb b 256) v h)) reserved
+    (every-test (allPass (λ b. ltb b 256)) reserved reserved-told)
 
 -- The reserved words, looked through from the first.
 
@@ -249,9 +242,6 @@ number-some : (w : Word) → 1 ≤ numberOf w
 unfolding numberOf
 number-some [] = omega arith
 number-some (b ∷ w) = omega (arith, number-some w)
-
-abbrev Digits : Word → Type 0
-Digits w = Every (λ (b : ℕ). b < 256) w
 
 numbers-same : (v w : Word) → Digits v → Digits w → eqb (numberOf w) (numberOf v) ≡ sameWord v w
 unfolding numberOf sameWord
@@ -348,14 +338,14 @@ token-long i w h = rw (lt-ltb longestWord (length w) h)
 
 -- Letters of upper case in what is left of a word.
 module _ (text : List ℕ) (i e : ℕ) (h : i < e) (k : e ≤ length text) where
-  upper-turn : hasUpper (slice i e text) ≡ between 65 90 (getD text i 0) || hasUpper (slice (suc i) e text)
+  upper-turn : hasUpper (slice i e text) ≡ upperLetter (getD text i 0) || hasUpper (slice (suc i) e text)
   unfolding hasUpper
   upper-turn = ap hasUpper (slice-cons i e text 0 h k)
 
-  pub upper-here : between 65 90 (getD text i 0) ≡ true → true ≡ hasUpper (slice i e text)
+  pub upper-here : upperLetter (getD text i 0) ≡ true → true ≡ hasUpper (slice i e text)
   upper-here u = sym (upper-turn ∙ rw u)
 
-  pub upper-later : between 65 90 (getD text i 0) ≡ false → hasUpper (slice (i + 1) e text) ≡ hasUpper (slice i e text)
+  pub upper-later : upperLetter (getD text i 0) ≡ false → hasUpper (slice (i + 1) e text) ≡ hasUpper (slice i e text)
   upper-later u = rw add-one (sym (upper-turn ∙ rw u))
 
 pub upper-none : (text : List ℕ) (i e : ℕ) → i ≤ e → e ≤ i → false ≡ hasUpper (slice i e text)
@@ -366,14 +356,14 @@ upper-none text i e h k = let q : i ≡ e = omega arith in rw q (sym (ap hasUppe
 no-upper : (w : Word) → hasUpper w ≡ false → inLowerCase w ≡ w
 unfolding hasUpper inLowerCase
 no-upper [] h = refl
-no-upper (b ∷ w) h = go (between 65 90 b) h (no-upper w)
+no-upper (b ∷ w) h = go (upperLetter b) h (no-upper w)
   where
     go : (x : Bool) → x || hasUpper w ≡ false → (hasUpper w ≡ false → inLowerCase w ≡ w) → cond x (b + 32) b ∷ inLowerCase w ≡ b ∷ w
     go true h r = cc
     go false h r = ap (λ (v : Word). b ∷ v) (r h)
 
 module _ (i : ℕ) (w : Word) where
-  in-other-case : otherCase w ≡ true → unreserved i w ≡ sign OTHER
+  in-other-case : otherCase w ≡ true → otherWord i w ≡ sign OTHER
   unfolding otherCase
   in-other-case h = go (hasUpper w) (isNone (wordIn (inLowerCase w) reserved 0)) h
     where
@@ -382,18 +372,14 @@ module _ (i : ℕ) (w : Word) where
       go true false h = refl
       go false y h = cc
 
-  in-no-case : otherCase w ≡ false → wordIn w reserved 0 ≡ none → unreserved i w ≡ plainWord i w
+  in-no-case : otherCase w ≡ false → wordIn w reserved 0 ≡ none → otherWord i w ≡ plainWord i w
   unfolding otherCase
   in-no-case h n = go (hasUpper w) refl (isNone (wordIn (inLowerCase w) reserved 0)) refl h
     where
-      go : (x : Bool) → hasUpper w ≡ x → (y : Bool) → isNone (wordIn (inLowerCase w) reserved 0) ≡ y → x && not y ≡ false → unreserved i w ≡ plainWord i w
+      go : (x : Bool) → hasUpper w ≡ x → (y : Bool) → isNone (wordIn (inLowerCase w) reserved 0) ≡ y → x && not y ≡ false → otherWord i w ≡ plainWord i w
       go true e true f h = rw f
       go true e false f h = cc
       go false e y f h = let g : wordIn (inLowerCase w) reserved 0 ≡ none = ap (λ (v : Word). wordIn v reserved 0) (no-upper w e) ∙ n in rw g
-
-and-false : (x : Bool) → x && false ≡ false
-and-false true = refl
-and-false false = refl
 
 -- Where nothing is of upper case, and where nothing as long is reserved, no word is reserved in another case.
 pub other-none : (w : Word) → hasUpper w ≡ false → false ≡ otherCase w
@@ -430,7 +416,7 @@ other-long w h =
     rw n (sym (and-false (hasUpper w)))
 
 module _ (i : ℕ) (w : Word) (short : length w ≤ longestWord) (k : ℕ) (is : k ≡ numberOr (wordIn w reserved 0)) where
-  by-number : (o : Option ℕ) → wordIn w reserved 0 ≡ o → wordToken i w ≡ some (signOr o (unreserved i w))
+  by-number : (o : Option ℕ) → wordIn w reserved 0 ≡ o → wordToken i w ≡ some (signOr o (otherWord i w))
   unfolding wordToken
   by-number o e = rw (le-ltb longestWord (length w) short, e)
 

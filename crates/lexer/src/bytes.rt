@@ -1,8 +1,9 @@
 // The bytes that a text may have.
 ghost use mathlib.Core.Path.{_≡_};
 ghost use lib.ListN.{getD};
+ghost use Prim.Native.Nat.{_<_};
 ghost use lib.Dec.{eqb};
-ghost use Rattle.notation.specs.Bytes.{between, blankByte, letter, lowerCase, wordByte};
+ghost use Rattle.notation.specs.Bytes.{blankByte, letter, lowerCase, wordByte, upperLetter};
 ghost use Rattle.lexer.specs.working.Names.{upperCase};
 
 // A space or a newline.
@@ -51,7 +52,7 @@ pub fn is_word(b: u8) -> bool
 
 // A letter of upper case.
 pub fn is_upper(b: u8) -> bool
-    ensures { λ r. ⌜ r ≡ between 65 90 b ⌝ }
+    ensures { λ r. ⌜ r ≡ upperLetter b ⌝ }
 {
     if b < b'A' {
         return false;
@@ -90,6 +91,13 @@ pub fn same_but_for_case(a: u8, b: u8) -> bool
     let x = lower_case(a);
     let y = lower_case(b);
     x == y
+}
+
+// A byte as a digit of a number.
+pub fn digit(x: u8) -> u64
+    ensures { λ r. ⌜ (r ≡ x) × (r < 256) ⌝ }
+{
+    x as u64
 }
 
 // The byte at i, or 0 past the end.

@@ -10,31 +10,25 @@ ghost use Rattle.notation.specs.Texts.{placeOf};
 ghost use Rattle.lexer.specs.working.Pieces.{NAME, nameIn, Fresh};
 ghost use Rattle.lexer.specs.working.Names.{Packed, Ending, sameFirst, wordAt, wordsIn};
 use crate::bytes::byte_at;
+use crate::bytes::digit;
 use crate::bytes::lower_case;
 use crate::bytes::same_but_for_case;
 use crate::bytes::upper_case;
 use crate::pieces::Piece;
-
-// A byte as a u64.
-fn lane(x: u8) -> u64
-    ensures { λ r. ⌜ (r ≡ x) × (r < 256) ⌝ }
-{
-    x as u64
-}
 
 // The eight bytes from i on as one number, the first lowest.
 fn eight(text: &[u8], i: usize) -> u64
     requires { ⌜ i + 8 ≤ length (now text) ⌝ }
     ensures { λ r. ⌜ Packed (now (text .entry)) i r ⌝ }
 {
-    let b0 = lane(text[i]);
-    let b1 = lane(text[i + 1]);
-    let b2 = lane(text[i + 2]);
-    let b3 = lane(text[i + 3]);
-    let b4 = lane(text[i + 4]);
-    let b5 = lane(text[i + 5]);
-    let b6 = lane(text[i + 6]);
-    let b7 = lane(text[i + 7]);
+    let b0 = digit(text[i]);
+    let b1 = digit(text[i + 1]);
+    let b2 = digit(text[i + 2]);
+    let b3 = digit(text[i + 3]);
+    let b4 = digit(text[i + 4]);
+    let b5 = digit(text[i + 5]);
+    let b6 = digit(text[i + 6]);
+    let b7 = digit(text[i + 7]);
     b0 + 256 * (b1 + 256 * (b2 + 256 * (b3 + 256 * (b4 + 256 * (b5 + 256 * (b6 + 256 * b7))))))
 }
 
@@ -55,7 +49,7 @@ fn left_to_compare(text: &[u8], a: usize, b: usize, k: usize) -> usize
     k
 }
 
-// Whether the n bytes from b on are those from a on but for case, told from the end, where names that look alike differ.
+// Whether the n bytes from b on are those from a on but for case, compared from the end, where names that look alike differ.
 fn same_bytes(text: &[u8], a: usize, b: usize, n: usize) -> bool
     requires { ⌜ (a + n ≤ length (now text)) × (b + n ≤ length (now text)) ⌝ }
     ensures { λ r. ⌜ r ≡ sameFirst (now (text .entry)) a b n ⌝ }
@@ -96,7 +90,7 @@ fn is_neither(y: u8, a: u8, b: u8) -> bool
     y != b
 }
 
-// Whether the word from s to e, whose last byte is this in lower and in upper case, is the name i. The last byte is told first: most names differ there.
+// Whether the word from s to e is the name i, where `lower` and `upper` are its last byte in both cases. That byte is compared first: most names differ there.
 fn is_name(
     text: &[u8],
     names: &[u16; 56],

@@ -64,14 +64,14 @@ pub const CLOSE: usize = 22;
 
 pub const OTHER: usize = 23;
 
-// What a reserved word in another case is.
-const RECASED: usize = OTHER;
-
 pub const NAME: usize = 24;
 
 pub const BAD: usize = 25;
 
 pub const FINISH: usize = 26;
+
+// What a reserved word in another case is: nothing that the notation uses.
+const RECASED: usize = OTHER;
 
 // From start to end, with the number that refuses it where nothing of its kind may stand. All fields are as wide as a place: to copy a narrow one that was just stored takes longer.
 pub struct Piece {

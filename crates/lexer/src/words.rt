@@ -8,6 +8,7 @@ ghost use Rattle.notation.specs.Bytes.{sameWord};
 ghost use Rattle.notation.specs.Tokens.{reserved, wordIn};
 ghost use Rattle.notation.specs.Rules.{elem};
 ghost use Rattle.lexer.specs.working.Pieces.{WORDS, LONGEST, numberOr, hasUpper, otherCase, numberOf, LowerNumber, Tabled};
+use crate::bytes::digit;
 use crate::bytes::is_upper;
 use crate::bytes::lower_case;
 
@@ -129,13 +130,6 @@ fn has_upper(text: &[u8], s: usize, e: usize) -> bool
         i += 1;
     }
     false
-}
-
-// A byte as a digit.
-fn digit(x: u8) -> u64
-    ensures { λ r. ⌜ (r ≡ x) × (r < 256) ⌝ }
-{
-    x as u64
 }
 
 // The word from s to e in lower case, as one number.

@@ -21,14 +21,6 @@ module _ {A : Type 0} where
   right P [] b h = h
   right P (x ∷ a) b h = right P a b (h .1)
 
-  pub joined : (P : A → Type 0) (a b : List A) → Every P a → Every P b → Every P (a ++ b)
-  joined P [] b h k = k
-  joined P (x ∷ a) b h k = (h .0, joined P a b (h .1) k)
-
-  pub weaken : (P Q : A → Type 0) → ((x : A) → P x → Q x) → (l : List A) → Every P l → Every Q l
-  weaken P Q f [] h = tt
-  weaken P Q f (x ∷ xs) h = (f x (h .0), weaken P Q f xs (h .1))
-
   pub taken : (P : A → Type 0) (b : Bool) (x y : A) → P x → P y → P (cond b x y)
   taken P true x y h k = h
   taken P false x y h k = k

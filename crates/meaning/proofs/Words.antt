@@ -11,7 +11,8 @@ use Rattle.notation.specs.Regular.{Every, NumberedFrom}
 use Rattle.meaning.specs.Meaning.{State, Choice, tableScope, rowScope, eval, runRow, runItem, runItems, step}
 use Rattle.meaning.specs.Bits.{bit, number}
 use Rattle.meaning.specs.OneRow.{One, theRow, spreadWord, wordCount}
-use Rattle.meaning.proofs.Lists.{left, right, weaken, taken}
+use Rattle.notation.proofs.Members.{weaken}
+use Rattle.meaning.proofs.Lists.{left, right, taken}
 use Rattle.meaning.proofs.Number.{bit-number, number-lt, one-is}
 
 -- c and d agree wherever P holds of a star at the place k: they give an expression there one value

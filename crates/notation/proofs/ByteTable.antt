@@ -4,18 +4,18 @@ use mathlib.Core.Path.{_≡_, refl, sym, ap, _∙_, subst}
 use mathlib.Core.Bool.{Bool, true, false, cond, not, _&&_, _||_}
 use mathlib.Core.Logic.{_⊎_, inl, inr}
 use mathlib.Core.List.{List, [], _∷_, map}
-use Prim.Native.Nat.{ℕ, zero, suc, _+_, _≤_, _<_}
+use Prim.Native.Nat.{ℕ, zero, suc, _+_, _<_}
 use native.Mathlib.Omega.{arith}
 use native.Mathlib.Nat.{eq-or-lt-of-le}
-use lib.Dec.{eqb, leb}
-use borrow.Author.Tests.{eqb-true, leb-true, le-leb, lt-leb}
-use Rattle.notation.specs.Bytes.{bytes, between, letter, wordByte, blankByte, lowerCase, all}
+use lib.Dec.{eqb}
+use borrow.Author.Tests.{eqb-true}
+use Rattle.notation.specs.Bytes.{bytes, letter, wordByte, blankByte, lowerCase, upperLetter}
 use Rattle.notation.specs.Tokens.{barredByte}
 use Rattle.notation.specs.Rules.{elem}
 use Rattle.notation.specs.Regular.{Every, Among}
 use Rattle.notation.proofs.Booleans.{and-split}
-use Rattle.notation.proofs.Members.{every-among}
-use Rattle.notation.specs.Promises.{small, large, letters, inWords, inTexts, BytesTold, pairs, LettersPaired}
+use Rattle.notation.proofs.Members.{every-among, weaken, allPass, every-test}
+use Rattle.notation.specs.Promises.{lowerLetters, upperLetters, letters, inWords, inTexts, BytesTold, pairs, LettersPaired}
 
 -- Both or neither.
 abbrev same : Bool → Bool → Bool
@@ -69,9 +69,9 @@ bytes-told b h =
 
 -- The letters of upper case, and their fellows 32 further on.
 
-large-told : agree 256 (between 65 90) (λ b. elem b large) ≡ true
+upper-told : agree 256 upperLetter (λ b. elem b upperLetters) ≡ true
 unfolding agree elem bytes
-large-told = refl
+upper-told = refl
 
 elem-among : (k : ℕ) (js : List ℕ) → elem k js ≡ true → Among k js
 unfolding elem
@@ -96,35 +96,30 @@ fellow-among b (c ∷ bs) (inr h) = inr (fellow-among b bs h)
 abbrev Same : Pair → Type 0
 Same p = lowerCase (p .0) ≡ lowerCase (p .1)
 
-fellow-same : (b : ℕ) → between 65 90 b ≡ true → Same (fellow b)
-fellow-same b h =
-    let s = and-split (leb 65 b) (leb b 90) h in
-    let l : 65 ≤ b = leb-true 65 b (s .0) in
-    rw (s .0, s .1, lt-leb (b + 32) 90 (omega arith), le-leb 65 (b + 32) (omega arith))
-
-fellows-same : (bs : List ℕ) → all (between 65 90) bs ≡ true → Every Same (map fellow bs)
-fellows-same [] h = tt
-fellows-same (b ∷ bs) h = let s = and-split (between 65 90 b) (all (between 65 90) bs) h in (fellow-same b (s .0), fellows-same bs (s .1))
-
 -- The 26 pairs are the letters of upper case with their fellows.
-fellows : map fellow large ≡ pairs small large
+fellows : map fellow upperLetters ≡ pairs lowerLetters upperLetters
 unfolding bytes
 fellows = refl
 
-pair-of : (b : ℕ) → b < 256 → between 65 90 b ≡ true → Among (fellow b) (pairs small large)
-pair-of b h e = subst (Among (fellow b)) fellows (fellow-among b large (elem-among b large (sym (agree-at 256 (between 65 90) _ large-told b h) ∙ e)))
+pair-of : (b : ℕ) → b < 256 → upperLetter b ≡ true → Among (fellow b) (pairs lowerLetters upperLetters)
+pair-of b h e = subst (Among (fellow b)) fellows (fellow-among b upperLetters (elem-among b upperLetters (sym (agree-at 256 upperLetter _ upper-told b h) ∙ e)))
 
-pairs-same : Every Same (pairs small large)
-unfolding bytes
-pairs-same = subst (Every Same) fellows (fellows-same large refl)
+same-told : allPass (λ (p : Pair). eqb (lowerCase (p .0)) (lowerCase (p .1))) (pairs lowerLetters upperLetters) ≡ true
+unfolding allPass bytes
+same-told = refl
+
+pairs-same : Every Same (pairs lowerLetters upperLetters)
+pairs-same =
+    weaken (λ (p : Pair). eqb (lowerCase (p .0)) (lowerCase (p .1)) ≡ true) Same (λ p e. eqb-true (lowerCase (p .0)) (lowerCase (p .1)) e) (pairs lowerLetters upperLetters)
+    (every-test (λ (p : Pair). eqb (lowerCase (p .0)) (lowerCase (p .1))) (pairs lowerLetters upperLetters) same-told)
 
 pub letters-paired : LettersPaired
-letters-paired a b h k = (there (between 65 90 a) (between 65 90 b) refl refl, back)
+letters-paired a b h k = (there (upperLetter a) (upperLetter b) refl refl, back)
   where
     Paired : ℕ → ℕ → Type 0
-    Paired a b = Among {A = Pair} (a, b) (pairs small large)
+    Paired a b = Among {A = Pair} (a, b) (pairs lowerLetters upperLetters)
 
-    there : (x y : Bool) → between 65 90 a ≡ x → between 65 90 b ≡ y → cond x (a + 32) a ≡ cond y (b + 32) b → (a ≡ b) ⊎ (Paired a b ⊎ Paired b a)
+    there : (x y : Bool) → upperLetter a ≡ x → upperLetter b ≡ y → cond x (a + 32) a ≡ cond y (b + 32) b → (a ≡ b) ⊎ (Paired a b ⊎ Paired b a)
     there true true e f q = inl (omega (arith, q))
     there true false e f q = inr (inr (subst (λ c. Paired c a) q (pair-of a h e)))
     there false true e f q = inr (inl (subst (λ c. Paired c b) (sym q) (pair-of b k f)))
@@ -132,5 +127,5 @@ letters-paired a b h k = (there (between 65 90 a) (between 65 90 b) refl refl, b
 
     back : (a ≡ b) ⊎ (Paired a b ⊎ Paired b a) → lowerCase a ≡ lowerCase b
     back (inl e) = ap lowerCase e
-    back (inr (inl i)) = every-among Same (a, b) (pairs small large) pairs-same i
-    back (inr (inr i)) = sym (every-among Same (b, a) (pairs small large) pairs-same i)
+    back (inr (inl i)) = every-among Same (a, b) (pairs lowerLetters upperLetters) pairs-same i
+    back (inr (inr i)) = sym (every-among Same (b, a) (pairs lowerLetters upperLetters) pairs-same i)

@@ -7,18 +7,19 @@ use mathlib.Core.Option.{Option, none, some}
 use mathlib.Core.Logic.{inl, inr}
 use Prim.Native.Nat.{ℕ, zero, suc, _+_, _≤_}
 use native.Mathlib.Omega.{arith}
-use native.Mathlib.Nat.{not-suc-le-zero, add-zero, add-suc, le-of-suc-le-suc, le-refl}
+use native.Mathlib.Nat.{not-suc-le-zero, le-of-suc-le-suc, le-refl}
 use lib.Dec.{eqb, leb, ltb}
 use lib.ListN.{length, drop, length-drop, length-append}
 use lib.Seq.{drop-append-seam}
 use borrow.Author.Tests.{eqb-true, eq-eqb, le-leb, lt-leb, leb-true, le-ltb}
-use Rattle.notation.specs.Bytes.{bytes, letter, wordByte, blankByte, lowerCase, inLowerCase, all, begins, sameWord}
-use Rattle.notation.specs.Tokens.{Word, Name, Token, sign, name, Lexeme, at, reserved, wordIn, plainWord, signOr, isNone, unreserved, wordToken, longestWord, markOf, ZERO, ONE, ASSIGN, OTHER}
+use Rattle.notation.specs.Bytes.{bytes, letter, wordByte, lowerCase, inLowerCase, all, begins, sameWord}
+use Rattle.notation.specs.Tokens.{Word, Name, Token, sign, name, reserved, wordIn, plainWord, signOr, isNone, otherWord, wordToken, longestWord, markOf, ZERO, ONE, ASSIGN, OTHER}
 use Rattle.notation.specs.Regular.{Among}
 use Rattle.notation.specs.Case.{Alike, Respelt, kept, recased, Recased, ended, other, word}
-use Rattle.notation.specs.Promises.{NamesWithoutCase, ReservedInLowerCase}
+use Rattle.notation.specs.Promises.{NamesWithoutCase, NamesByLetters, ReservedInLowerCase}
 use Rattle.notation.specs.working.Lexing.{beginsWith, Front, oneByte, signOf, mark, front, lexemes, tokensFrom, tokens}
 use Rattle.notation.proofs.Booleans.{and-split}
+use Rattle.notation.proofs.Members.{every-among, allPass, every-test}
 use Rattle.notation.proofs.Cuts.{word-no-blank, all-head, front-run, lexed}
 
 -- Words in lower case.
@@ -28,31 +29,35 @@ unfolding inLowerCase
 lower-length [] = refl
 lower-length (b ∷ w) = ap suc (lower-length w)
 
-pub alike-lower : (v w : Word) → Alike v w → inLowerCase v ≡ inLowerCase w
+alike-lower : (v w : Word) → Alike v w → inLowerCase v ≡ inLowerCase w
 unfolding inLowerCase
 alike-lower [] [] h = refl
 alike-lower [] (b ∷ w) h = absurd h
 alike-lower (a ∷ v) [] h = absurd h
 alike-lower (a ∷ v) (b ∷ w) h = rw (h .0, alike-lower v w (h .1))
 
--- A letter is one in both cases.
-lower-letter : (b : ℕ) → letter (lowerCase b) ≡ letter b
-lower-letter b = go (leb 65 b) (leb b 90) refl refl
+-- A test that does not tell a letter of upper case from its fellow does not tell case.
+lower-test : (f : ℕ → Bool) → ((b : ℕ) → 65 ≤ b → b ≤ 90 → f (b + 32) ≡ f b) → (b : ℕ) → f (lowerCase b) ≡ f b
+lower-test f h b = go (leb 65 b) refl (leb b 90) refl
   where
-    go : (x y : Bool) → leb 65 b ≡ x → leb b 90 ≡ y → letter (cond (x && y) (b + 32) b) ≡ letter b
-    go true true e f =
-        let h : 65 ≤ b = leb-true 65 b e in
-        let k : b ≤ 90 = leb-true b 90 f in
-        rw (le-leb 97 (b + 32) (omega arith), le-leb (b + 32) 122 (omega arith), lt-leb 97 b (omega arith), e, f)
-    go true false e f = refl
-    go false y e f = refl
+    go : (x : Bool) → leb 65 b ≡ x → (y : Bool) → leb b 90 ≡ y → f (cond (x && y) (b + 32) b) ≡ f b
+    go true e true k = h b (leb-true 65 b e) (leb-true b 90 k)
+    go true e false k = refl
+    go false e y k = refl
+
+-- A letter is one in both cases, and so is a byte of a word.
+lower-letter : (b : ℕ) → letter (lowerCase b) ≡ letter b
+lower-letter = lower-test letter (λ b h k. rw (le-leb 97 (b + 32) (omega arith), le-leb (b + 32) 122 (omega arith), lt-leb 97 b (omega arith), le-leb 65 b h, le-leb b 90 k))
+
+lower-word : (b : ℕ) → wordByte (lowerCase b) ≡ wordByte b
+lower-word = lower-test wordByte (λ b h k. rw (le-leb 97 (b + 32) (omega arith), le-leb (b + 32) 122 (omega arith), lt-leb 97 b (omega arith), le-leb 65 b h, le-leb b 90 k))
 
 lower-begins : (w : Word) → begins letter (inLowerCase w) ≡ begins letter w
 unfolding inLowerCase
 lower-begins [] = refl
 lower-begins (b ∷ w) = lower-letter b
 
-pub same-word : (v w : Word) → sameWord v w ≡ true → v ≡ w
+same-word : (v w : Word) → sameWord v w ≡ true → v ≡ w
 unfolding sameWord
 same-word [] [] h = refl
 same-word [] (b ∷ w) h = cc
@@ -63,24 +68,26 @@ same-word (a ∷ v) (b ∷ w) h =
 
 -- The reserved words are in lower case, so what is one of them is in lower case too.
 
-in-lower : (w : Word) (vs : List Word) (i k : ℕ) → map inLowerCase vs ≡ vs → wordIn w vs i ≡ some k → inLowerCase w ≡ w
+found-among : (w : Word) (vs : List Word) (i k : ℕ) → wordIn w vs i ≡ some k → Among w vs
 unfolding wordIn
-in-lower w [] i k l h = cc
-in-lower w (v ∷ vs) i k l h =
-    let e : inLowerCase v ≡ v = cc in
-    let f : map inLowerCase vs ≡ vs = cc in
-    go (sameWord w v) refl e h (in-lower w vs (suc i) k f)
+found-among w [] i k h = let z : _≡_ {A = ℕ} 0 1 = cc in absurd (omega arith)
+found-among w (v ∷ vs) i k h = go (sameWord w v) refl h (found-among w vs (suc i) k)
   where
-    go : (x : Bool) → sameWord w v ≡ x → inLowerCase v ≡ v → cond x (some i) (wordIn w vs (suc i)) ≡ some k → (wordIn w vs (suc i) ≡ some k → inLowerCase w ≡ w) → inLowerCase w ≡ w
-    go true s e h r = rw (same-word w v s) e
-    go false s e h r = r h
+    go : (x : Bool) → sameWord w v ≡ x → cond x (some i) (wordIn w vs (suc i)) ≡ some k → (wordIn w vs (suc i) ≡ some k → Among w vs) → Among w (v ∷ vs)
+    go true s h r = inl (same-word w v s)
+    go false s h r = inr (r h)
+
+lower-among : (v : Word) (vs : List Word) → map inLowerCase vs ≡ vs → Among v vs → inLowerCase v ≡ v
+lower-among v [] l h = absurd h
+lower-among v (u ∷ vs) l (inl e) = let k : inLowerCase u ≡ u = cc in rw e k
+lower-among v (u ∷ vs) l (inr h) = lower-among v vs (cc) h
 
 reserved-lower : map inLowerCase reserved ≡ reserved
 unfolding reserved bytes inLowerCase
 reserved-lower = refl
 
-pub reserved-in-lower : (w : Word) (k : ℕ) → wordIn w reserved 0 ≡ some k → inLowerCase w ≡ w
-reserved-in-lower w k = in-lower w reserved 0 k reserved-lower
+reserved-in-lower : (w : Word) (k : ℕ) → wordIn w reserved 0 ≡ some k → inLowerCase w ≡ w
+reserved-in-lower w k h = lower-among w reserved reserved-lower (found-among w reserved 0 k h)
 
 -- Not reserved in any case.
 none-as-written : (w : Word) → wordIn (inLowerCase w) reserved 0 ≡ none → wordIn w reserved 0 ≡ none
@@ -112,10 +119,10 @@ module _ (i j : ℕ) (v w : Word) (n : Name) (l : inLowerCase v ≡ inLowerCase 
       go false e false true h = cc
       go false e false false h = cc
 
-  unreserved-name : unreserved i v ≡ name n → (wordIn w reserved 0 ≡ none) × (unreserved j w ≡ called j w)
+  unreserved-name : otherWord i v ≡ name n → (wordIn w reserved 0 ≡ none) × (otherWord j w ≡ called j w)
   unreserved-name h = go (wordIn (inLowerCase v) reserved 0) refl h
     where
-      go : (o : Option ℕ) → wordIn (inLowerCase v) reserved 0 ≡ o → cond (isNone o) (plainWord i v) (sign OTHER) ≡ name n → (wordIn w reserved 0 ≡ none) × (unreserved j w ≡ called j w)
+      go : (o : Option ℕ) → wordIn (inLowerCase v) reserved 0 ≡ o → cond (isNone o) (plainWord i v) (sign OTHER) ≡ name n → (wordIn w reserved 0 ≡ none) × (otherWord j w ≡ called j w)
       go none e h =
           let f : wordIn (inLowerCase w) reserved 0 ≡ none = ap (λ u. wordIn u reserved 0) (sym l) ∙ e in
           (none-as-written w f, rw f (plain-name h))
@@ -125,12 +132,12 @@ module _ (i j : ℕ) (v w : Word) (n : Name) (l : inLowerCase v ≡ inLowerCase 
   unfolding wordToken
   recased-name h = go (ltb longestWord (length v)) refl (wordIn v reserved 0) h
     where
-      go : (x : Bool) → ltb longestWord (length v) ≡ x → (o : Option ℕ) → cond x none (some (signOr o (unreserved i v))) ≡ some (name n) →
-          cond (ltb longestWord (length w)) none (some (signOr (wordIn w reserved 0) (unreserved j w))) ≡ some (called j w)
+      go : (x : Bool) → ltb longestWord (length v) ≡ x → (o : Option ℕ) → cond x none (some (signOr o (otherWord i v))) ≡ some (name n) →
+          cond (ltb longestWord (length w)) none (some (signOr (wordIn w reserved 0) (otherWord j w))) ≡ some (called j w)
       go true e o h = cc
       go false e (some k) h = cc
       go false e none h =
-          let f : unreserved i v ≡ name n = cc in
+          let f : otherWord i v ≡ name n = cc in
           let u = unreserved-name f in
           rw (ap (ltb longestWord) (sym lengths) ∙ e, u .0, u .1)
 
@@ -140,6 +147,24 @@ recased-token i j v w n l h = recased-name i j v v n refl h ∙ rw l (sym (recas
 
 pub names-without-case : NamesWithoutCase
 names-without-case i v w n a h = sym (recased-token i i v w n (alike-lower v w a) h) ∙ h
+
+-- Names are the same only if their letters are.
+
+lower-alike : (v w : Word) → inLowerCase v ≡ inLowerCase w → Alike v w
+unfolding inLowerCase
+lower-alike [] [] h = tt
+lower-alike [] (b ∷ w) h = let z : _≡_ {A = ℕ} 0 1 = cc in absurd (omega arith)
+lower-alike (a ∷ v) [] h = let z : _≡_ {A = ℕ} 0 1 = cc in absurd (omega arith)
+lower-alike (a ∷ v) (b ∷ w) h = (cc, lower-alike v w (cc))
+
+name-word : (i : ℕ) (v : Word) (n : Name) → wordToken i v ≡ some (name n) → n .word ≡ inLowerCase v
+name-word i v n h = let e = sym h ∙ recased-name i i v v n refl h in cc
+
+pub names-by-letters : NamesByLetters
+names-by-letters i j v w n m h k =
+    let p = name-word i v n h in
+    let q = name-word j w m k in
+    (λ e. lower-alike v w (sym p ∙ e ∙ q), λ a. p ∙ alike-lower v w a ∙ sym q)
 
 -- A reserved word in another case.
 
@@ -159,53 +184,27 @@ among-found v (u ∷ vs) i (inr h) = go (sameWord v u) (among-found v vs (suc i)
     go false r = r
 
 -- No reserved word is too long.
-unfoldable fits : List Word → Bool
-fits [] = true
-fits (v ∷ vs) = leb (length v) longestWord && fits vs
-
-among-fits : (v : Word) (vs : List Word) → fits vs ≡ true → Among v vs → length v ≤ longestWord
-unfolding fits
-among-fits v [] f h = absurd h
-among-fits v (u ∷ vs) f h = let s = and-split (leb (length u) longestWord) (fits vs) f in go h (leb-true (length u) longestWord (s .0)) (among-fits v vs (s .1))
-  where
-    go : Among v (u ∷ vs) → length u ≤ longestWord → (Among v vs → length v ≤ longestWord) → length v ≤ longestWord
-    go (inl e) k r = rw e k
-    go (inr i) k r = r i
-
-reserved-fits : fits reserved ≡ true
-unfolding fits reserved bytes
+reserved-fits : allPass (λ (v : Word). leb (length v) longestWord) reserved ≡ true
+unfolding allPass reserved bytes
 reserved-fits = refl
 
-lower-among : (v : Word) (vs : List Word) → map inLowerCase vs ≡ vs → Among v vs → inLowerCase v ≡ v
-lower-among v [] l h = absurd h
-lower-among v (u ∷ vs) l (inl e) = let k : inLowerCase u ≡ u = cc in rw e k
-lower-among v (u ∷ vs) l (inr h) = lower-among v vs (cc) h
+among-fits : (v : Word) → Among v reserved → length v ≤ longestWord
+among-fits v h = leb-true (length v) longestWord (every-among _ v reserved (every-test _ reserved reserved-fits) h)
 
 pub reserved-in-lower-case : ReservedInLowerCase
 unfolding wordToken
 reserved-in-lower-case i v w h a d =
     let l : inLowerCase w ≡ v = sym (alike-lower v w a) ∙ lower-among v reserved reserved-lower h in
     let n : isNone (wordIn (inLowerCase w) reserved 0) ≡ false = ap (λ u. isNone (wordIn u reserved 0)) l ∙ among-found v reserved 0 h in
-    let k : length w ≤ longestWord = omega (arith, lower-length w, ap length l, among-fits v reserved reserved-fits h) in
+    let k : length w ≤ longestWord = omega (arith, lower-length w, ap length l, among-fits v h) in
     rw (le-ltb longestWord (length w) k) (go (wordIn w reserved 0) refl l n)
   where
     go : (o : Option ℕ) → wordIn w reserved 0 ≡ o → inLowerCase w ≡ v → isNone (wordIn (inLowerCase w) reserved 0) ≡ false →
-        _≡_ {A = Option Token} (some (signOr o (unreserved i w))) (some (sign OTHER))
+        _≡_ {A = Option Token} (some (signOr o (otherWord i w))) (some (sign OTHER))
     go none e l n = rw n
     go (some k) e l n = absurd (d (sym l ∙ reserved-in-lower w k e))
 
 -- Respelt words.
-
-lower-word : (b : ℕ) → wordByte (lowerCase b) ≡ wordByte b
-lower-word b = go (leb 65 b) (leb b 90) refl refl
-  where
-    go : (x y : Bool) → leb 65 b ≡ x → leb b 90 ≡ y → wordByte (cond (x && y) (b + 32) b) ≡ wordByte b
-    go true true e f =
-        let h : 65 ≤ b = leb-true 65 b e in
-        let k : b ≤ 90 = leb-true b 90 f in
-        rw (le-leb 97 (b + 32) (omega arith), le-leb (b + 32) 122 (omega arith), lt-leb 97 b (omega arith), e, f)
-    go true false e f = refl
-    go false y e f = refl
 
 lower-all : (w : Word) → all wordByte (inLowerCase w) ≡ all wordByte w
 unfolding inLowerCase
@@ -293,3 +292,13 @@ lexemes-recased (suc l) i h (word {bs} {cs} b c v w e j s r) =
 pub tokens-recased : {a b : List ℕ} → Recased a b → tokens a ≡ tokens b
 unfolding tokensFrom
 tokens-recased {a} {b} r = lexemes-recased (length a) 0 (le-refl _) r ∙ ap (λ (l : ℕ). lexemes l b 0) (recased-length r)
+
+-- Such a change can be made: a name in other cases, twice.
+recased-example : Recased (bytes "shared Page. row.\nstart page") (bytes "shared pAGE. row.\nstart PAge")
+unfolding bytes inLowerCase sameWord reserved wordIn wordToken
+recased-example =
+    word 115 115 (bytes "hared") (bytes "hared") refl refl kept (other refl
+    (word 80 112 (bytes "age") (bytes "AGE") refl refl (recased {v = bytes "Page"} {w = bytes "pAGE"} 7 _ refl (refl, (refl, (refl, (refl, tt))))) (other refl (other refl
+    (word 114 114 (bytes "ow") (bytes "ow") refl refl kept (other refl (other refl
+    (word 115 115 (bytes "tart") (bytes "tart") refl refl kept (other refl
+    (word 112 80 (bytes "age") (bytes "Age") refl refl (recased {v = bytes "page"} {w = bytes "PAge"} 24 _ refl (refl, (refl, (refl, (refl, tt))))) ended))))))))))

@@ -19,6 +19,7 @@ pub mod FlatFormTells
 pub mod Standing
 pub mod Parts
 pub mod NamesStand
+pub mod OtherNowhere
 pub mod Stars
 pub mod Scopes
 pub mod Counts

@@ -11,11 +11,13 @@ use lib.ListN.{length, take, drop, length-append}
 use lib.Seq.{take-append-seam, drop-at}
 use borrow.Author.Tests.{ltb-false}
 use Rattle.notation.specs.Bytes.{letter, inLowerCase, begins, sameWord}
-use Rattle.notation.specs.Tokens.{Name, Token, sign, name, reserved, wordIn, plainWord, signOr, isNone, unreserved, longestWord, wordToken, Lexeme, at, Cut, ended, blank, run, mark, assign, colon, barred, ZERO, ONE, OTHER}
-use Rattle.notation.specs.Notation.{Kind, Part, part, declared, sharedName, rowName, Tree, tree′, Command, TextIs, isText, CommandIs, isCommand, Several, final, andThen}
+use Rattle.notation.specs.Tokens.{Name, Token, sign, name, reserved, wordIn, plainWord, signOr, isNone, otherWord, longestWord, wordToken, Lexeme, at, Cut, ended, blank, run, mark, assign, colon, barred, ZERO, ONE, OTHER}
+use Rattle.notation.specs.Notation.{Kind, Part, part, declared, sharedName, rowName, Tree, Command, TextIs, isText, CommandIs, isCommand, Several, final, andThen}
 use Rattle.notation.specs.Regular.{Every}
-use Rattle.notation.specs.Texts.{Spells, spellsNone, spells, TextSaysTree, titleOf, namesOf, spelling}
+use Rattle.notation.specs.Texts.{Spells, spellsNone, spells, TextSaysTree, titleOf, namesOf}
+use Rattle.notation.specs.Case.{spelling}
 use Rattle.notation.specs.Promises.{NamesSpelt}
+use Rattle.notation.proofs.Members.{joined, weaken}
 use Rattle.notation.proofs.Case.{lower-length}
 use Rattle.notation.proofs.Parts.{parted, text-parts}
 
@@ -71,11 +73,11 @@ module _ (text pre post w : List ℕ) (i : ℕ) (e : text ≡ pre ++ (w ++ post)
       unreserved-told true h = plain-told h
       unreserved-told false h = tt
 
-      sign-or : (o : Option ℕ) → length w ≤ longestWord → Told text (signOr o (unreserved i w))
+      sign-or : (o : Option ℕ) → length w ≤ longestWord → Told text (signOr o (otherWord i w))
       sign-or none h = unreserved-told (isNone (wordIn (inLowerCase w) reserved 0)) h
       sign-or (some k) h = tt
 
-      go : (b : Bool) → ltb longestWord (length w) ≡ b → (o : Option ℕ) → ToldAt text (cond b none (some (signOr o (unreserved i w))))
+      go : (b : Bool) → ltb longestWord (length w) ≡ b → (o : Option ℕ) → ToldAt text (cond b none (some (signOr o (otherWord i w))))
       go true q o = tt
       go false q o = sign-or o (ltb-false longestWord (length w) q)
 
@@ -112,25 +114,17 @@ module _ (text : List ℕ) where
   names-told k [] h = tt
   names-told k (w ∷ ws) h = (h .0, names-told k ws (h .1))
 
-both : {A : Type 0} (P : A → Type 0) (xs ys : List A) → Every P xs → Every P ys → Every P (xs ++ ys)
-both P [] ys h k = k
-both P (x ∷ xs) ys h k = (h .0, both P xs ys (h .1) k)
-
 form-told : (text : List ℕ) {ps : List Part} {x : Tree} → TextIs ps x → Every (ToldPart text) ps → Every (Stands text) (namesOf x)
 unfolding namesOf
 form-told text (isText {ss} {ks} {cs} ws vs s k o) h =
     let a = parted (ToldPart text) (declared sharedName ws) _ (h .1) in
     let b = parted (ToldPart text) (declared rowName vs) _ (a .1 .1 .1) in
-    both (Stands text) ws _ (names-told text sharedName ws (a .0))
-    (both (Stands text) vs _ (names-told text rowName vs (b .0)) (titles-told text o (text-parts (ToldPart text) ws vs ss ks cs h .2)))
+    joined (Stands text) ws _ (names-told text sharedName ws (a .0))
+    (joined (Stands text) vs _ (names-told text rowName vs (b .0)) (titles-told text o (text-parts (ToldPart text) ws vs ss ks cs h .2)))
 
 -- The names of a tree stand in every text that says the tree.
 pub names-stand : (text : List ℕ) (x : Tree) → TextSaysTree text x → Every (Stands text) (namesOf x)
 names-stand text x t = form-told text (t .says .form) (parts-told text (t .says .spelt) (cut-told text (t .cut) [] refl refl))
 
 pub names-spelt : NamesSpelt
-names-spelt text x t = go (namesOf x) (names-stand text x t)
-  where
-    go : (ns : List Name) → Every (Stands text) ns → Every (λ (n : Name). inLowerCase (spelling text n) ≡ n .word) ns
-    go [] h = tt
-    go (n ∷ ns) h = (h .0 .spelt, go ns (h .1))
+names-spelt text x t = weaken (Stands text) _ (λ n k. k .spelt) (namesOf x) (names-stand text x t)

@@ -18,9 +18,13 @@ bytes (c ∷ s) = L._∷_ (code c) (bytes s)
 abbrev pub between : ℕ → ℕ → ℕ → Bool
 between a b x = leb a x && leb x b
 
+-- `A` to `Z`.
+abbrev pub upperLetter : ℕ → Bool
+upperLetter b = between 65 90 b
+
 -- `a` to `z` and `A` to `Z`.
 abbrev pub letter : ℕ → Bool
-letter b = between 97 122 b || between 65 90 b
+letter b = between 97 122 b || upperLetter b
 
 -- A letter, a digit or an underscore.
 abbrev pub wordByte : ℕ → Bool
@@ -32,7 +36,7 @@ blankByte b = eqb b 32 || eqb b 10
 
 -- The byte in lower case: `A` to `Z` become `a` to `z`, every other byte stays.
 abbrev pub lowerCase : ℕ → ℕ
-lowerCase b = cond (between 65 90 b) (b + 32) b
+lowerCase b = cond (upperLetter b) (b + 32) b
 
 -- THE SAME BUT FOR CASE: bytes that are one in lower case.
 abbrev pub SameButForCase : ℕ → ℕ → Type 0

@@ -1,12 +1,17 @@
--- Texts that are one but for the case of letters inside their names.
+-- How a name is spelt, and which texts are one but for the case of letters inside their names.
 -- Assumes nothing.
 use mathlib.Core.Path.{_≡_}
 use mathlib.Core.Bool.{true, false}
 use mathlib.Core.List.{List, [], _∷_, _++_}
 use mathlib.Core.Option.{some}
 use Prim.Native.Nat.{ℕ}
+use lib.ListN.{length, take, drop}
 use Rattle.notation.specs.Bytes.{wordByte, SameButForCase, all, begins}
 use Rattle.notation.specs.Tokens.{Word, Name, name, wordToken}
+
+-- How a name is spelt: as many bytes as it has, from its place on in the text.
+unfoldable pub spelling : List ℕ → Name → Word
+spelling text n = take (length (n .word)) (drop (n .place) text)
 
 -- As many bytes, each the same but for case.
 abbrev pub Alike : List ℕ → List ℕ → Type 0

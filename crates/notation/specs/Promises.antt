@@ -8,27 +8,27 @@ use mathlib.Core.Logic.{_↔_, _⊎_}
 use Prim.Native.Nat.{ℕ, _≤_, _<_}
 use lib.ListN.{length}
 use Rattle.notation.specs.Bytes.{bytes, letter, wordByte, blankByte, SameButForCase, inLowerCase}
-use Rattle.notation.specs.Tokens.{Word, Name, sign, name, OTHER, reserved, wordToken, barredByte}
+use Rattle.notation.specs.Tokens.{Word, Name, sign, name, OTHER, reserved, wordToken, barredByte, Lexeme, at}
 use Rattle.notation.specs.Notation.{Tree}
 use Rattle.notation.specs.Rules.{elem, limitOf, NODES}
 use Rattle.notation.specs.Model.{Model, Expr, Place}
 use Rattle.notation.specs.Layout.{layoutOf}
 use Rattle.notation.specs.Regular.{Regular, Every, Among}
 use Rattle.notation.specs.Expressions.{nodesIn, nodeCount, expressions, StandsIn}
-use Rattle.notation.specs.Texts.{TextSaysTree, TextSays, TextRefused, longestText, namesOf, spelling}
-use Rattle.notation.specs.Case.{Alike, Recased}
+use Rattle.notation.specs.Texts.{TextSaysTree, TextSays, TextRefused, longestText, namesOf, Faultless, Refused}
+use Rattle.notation.specs.Case.{spelling, Alike, Recased}
 use Rattle.notation.specs.working.Machine.{read, refused}
 use Rattle.notation.specs.working.Answer.{answer}
 
 -- The bytes of a text, written out: the letters of both cases, those of words, and all that are allowed.
-abbrev pub small : List ℕ
-small = bytes "abcdefghijklmnopqrstuvwxyz"
+abbrev pub lowerLetters : List ℕ
+lowerLetters = bytes "abcdefghijklmnopqrstuvwxyz"
 
-abbrev pub large : List ℕ
-large = bytes "ABCDEFGHIJKLMNOPQRSTUVWXYZ"
+abbrev pub upperLetters : List ℕ
+upperLetters = bytes "ABCDEFGHIJKLMNOPQRSTUVWXYZ"
 
 abbrev pub letters : List ℕ
-letters = small ++ large
+letters = lowerLetters ++ upperLetters
 
 abbrev pub inWords : List ℕ
 inWords = letters ++ bytes "0123456789_"
@@ -54,26 +54,35 @@ pairs (a ∷ as′) (b ∷ bs) = (a, b) ∷ pairs as′ bs
 
 -- Two bytes are the same but for case exactly if they are one, or one of the 26 letters in both cases.
 abbrev pub LettersPaired : Type 0
-LettersPaired = (a b : ℕ) → a < 256 → b < 256 → SameButForCase a b ↔ ((a ≡ b) ⊎ (Among (a, b) (pairs small large) ⊎ Among (b, a) (pairs small large)))
+LettersPaired = (a b : ℕ) → a < 256 → b < 256 → SameButForCase a b ↔ ((a ≡ b) ⊎ (Among (a, b) (pairs lowerLetters upperLetters) ⊎ Among (b, a) (pairs lowerLetters upperLetters)))
 
 -- A word that is a name is the same name in every case.
 abbrev pub NamesWithoutCase : Type 0
 NamesWithoutCase = (i : ℕ) (v w : Word) (n : Name) → Alike v w → wordToken i v ≡ some (name n) → wordToken i w ≡ some (name n)
 
+-- Two words that are names are the same name only then.
+abbrev pub NamesByLetters : Type 0
+NamesByLetters = (i j : ℕ) (v w : Word) (n m : Name) → wordToken i v ≡ some (name n) → wordToken j w ≡ some (name m) → (n .word ≡ m .word) ↔ Alike v w
+
 -- A reserved word in another case is a token that the notation uses nowhere.
 abbrev pub ReservedInLowerCase : Type 0
 ReservedInLowerCase = (i : ℕ) (v w : Word) → Among v reserved → Alike v w → (v ≡ w → ⊥) → wordToken i w ≡ some (sign OTHER)
+
+-- Such a token is refused with 3 wherever it stands, if nothing before it is at fault.
+abbrev pub OtherNowhere : Type 0
+OtherNowhere = (len : ℕ) (us : List Lexeme) (i : ℕ) (ts : List Lexeme) → Faultless us → Refused len (us ++ at i (some (sign OTHER)) ∷ ts) 3 i
 
 -- Every name that a text declares is spelt in the text, at its place, as its word is but for case.
 abbrev pub NamesSpelt : Type 0
 NamesSpelt = (text : List ℕ) (x : Tree) → TextSaysTree text x → Every (λ (n : Name). inLowerCase (spelling text n) ≡ n .word) (namesOf x)
 
--- To change the case of letters inside names, anywhere in a text, changes neither what the text says nor its first refusal.
+-- Both texts say the same, or have the same first refusal.
 pub record SayTheSame (a b : List ℕ) : Type 0 where
   pub trees : (x : Tree) → TextSaysTree a x ↔ TextSaysTree b x
   pub models : (m : Model) → TextSays a m ↔ TextSays b m
   pub refusals : (n i : ℕ) → TextRefused a n i ↔ TextRefused b n i
 
+-- To change the case of letters inside names, anywhere in a text, changes neither what the text says nor its first refusal.
 abbrev pub CaseSaysNothing : Type 0
 CaseSaysNothing = (a b : List ℕ) → Recased a b → SayTheSame a b
 

@@ -5,7 +5,7 @@ use mathlib.Core.Bool.{Bool, true, false, cond, _||_}
 use mathlib.Core.List.{List, [], _∷_, _++_, map}
 use mathlib.Core.Option.{none, some}
 use Prim.Native.Nat.{ℕ, suc, _≤_, _<_}
-use lib.ListN.{length, take, drop}
+use lib.ListN.{length}
 use Rattle.notation.specs.Bytes.{sameWord}
 use Rattle.notation.specs.Tokens.{Token, Word, Name, Lexeme, at, Cut}
 use Rattle.notation.specs.Notation as T
@@ -95,10 +95,6 @@ titleOf (T.command′ n e xs ys) = n
 
 unfoldable pub namesOf : Tree → List Name
 namesOf (tree′ ws vs s k cs) = ws ++ (vs ++ map titleOf cs)
-
--- How a name is spelt: as many bytes as it has, from its place on in the text.
-unfoldable pub spelling : List ℕ → Name → Word
-spelling text n = take (length (n .word)) (drop (n .place) text)
 
 -- The lexemes are the tokens of the parts.
 pub data Spells : List Lexeme → List Part → Type 0 where

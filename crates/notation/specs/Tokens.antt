@@ -115,6 +115,7 @@ plainWord i w =
     cond (begins letter w) (name (record { place = i; word = inLowerCase w }))
     (cond (sameWord w (48 ∷ [])) (sign ZERO) (cond (sameWord w (49 ∷ [])) (sign ONE) (sign OTHER)))
 
+-- The sign that was found, or else the token.
 abbrev pub signOr : Option ℕ → Token → Token
 signOr none t = t
 signOr (some k) t = sign k
@@ -123,17 +124,18 @@ signOr (some k) t = sign k
 abbrev pub longestWord : ℕ
 longestWord = 16
 
+-- Nothing was found.
 abbrev pub isNone : {A : Type 0} → Option A → Bool
 isNone none = true
 isNone (some k) = false
 
--- A word that is reserved but for case, which the notation uses nowhere, or one that is not reserved.
-abbrev pub unreserved : ℕ → Word → Token
-unreserved i w = cond (isNone (wordIn (inLowerCase w) reserved 0)) (plainWord i w) (sign OTHER)
+-- What a word is that is not reserved as it is written: one that is reserved in another case is of no use, any other is plain.
+abbrev pub otherWord : ℕ → Word → Token
+otherWord i w = cond (isNone (wordIn (inLowerCase w) reserved 0)) (plainWord i w) (sign OTHER)
 
 -- The token that a word at place i is; none for a word that is too long. Reserved words are written in lower case.
 unfoldable pub wordToken : ℕ → Word → Option Token
-wordToken i w = cond (ltb longestWord (length w)) none (some (signOr (wordIn w reserved 0) (unreserved i w)))
+wordToken i w = cond (ltb longestWord (length w)) none (some (signOr (wordIn w reserved 0) (otherWord i w)))
 
 -- The marks of one byte. An equals sign alone is a token that the notation uses nowhere.
 abbrev pub markOf : ℕ → Option ℕ

@@ -8,7 +8,6 @@ use Prim.Native.Nat.{ℕ, _+_, _-_, _≤_, _<_}
 use native.Mathlib.Omega.{arith}
 use lib.Dec.{ltb}
 use lib.ListN.{set}
-use lib.Seq.{length-slice}
 use borrow.Author.Tests.{lt-ltb, le-ltb}
 use Rattle.notation.specs.Tokens.{Word, Name, name, Lexeme}
 use Rattle.notation.specs.Notation.{sharedName, rowName, Part, part, declares}

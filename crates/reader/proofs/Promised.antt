@@ -67,4 +67,4 @@ pub read-answers : ReadAnswers
 read-answers text = answers text
 
 pub read-without-case : ReadWithoutCase
-read-without-case a b r = ap readingIn (answers-recased r)
+read-without-case text other r = ap readingIn (answers-recased r)

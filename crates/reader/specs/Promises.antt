@@ -30,4 +30,4 @@ ReadAnswers = (text : List ℕ) → Answers text
 
 -- The case of letters inside names changes nothing of what the reader returns.
 abbrev pub ReadWithoutCase : Type 0
-ReadWithoutCase = (a b : List ℕ) → Recased a b → readingOf a ≡ readingOf b
+ReadWithoutCase = (text other : List ℕ) → Recased text other → readingOf text ≡ readingOf other

@@ -9,7 +9,8 @@ use lib.Seq.{getD-set-same, getD-set-other, getD-append-add}
 use Rattle.notation.specs.Tokens.{Name}
 use Rattle.notation.specs.Notation.{Tree, tree′}
 use Rattle.notation.specs.Regular.{Regular}
-use Rattle.notation.specs.Texts.{TextSaysTree, modelOf, namesOf, titleOf, spelling}
+use Rattle.notation.specs.Texts.{TextSaysTree, modelOf, namesOf, titleOf}
+use Rattle.notation.specs.Case.{spelling}
 use Rattle.meaning.proofs.Lists.{every-at}
 use Rattle.notation.proofs.Case.{lower-length}
 use Rattle.notation.proofs.NamesStand.{Stands, names-stand}

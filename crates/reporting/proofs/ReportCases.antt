@@ -1,7 +1,7 @@
 -- The table of cases holds: the definitions compute every report in it from the bytes of its text.
 -- Assumes nothing.
 use mathlib.Core.Path.{refl}
-use Rattle.notation.specs.Texts.{spelling}
+use Rattle.notation.specs.Case.{spelling}
 use Rattle.verdicts.proofs.SearchCases.{finding}
 use Rattle.lines.specs.Lines.{digitsUpTo, others, line}
 use Rattle.meaning.specs.Bits.{bit}
@@ -14,4 +14,4 @@ use Rattle.reporting.specs.working.Reporting.{reportIn}
 
 pub all-cases : AllCases
 unfolding finding spelling digitsUpTo others line bit inMap below settingLines countLines stepLines commandName verdictLines reportLines reportIn written cases
-all-cases = (refl, (refl, (refl, (refl, (refl, tt)))))
+all-cases = (refl, (refl, (refl, (refl, (refl, (refl, tt))))))

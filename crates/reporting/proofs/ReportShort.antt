@@ -17,7 +17,7 @@ use Rattle.notation.specs.working.Answer.{answer}
 use Rattle.notation.proofs.Texts.{says-iff-answer}
 use Rattle.meaning.specs.OneRow.{stateCount, TraceStep}
 use Rattle.meaning.specs.Evidence.{StepFits, Verdict, safeBy, voidBy, unsafeBy}
-use Rattle.meaning.proofs.Lists.{weaken}
+use Rattle.notation.proofs.Members.{weaken}
 use Rattle.verdicts.proofs.SheetBytes.{word-lt}
 use Rattle.io.specs.Counts.{Counts}
 use Rattle.lines.specs.Lines.{decimalOf}

@@ -17,7 +17,7 @@ use Rattle.notation.proofs.Texts.{says-answer}
 use Rattle.notation.proofs.Regular.{all-regular}
 use Rattle.meaning.specs.OneRow.{stateCount, TraceStep}
 use Rattle.meaning.specs.Evidence.{safe, trace, StepFits, TracePasses, Verdict, safeBy, voidBy, unsafeBy, evidenceOf}
-use Rattle.meaning.proofs.Lists.{weaken}
+use Rattle.notation.proofs.Members.{weaken}
 use Rattle.evaluation.proofs.Powers.{pow-small}
 use Rattle.reader.specs.declared.Code.{Code}
 use Rattle.reader.specs.Read.{codeOf, nameArray, readingIn, readingOf}

@@ -24,6 +24,11 @@ cases =
     -- G is unsafe by one step, and H is safe, with three states at one setting
     record { text = g; report = "model 1 2 1" ∷ "unsafe 1" ∷ "start 1" ∷ "step 1 grant 3 7" ∷ [] } ∷
     record { text = h; report = "model 1 2 1" ∷ "safe" ∷ "states 3" ∷ "at 1 3" ∷ [] } ∷
+    -- G with its names in several cases: a command is called as its declaration spells it
+    record {
+      text = bytes "shared M. row w X.\nstart m each not x.\nkeep 1 each not (W and x).\ncommand GranT if m do\nfor 1 do W := *; x := * else skip end else skip.";
+      report = "model 1 2 1" ∷ "unsafe 1" ∷ "start 1" ∷ "step 1 GranT 3 7" ∷ [];
+    } ∷
     -- no step is needed where the start state breaks
     record { text = gKeepsNowhere; report = "model 1 2 1" ∷ "unsafe 0" ∷ "start 1" ∷ [] } ∷
     -- nothing is said of runs where none can begin

@@ -7,7 +7,8 @@ use Rattle.notation.specs.Bytes.{bytes}
 use Rattle.notation.specs.Tokens.{Word}
 use Rattle.notation.specs.Notation.{Tree, tree′}
 use Rattle.notation.specs.Model.{Model}
-use Rattle.notation.specs.Texts.{modelOf, titleOf, spelling}
+use Rattle.notation.specs.Texts.{modelOf, titleOf}
+use Rattle.notation.specs.Case.{spelling}
 use Rattle.meaning.specs.OneRow.{stateCount, TraceStep}
 use Rattle.meaning.specs.Evidence.{Verdict, safeBy, voidBy, unsafeBy}
 use Rattle.lines.specs.Lines.{decimalOf, line}

@@ -1,14 +1,14 @@
 -- Pieces of a text, as the code keeps them, and what they stand for among the text's lexemes.
 -- Assumes nothing.
 use mathlib.Core.Path.{_≡_}
-use mathlib.Core.Bool.{Bool, true, false, cond, not, _&&_, _||_}
+use mathlib.Core.Bool.{Bool, false, cond, not, _&&_, _||_}
 use mathlib.Core.List.{List, [], _∷_}
 use mathlib.Core.Option.{Option, none, some}
 use Prim.Native.Nat.{ℕ, suc, _+_, _*_, _-_, _≤_, _<_}
 use lib.Dec.{eqb, ltb, leb}
 use lib.ListN.{length, getD, drop}
 use lib.Seq.{slice}
-use Rattle.notation.specs.Bytes.{between, letter, wordByte, blankByte, inLowerCase}
+use Rattle.notation.specs.Bytes.{letter, wordByte, blankByte, inLowerCase, upperLetter}
 use Rattle.notation.specs.Tokens.{Token, sign, name, Name, Word, Lexeme, at, reserved, wordIn, isNone, longestWord, markOf, ZERO, ONE, ASSIGN, OTHER}
 use Rattle.notation.specs.Regular.{Every}
 use Rattle.notation.specs.working.Lexing.{span, tokensFrom}
@@ -40,7 +40,7 @@ numberOr (some k) = k
 -- A letter of the word is of upper case.
 unfoldable pub hasUpper : Word → Bool
 hasUpper [] = false
-hasUpper (b ∷ w) = between 65 90 b || hasUpper w
+hasUpper (b ∷ w) = upperLetter b || hasUpper w
 
 -- The word is reserved but for case, and not in lower case.
 unfoldable pub otherCase : Word → Bool
@@ -51,10 +51,14 @@ unfoldable pub numberOf : Word → ℕ
 numberOf [] = 1
 numberOf (b ∷ w) = b + 256 * numberOf w
 
+-- The bytes are digits of such a number.
+abbrev pub Digits : Word → Type 0
+Digits w = Every (λ (b : ℕ). b < 256) w
+
 -- The number of the word in lower case, whose bytes are digits.
 pub record LowerNumber (w : Word) (r : ℕ) : Type 0 where
   pub number : r ≡ numberOf (inLowerCase w)
-  pub digits : Every (λ (b : ℕ). b < 256) (inLowerCase w)
+  pub digits : Digits (inLowerCase w)
 
 -- The tables of the reserved words' letters, as many to each as the longest has, and of their lengths.
 pub record Tabled (letters lengths : List ℕ) : Type 0 where

@@ -5,74 +5,74 @@ use borrow.Author.Needs.{needs}
 use Rattle.lexer.proofs.names.eight.Statement.{statement}
 use Rattle.lexer.proofs.names.eight.Tie as tie
 
-shared-slice-read-lane : tie.Need-shared-slice-read-lane
-shared-slice-read-lane c = search needs
+shared-slice-read-digit : tie.Need-shared-slice-read-digit
+shared-slice-read-digit c = search needs
 
-lane-requires : tie.Need-lane-requires
-lane-requires c κs = search needs
+digit-requires : tie.Need-digit-requires
+digit-requires c κs = search needs
 
-add-lane : tie.Need-add-lane
-add-lane c = search needs
+add-digit : tie.Need-add-digit
+add-digit c = search needs
 
-shared-slice-read-lane-2 : tie.Need-shared-slice-read-lane-2
-shared-slice-read-lane-2 c = search needs
+shared-slice-read-digit-2 : tie.Need-shared-slice-read-digit-2
+shared-slice-read-digit-2 c = search needs
 
-lane-requires-2 : tie.Need-lane-requires-2
-lane-requires-2 c κs = search needs
+digit-requires-2 : tie.Need-digit-requires-2
+digit-requires-2 c κs = search needs
 
-add-lane-2 : tie.Need-add-lane-2
-add-lane-2 c = search needs
+add-digit-2 : tie.Need-add-digit-2
+add-digit-2 c = search needs
 
-shared-slice-read-lane-3 : tie.Need-shared-slice-read-lane-3
-shared-slice-read-lane-3 c = search needs
+shared-slice-read-digit-3 : tie.Need-shared-slice-read-digit-3
+shared-slice-read-digit-3 c = search needs
 
-lane-requires-3 : tie.Need-lane-requires-3
-lane-requires-3 c κs = search needs
+digit-requires-3 : tie.Need-digit-requires-3
+digit-requires-3 c κs = search needs
 
-add-lane-3 : tie.Need-add-lane-3
-add-lane-3 c = search needs
+add-digit-3 : tie.Need-add-digit-3
+add-digit-3 c = search needs
 
-shared-slice-read-lane-4 : tie.Need-shared-slice-read-lane-4
-shared-slice-read-lane-4 c = search needs
+shared-slice-read-digit-4 : tie.Need-shared-slice-read-digit-4
+shared-slice-read-digit-4 c = search needs
 
-lane-requires-4 : tie.Need-lane-requires-4
-lane-requires-4 c κs = search needs
+digit-requires-4 : tie.Need-digit-requires-4
+digit-requires-4 c κs = search needs
 
-add-lane-4 : tie.Need-add-lane-4
-add-lane-4 c = search needs
+add-digit-4 : tie.Need-add-digit-4
+add-digit-4 c = search needs
 
-shared-slice-read-lane-5 : tie.Need-shared-slice-read-lane-5
-shared-slice-read-lane-5 c = search needs
+shared-slice-read-digit-5 : tie.Need-shared-slice-read-digit-5
+shared-slice-read-digit-5 c = search needs
 
-lane-requires-5 : tie.Need-lane-requires-5
-lane-requires-5 c κs = search needs
+digit-requires-5 : tie.Need-digit-requires-5
+digit-requires-5 c κs = search needs
 
-add-lane-5 : tie.Need-add-lane-5
-add-lane-5 c = search needs
+add-digit-5 : tie.Need-add-digit-5
+add-digit-5 c = search needs
 
-shared-slice-read-lane-6 : tie.Need-shared-slice-read-lane-6
-shared-slice-read-lane-6 c = search needs
+shared-slice-read-digit-6 : tie.Need-shared-slice-read-digit-6
+shared-slice-read-digit-6 c = search needs
 
-lane-requires-6 : tie.Need-lane-requires-6
-lane-requires-6 c κs = search needs
+digit-requires-6 : tie.Need-digit-requires-6
+digit-requires-6 c κs = search needs
 
-add-lane-6 : tie.Need-add-lane-6
-add-lane-6 c = search needs
+add-digit-6 : tie.Need-add-digit-6
+add-digit-6 c = search needs
 
-shared-slice-read-lane-7 : tie.Need-shared-slice-read-lane-7
-shared-slice-read-lane-7 c = search needs
+shared-slice-read-digit-7 : tie.Need-shared-slice-read-digit-7
+shared-slice-read-digit-7 c = search needs
 
-lane-requires-7 : tie.Need-lane-requires-7
-lane-requires-7 c κs = search needs
+digit-requires-7 : tie.Need-digit-requires-7
+digit-requires-7 c κs = search needs
 
-add-lane-7 : tie.Need-add-lane-7
-add-lane-7 c = search needs
+add-digit-7 : tie.Need-add-digit-7
+add-digit-7 c = search needs
 
-shared-slice-read-lane-8 : tie.Need-shared-slice-read-lane-8
-shared-slice-read-lane-8 c = search needs
+shared-slice-read-digit-8 : tie.Need-shared-slice-read-digit-8
+shared-slice-read-digit-8 c = search needs
 
-lane-requires-8 : tie.Need-lane-requires-8
-lane-requires-8 c κs = search needs
+digit-requires-8 : tie.Need-digit-requires-8
+digit-requires-8 c κs = search needs
 
 mul-result : tie.Need-mul-result
 mul-result c = search needs
@@ -123,29 +123,29 @@ pub eight-spec : {M : Type 1} → statement M
 eight-spec =
     tie.close
     (tie.spec
-    shared-slice-read-lane
-    lane-requires
-    add-lane
-    shared-slice-read-lane-2
-    lane-requires-2
-    add-lane-2
-    shared-slice-read-lane-3
-    lane-requires-3
-    add-lane-3
-    shared-slice-read-lane-4
-    lane-requires-4
-    add-lane-4
-    shared-slice-read-lane-5
-    lane-requires-5
-    add-lane-5
-    shared-slice-read-lane-6
-    lane-requires-6
-    add-lane-6
-    shared-slice-read-lane-7
-    lane-requires-7
-    add-lane-7
-    shared-slice-read-lane-8
-    lane-requires-8
+    shared-slice-read-digit
+    digit-requires
+    add-digit
+    shared-slice-read-digit-2
+    digit-requires-2
+    add-digit-2
+    shared-slice-read-digit-3
+    digit-requires-3
+    add-digit-3
+    shared-slice-read-digit-4
+    digit-requires-4
+    add-digit-4
+    shared-slice-read-digit-5
+    digit-requires-5
+    add-digit-5
+    shared-slice-read-digit-6
+    digit-requires-6
+    add-digit-6
+    shared-slice-read-digit-7
+    digit-requires-7
+    add-digit-7
+    shared-slice-read-digit-8
+    digit-requires-8
     mul-result
     add-result
     mul-result-2

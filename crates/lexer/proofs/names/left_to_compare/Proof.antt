@@ -1,6 +1,5 @@
 -- Eight bytes that are one number are the same.
 -- Assumes nothing.
-use mathlib.Core.Path.{refl}
 use native.Mathlib.Omega.{arith}
 use borrow.Author.Needs.{needs}
 use Rattle.lexer.proofs.Lookup.{eight-more}

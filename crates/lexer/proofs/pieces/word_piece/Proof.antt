@@ -1,8 +1,7 @@
 -- Each answer is the token that the definition gives a word that passed the tests so far.
 -- Assumes nothing.
 use mathlib.Core.Path.{_≡_, sym, _∙_}
-use mathlib.Core.Bool.{true, false, cond}
-use Prim.Native.Nat.{_-_}
+use mathlib.Core.Bool.{cond}
 use lib.ListN.{getD}
 use lib.Seq.{slice}
 use borrow.Author.Needs.{needs}

@@ -4,19 +4,19 @@ use mathlib.Core.Path.{_≡_, refl, sym, ap, _∙_}
 use mathlib.Core.List.{List, map}
 use Prim.Native.Nat.{ℕ, _-_, _≤_}
 use native.Mathlib.Omega.{arith}
-use lib.ListN.{length, getD, drop}
+use lib.ListN.{length, getD, drop, length-map}
 use Rattle.notation.specs.Tokens.{reserved}
 use Rattle.notation.specs.Rules.{elem}
-use Rattle.lexer.specs.working.Pieces.{numberOf}
-use Rattle.lexer.proofs.Spelling.{elem-here, elem-later, elem-none}
+use Rattle.lexer.specs.working.Pieces.{WORDS, numberOf}
+use Rattle.lexer.proofs.Spelling.{fifteen, elem-here, elem-later, elem-none}
 use Rattle.lexer.proofs.words.is_number.Statement.{statement}
 use Rattle.lexer.proofs.words.is_number.Tie as tie
 
 abbrev Inv-loop : tie.InvT-loop
-Inv-loop numbers w k₀ k = (k ≤ 15) × (elem w (drop k (map numberOf reserved)) ≡ elem w (map numberOf reserved))
+Inv-loop numbers w k₀ k = (k ≤ WORDS) × (elem w (drop k (map numberOf reserved)) ≡ elem w (map numberOf reserved))
 
 abbrev μ-loop : tie.MeasureT-loop
-μ-loop numbers w k₀ k = 15 - k
+μ-loop numbers w k₀ k = WORDS - k
 
 -- The places that the answers name.
 abbrev Start : Type 0
@@ -28,9 +28,8 @@ In-loop = tie.In-loop Inv-loop μ-loop
 abbrev At-loop : Type 0
 At-loop = tie.At-loop Inv-loop μ-loop
 
-many : length (map numberOf reserved) ≡ 15
-unfolding reserved
-many = refl
+many : length (map numberOf reserved) ≡ WORDS
+many = length-map reserved numberOf ∙ fifteen
 
 loop-holds : tie.Need-loop-holds Inv-loop μ-loop
 loop-holds c = (omega arith, refl)

@@ -8,7 +8,7 @@ use borrow.Author.Tests.{not-true, not-false}
 use lib.Seq.{length-slice}
 use Rattle.notation.specs.Bytes.{bytes}
 use Rattle.notation.specs.Tokens.{reserved}
-use Rattle.lexer.specs.working.Pieces.{numberOf}
+use Rattle.lexer.specs.working.Pieces.{LONGEST, numberOf}
 use Rattle.lexer.proofs.Spelling.{other-long, other-none, other-found}
 use Rattle.lexer.proofs.words.reserved_in_other_case.Statement.{statement}
 use Rattle.lexer.proofs.words.reserved_in_other_case.Tie as tie
@@ -19,7 +19,7 @@ sub-if1 c = search needs
 returns : tie.Need-returns
 returns c =
     let start : tie.Start = search in
-    other-long _ (subst⁻¹ (λ (n : ℕ). 7 < n) (length-slice _ _ _ (start .pre .1)) (c .if1 .taken))
+    other-long _ (subst⁻¹ (λ (n : ℕ). LONGEST < n) (length-slice _ _ _ (start .pre .1)) (c .if1 .taken))
 
 has-upper-requires : tie.Need-has-upper-requires
 has-upper-requires c κs = search needs
