@@ -1,10 +1,10 @@
 -- Looking a word up among the declared names, byte by byte or eight bytes at a time, finds its place among their words, which says whether it is a name.
 -- Assumes nothing.
-use mathlib.Core.Path.{_≡_, refl, sym, ap, _∙_, subst}
+use mathlib.Core.Path.{_≡_, refl, sym, ap, _∙_}
 use mathlib.Core.Bool.{Bool, true, false, cond, not, _&&_, _||_, and-true}
 use mathlib.Core.Logic.{_⊎_, inl, inr}
 use mathlib.Core.List.{List, [], _∷_, _++_}
-use Prim.Native.Nat.{ℕ, zero, suc, _+_, _*_, _-_, _≤_, _<_}
+use Prim.Native.Nat.{ℕ, zero, suc, _+_, _-_, _≤_, _<_}
 use native.Mathlib.Nat.{add-zero, zero-add, suc-add}
 use native.Mathlib.Numerals.{add-one, towards-suc}
 use native.Mathlib.Omega.{arith}
@@ -16,11 +16,11 @@ use Rattle.notation.specs.Bytes.{between, lowerCase, inLowerCase, sameWord, upp
 use Rattle.notation.specs.Tokens.{Word}
 use Rattle.notation.specs.Texts.{among, placeOf}
 use Rattle.notation.proofs.Booleans.{and-split, and-false}
-use Rattle.notation.proofs.Case.{lower-length, same-itself}
+use Rattle.notation.proofs.Case.{lower-length, same-word, same-itself}
 use Rattle.lexer.specs.declared.pieces.Piece.{Piece}
 use Rattle.lexer.specs.working.Pieces.{nameIn, Fresh}
-use Rattle.lexer.specs.working.Names.{Packed, upperCase, Ending, window, sameFirst, wordAt, wordsIn}
-use Rattle.lexer.proofs.Spelling.{lengths-differ, upper-le, upper-ge, lower-upper, lower-stays, upper-below, upper-small}
+use Rattle.lexer.specs.working.Names.{Packed, upperCase, Ending, window, sameFirst, leftToCompare, wordAt, wordsIn}
+use Rattle.lexer.proofs.Spelling.{lengths-differ, peel, upper-le, upper-ge, lower-upper, lower-stays, upper-below, upper-small}
 
 -- ---- windows of the text
 
@@ -59,17 +59,9 @@ module _ (text names : List ℕ) (i s e a n : ℕ) (h : s ≤ e) (k : e ≤ leng
 
 -- ---- two windows, compared from their ends
 
--- Two numbers that are the same have the same lowest digit, and the same above it.
-digit-apart : (x y p q : ℕ) → x < 256 → y < 256 → x + 256 * p ≡ y + 256 * q → (x ≡ y) × (p ≡ q)
-digit-apart x y p q h k e = (omega arith, omega arith)
-
 and-and : (x y z : Bool) → x && (y && z) ≡ (x && y) && z
 and-and true y z = refl
 and-and false y z = refl
-
--- What the comparison of two bytes told.
-pub told : {x y p q : ℕ} {r : Bool} → x ≡ p → y ≡ q → r ≡ eqb (lowerCase x) (lowerCase y) → eqb (lowerCase p) (lowerCase q) ≡ r
-told e f g = rw (sym e, sym f) (sym g)
 
 module _ (text : List ℕ) where
   -- The first k bytes, and the m behind them.
@@ -108,24 +100,49 @@ module _ (text : List ℕ) where
   unfolding window
   window-eight a = simp towards-suc
 
-  packs-same : (a b x : ℕ) → Packed text b x → Packed text a x → window text b 8 ≡ window text a 8
-  packs-same a b x p q =
-      let e = sym (p .number) ∙ q .number in
-      let f0 = digit-apart _ _ _ _ (p .d0) (q .d0) e in
-      let f1 = digit-apart _ _ _ _ (p .d1) (q .d1) (f0 .1) in
-      let f2 = digit-apart _ _ _ _ (p .d2) (q .d2) (f1 .1) in
-      let f3 = digit-apart _ _ _ _ (p .d3) (q .d3) (f2 .1) in
-      let f4 = digit-apart _ _ _ _ (p .d4) (q .d4) (f3 .1) in
-      let f5 = digit-apart _ _ _ _ (p .d5) (q .d5) (f4 .1) in
-      let f6 = digit-apart _ _ _ _ (p .d6) (q .d6) (f5 .1) in
-      rw (window-eight a, window-eight b, f0 .0, f1 .0, f2 .0, f3 .0, f4 .0, f5 .0, f6 .0, f6 .1)
+  pub packs-same : (a b x y : ℕ) → Packed text b x → Packed text a y → eqb x y ≡ sameWord (window text b 8) (window text a 8)
+  unfolding sameWord
+  packs-same a b x y p q =
+      rw (p .number, q .number, window-eight a, window-eight b)
+      (rw (
+        peel _ _ _ _ (p .d0) (q .d0),
+        peel _ _ _ _ (p .d1) (q .d1),
+        peel _ _ _ _ (p .d2) (q .d2),
+        peel _ _ _ _ (p .d3) (q .d3),
+        peel _ _ _ _ (p .d4) (q .d4),
+        peel _ _ _ _ (p .d5) (q .d5),
+        peel _ _ _ _ (p .d6) (q .d6),
+        and-true (eqb (getD text (b + 7) 0) (getD text (a + 7) 0)),
+      ))
 
-  pub eight-more : (a b k m x y : ℕ) → m + 8 ≡ k → Packed text (b + m) x → Packed text (a + m) y → x ≡ y → sameFirst text a b m ≡ sameFirst text a b k
+  -- What is the same as written is the same but for case.
+  written-same : (a b n : ℕ) → sameWord (window text b n) (window text a n) ≡ true → sameFirst text a b n ≡ true
   unfolding sameFirst
-  eight-more a b k m x y h p q e =
-      let w : window text (b + m) 8 ≡ window text (a + m) 8 = packs-same (a + m) (b + m) y (subst (Packed text (b + m)) e p) q in
-      let s : sameFirst text (a + m) (b + m) 8 ≡ true = rw w (same-itself (inLowerCase (window text (a + m) 8))) in
-      sym (ap (sameFirst text a b) (sym h) ∙ same-split a b m 8 ∙ rw s (and-true (sameFirst text a b m)))
+  written-same a b n e = rw (same-word (window text b n) (window text a n) e) (same-itself (inLowerCase (window text a n)))
+
+  module _ (a b k : ℕ) where
+    pub left-le : leftToCompare text a b k ≤ k
+    unfolding leftToCompare
+    left-le = go (ltb k 8) (sameWord (window text (b + (k - 8)) 8) (window text (a + (k - 8)) 8))
+      where
+        go : (x y : Bool) → cond x k (cond y (k - 8) k) ≤ k
+        go true y = omega arith
+        go false true = omega arith
+        go false false = omega arith
+
+    pub left-same : sameFirst text a b (leftToCompare text a b k) ≡ sameFirst text a b k
+    unfolding leftToCompare
+    left-same = go (ltb k 8) refl (sameWord (window text (b + m) 8) (window text (a + m) 8)) refl
+      where
+        m : ℕ
+        m = k - 8
+
+        go : (x : Bool) → ltb k 8 ≡ x → (y : Bool) → sameWord (window text (b + m) 8) (window text (a + m) 8) ≡ y → sameFirst text a b (cond x k (cond y m k)) ≡ sameFirst text a b k
+        go true e y f = refl
+        go false e true f =
+            let q : m + 8 ≡ k = omega (arith, ltb-false k 8 e) in
+            sym (ap (sameFirst text a b) (sym q) ∙ same-split a b m 8 ∙ rw (written-same (a + m) (b + m) 8 f) (and-true (sameFirst text a b m)))
+        go false e false f = refl
 
 -- ---- the last byte of a word
 

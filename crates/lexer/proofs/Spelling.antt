@@ -230,7 +230,7 @@ module _ (w : Word) (k : ℕ) (rest : wordIn w (drop k reserved) k ≡ wordIn w 
 -- Words as numbers.
 
 -- The lowest digits of two numbers, and what is above them.
-peel : (x y p q : ℕ) → x < 256 → y < 256 → eqb (x + 256 * p) (y + 256 * q) ≡ eqb x y && eqb p q
+pub peel : (x y p q : ℕ) → x < 256 → y < 256 → eqb (x + 256 * p) (y + 256 * q) ≡ eqb x y && eqb p q
 peel x y p q h k = go (eqb x y) refl (eqb p q) refl
   where
     go : (s : Bool) → eqb x y ≡ s → (t : Bool) → eqb p q ≡ t → eqb (x + 256 * p) (y + 256 * q) ≡ s && t

@@ -8,7 +8,7 @@ ghost use lib.Seq.{slice};
 ghost use Rattle.notation.specs.Bytes.{inLowerCase, sameWord};
 ghost use Rattle.notation.specs.Texts.{placeOf};
 ghost use Rattle.lexer.specs.working.Pieces.{NAME, nameIn, Fresh};
-ghost use Rattle.lexer.specs.working.Names.{Packed, Ending, sameFirst, wordAt, wordsIn};
+ghost use Rattle.lexer.specs.working.Names.{Packed, Ending, sameFirst, leftToCompare, wordAt, wordsIn};
 use crate::bytes::byte_at;
 use crate::bytes::digit;
 use crate::bytes::lower_case;
@@ -35,7 +35,7 @@ fn eight(text: &[u8], i: usize) -> u64
 // How many of the first k bytes from b on are left to compare with those from a on: eight fewer where the last eight are the same as written.
 fn left_to_compare(text: &[u8], a: usize, b: usize, k: usize) -> usize
     requires { ⌜ (a + k ≤ length (now text)) × (b + k ≤ length (now text)) ⌝ }
-    ensures { λ r. ⌜ (r ≤ k) × (sameFirst (now (text .entry)) a b r ≡ sameFirst (now (text .entry)) a b k) ⌝ }
+    ensures { λ r. ⌜ r ≡ leftToCompare (now (text .entry)) a b k ⌝ }
 {
     if k < 8 {
         return k;

@@ -57,7 +57,7 @@ unfolding inLowerCase
 lower-begins [] = refl
 lower-begins (b ∷ w) = lower-letter b
 
-same-word : (v w : Word) → sameWord v w ≡ true → v ≡ w
+pub same-word : (v w : Word) → sameWord v w ≡ true → v ≡ w
 unfolding sameWord
 same-word [] [] h = refl
 same-word [] (b ∷ w) h = cc

@@ -4,6 +4,7 @@ use mathlib.Core.Bool.{Bool, cond}
 use mathlib.Core.List.{List, [], _∷_}
 use mathlib.Core.Path.{_≡_}
 use Prim.Native.Nat.{ℕ, zero, suc, _+_, _*_, _-_, _≤_, _<_}
+use lib.Dec.{ltb}
 use lib.ListN.{length, getD}
 use Rattle.notation.specs.Bytes.{between, lowerCase, inLowerCase, sameWord}
 use Rattle.notation.specs.Tokens.{Word}
@@ -42,6 +43,10 @@ pub record Ending (text : List ℕ) (s e lower upper : ℕ) : Type 0 where
 -- Whether the first k bytes from b on are those from a on but for case.
 unfoldable pub sameFirst : List ℕ → ℕ → ℕ → ℕ → Bool
 sameFirst text a b k = sameWord (inLowerCase (window text b k)) (inLowerCase (window text a k))
+
+-- How many of the first k bytes from b on are left to compare with those from a on: eight fewer where the last eight are the same as written.
+unfoldable pub leftToCompare : List ℕ → ℕ → ℕ → ℕ → ℕ
+leftToCompare text a b k = cond (ltb k 8) k (cond (sameWord (window text (b + (k - 8)) 8) (window text (a + (k - 8)) 8)) (k - 8) k)
 
 -- The word of name i, and those of the n names from i on.
 unfoldable pub wordAt : List ℕ → List ℕ → ℕ → Word

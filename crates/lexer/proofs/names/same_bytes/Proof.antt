@@ -1,11 +1,11 @@
 -- The first k bytes are the same but for case exactly if all are, since those behind them are.
 -- Assumes nothing.
-use mathlib.Core.Path.{_≡_, refl, sym, _∙_}
+use mathlib.Core.Path.{_≡_, refl, sym, ap, _∙_}
 use Prim.Native.Nat.{_≤_}
 use native.Mathlib.Omega.{arith}
 use borrow.Author.Tests.{not-true, not-false}
 use Rattle.lexer.specs.working.Names.{sameFirst}
-use Rattle.lexer.proofs.Lookup.{last-no, last-more, none-left}
+use Rattle.lexer.proofs.Lookup.{last-no, last-more, none-left, left-le, left-same}
 use Rattle.lexer.proofs.names.same_bytes.Statement.{statement}
 use Rattle.lexer.proofs.names.same_bytes.Tie as tie
 
@@ -16,8 +16,24 @@ abbrev μ-loop : tie.MeasureT-loop
 μ-loop text a b n k₀ k = k
 
 -- The places that the answers name.
+abbrev Start : Type 0
+Start = tie.Start Inv-loop μ-loop
+
+abbrev After-left-to-compare : Type 0
+After-left-to-compare = tie.After-left-to-compare Inv-loop μ-loop
+
 abbrev At-loop : Type 0
 At-loop = tie.At-loop Inv-loop μ-loop
+
+-- No more are left than there were.
+fewer : (c : After-left-to-compare) →
+    let at-loop : At-loop = search in
+    c .left-to-compare .result ≤ at-loop .loop .k
+fewer c =
+    let start : Start = search in
+    let at-loop : At-loop = search in
+    let a = start .args in
+    rw (c .left-to-compare .ensures) (left-le (a .text .now) (a .a) (a .b) (at-loop .loop .k))
 
 loop-holds : tie.Need-loop-holds Inv-loop μ-loop
 loop-holds c = (omega arith, refl)
@@ -57,12 +73,17 @@ loop-again c =
     (omega arith, last-more _ _ _ _ _ (omega arith) (sym (c .before .same-but-for-case .ensures) ∙ not-false _ (c .if2 .left)) ∙ at-loop .loop .inv .1)
 
 loop-less-2 : tie.Need-loop-less-2 Inv-loop μ-loop
-loop-less-2 c = omega (arith, c .before .left-to-compare .ensures .0)
+loop-less-2 c = let l = fewer (c .before) in omega (arith, l)
 
 loop-again-2 : tie.Need-loop-again-2 Inv-loop μ-loop
 loop-again-2 c =
+    let start : Start = search in
     let at-loop : At-loop = search in
-    (omega (arith, c .before .left-to-compare .ensures .0), c .before .left-to-compare .ensures .1 ∙ at-loop .loop .inv .1)
+    let a = start .args in
+    let l = fewer (c .before) in (
+      omega (arith, l),
+      ap (sameFirst (a .text .now) (a .a) (a .b)) (c .before .left-to-compare .ensures) ∙ left-same (a .text .now) (a .a) (a .b) (at-loop .loop .k) ∙ at-loop .loop .inv .1,
+    )
 
 returns-2 : tie.Need-returns-2 Inv-loop μ-loop
 returns-2 c = none-left _ _ _ _ (omega arith) ∙ c .before .loop .inv .1
