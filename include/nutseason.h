@@ -10,6 +10,9 @@
  * a table or list is aligned as its type asks; no two of the arguments overlap where one of them is written; and
  * nothing else writes them during the call. A pointer whose length is 0 is not followed.
  *
+ * In a text, names that differ only in the case of their letters are one name; reserved words are written in small
+ * letters, and in any other case they can stand nowhere.
+ *
  * The refusals, with what their place says. Places count bytes from 0.
  *
  *    1  the text is longer than 16,384 bytes                        16384
