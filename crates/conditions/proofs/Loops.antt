@@ -1,7 +1,7 @@
 -- The conditions A, B and C, and whether there is no start state, one turn of a loop at a time.
 -- Assumes nothing.
 use mathlib.Core.Path.{_≡_, refl, sym, ap, _∙_, subst}
-use mathlib.Core.Bool.{Bool, true, false, not, _&&_}
+use mathlib.Core.Bool.{Bool, true, false, not, _&&_, and-true, and-false}
 use mathlib.Core.List.{List}
 use mathlib.Core.Logic.{_⊎_, inl, inr}
 use Prim.Native.Nat.{ℕ, zero, suc, _+_, _*_, _/_, _^_, _<_, _≤_}
@@ -10,7 +10,6 @@ use native.Mathlib.Numerals.{add-one}
 use native.Mathlib.Nat.{mod-lt, not-suc-le-zero, le-of-suc-le-suc, eq-or-lt-of-le}
 use lib.Seq.{slice}
 use lib.Pow.{pow-pos}
-use Rattle.notation.proofs.Booleans.{and-false}
 use Rattle.meaning.specs.Evidence.{inMap}
 use Rattle.meaning.specs.working.Conditions.{every, implies, wordsStay, testVoid, testA, testB, testC, closedAt}
 use Rattle.evaluation.specs.working.CodeMachine.{runOf, startOf}
@@ -31,10 +30,6 @@ every-none f = refl
 pub every-next : (f : ℕ → Bool) (i : ℕ) → every i f ≡ true → f i ≡ true → every (i + 1) f ≡ true
 unfolding every
 every-next f i e h = rw (add-one, e, h)
-
-and-yes : (a : Bool) → a ≡ a && true
-and-yes true = refl
-and-yes false = refl
 
 pub every-fail : (n : ℕ) (f : ℕ → Bool) (i : ℕ) → i < n → f i ≡ false → false ≡ every n f
 unfolding every
@@ -76,7 +71,7 @@ module _ (starts : ℕ → Bool) (s : ℕ) where
 
   pub void-other : (none : Bool) → none ≡ testVoid s starts → starts s ≡ false → none ≡ testVoid (s + 1) starts
   unfolding testVoid every
-  void-other none e h = rw (add-one, h, e) (and-yes _)
+  void-other none e h = rw (add-one, h, e) (sym (and-true _))
 
   pub void-done : (none : Bool) (n : ℕ) → s ≤ n → n ≤ s → none ≡ testVoid s starts → none ≡ testVoid n starts
   void-done none n h k e = let q : s ≡ n = omega arith in e ∙ ap (λ (x : ℕ). testVoid x starts) q

@@ -1,7 +1,7 @@
 -- Looking a word up among the declared names, byte by byte or eight bytes at a time, finds its place among their words, which says whether it is a name.
 -- Assumes nothing.
 use mathlib.Core.Path.{_≡_, refl, sym, ap, _∙_}
-use mathlib.Core.Bool.{Bool, true, false, cond, not, _&&_, _||_, and-true}
+use mathlib.Core.Bool.{Bool, true, false, cond, not, _&&_, _||_, and-true, and-false, and-assoc, or-assoc}
 use mathlib.Core.Logic.{_⊎_, inl, inr}
 use mathlib.Core.List.{List, [], _∷_, _++_}
 use Prim.Native.Nat.{ℕ, zero, suc, _+_, _-_, _≤_, _<_}
@@ -15,7 +15,7 @@ use borrow.Author.Tests.{leb-true, ltb-true, ltb-false, lt-ltb, le-ltb, ne-eqb, 
 use Rattle.notation.specs.Bytes.{between, lowerCase, inLowerCase, sameWord, upperLetter}
 use Rattle.notation.specs.Tokens.{Word}
 use Rattle.notation.specs.Texts.{among, placeOf}
-use Rattle.notation.proofs.Booleans.{and-split, and-false}
+use Rattle.notation.proofs.Booleans.{and-split}
 use Rattle.notation.proofs.Case.{lower-length, same-word, same-itself}
 use Rattle.lexer.specs.declared.pieces.Piece.{Piece}
 use Rattle.lexer.specs.working.Pieces.{nameIn, Fresh}
@@ -59,10 +59,6 @@ module _ (text names : List ℕ) (i s e a n : ℕ) (h : s ≤ e) (k : e ≤ leng
 
 -- ---- two windows, compared from their ends
 
-and-and : (x y z : Bool) → x && (y && z) ≡ (x && y) && z
-and-and true y z = refl
-and-and false y z = refl
-
 module _ (text : List ℕ) where
   -- The first k bytes, and the m behind them.
   same-split : (a b k m : ℕ) → sameFirst text a b (k + m) ≡ sameFirst text a b k && sameFirst text (a + k) (b + k) m
@@ -73,7 +69,7 @@ module _ (text : List ℕ) where
       let g : a + suc k ≡ suc a + k = omega arith in
       rw (suc-add k m, f, g)
       (ap (λ (x : Bool). eqb (lowerCase (getD text b 0)) (lowerCase (getD text a 0)) && x) (same-split (suc a) (suc b) k m) ∙
-      and-and (eqb (lowerCase (getD text b 0)) (lowerCase (getD text a 0))) (sameFirst text (suc a) (suc b) k) (sameFirst text (suc a + k) (suc b + k) m))
+      sym (and-assoc (eqb (lowerCase (getD text b 0)) (lowerCase (getD text a 0))) (sameFirst text (suc a) (suc b) k) (sameFirst text (suc a + k) (suc b + k) m)))
 
   same-one : (a b : ℕ) → sameFirst text a b 1 ≡ eqb (lowerCase (getD text b 0)) (lowerCase (getD text a 0))
   unfolding sameFirst sameWord inLowerCase window
@@ -223,10 +219,6 @@ module _ {text : List ℕ} {s e lower upper : ℕ} (E : Ending text s e lower up
 
 -- ---- the place of a word among words
 
-pub or-or : (x y z : Bool) → x || (y || z) ≡ (x || y) || z
-or-or true y z = refl
-or-or false y z = refl
-
 module _ (w : Word) where
   pub place-le : (ws : List Word) → placeOf w ws ≤ length ws
   unfolding placeOf
@@ -249,7 +241,7 @@ module _ (w : Word) where
   pub among-append : (ws vs : List Word) → among w (ws ++ vs) ≡ among w ws || among w vs
   unfolding among
   among-append [] vs = refl
-  among-append (v ∷ ws) vs = rw (among-append ws vs) (or-or (sameWord w v) (among w ws) (among w vs))
+  among-append (v ∷ ws) vs = rw (among-append ws vs) (sym (or-assoc (sameWord w v) (among w ws) (among w vs)))
 
   pub place-front : (ws vs : List Word) → among w ws ≡ true → placeOf w (ws ++ vs) ≡ placeOf w ws
   unfolding placeOf among

@@ -1,7 +1,7 @@
 -- Bytes are tested and words compared as the notation does it, and the tables of the reserved words give the number by which a word is a token.
 -- Assumes nothing.
 use mathlib.Core.Path.{_≡_, refl, sym, ap, _∙_, subst}
-use mathlib.Core.Bool.{Bool, true, false, cond, not, _&&_, _||_, or-false, and-true}
+use mathlib.Core.Bool.{Bool, true, false, cond, not, _&&_, _||_, or-false, and-true, and-false}
 use mathlib.Core.List.{List, [], _∷_, map}
 use mathlib.Core.Option.{Option, none, some}
 use Prim.Native.Nat.{ℕ, zero, suc, _+_, _*_, _-_, _≤_, _<_, max}
@@ -16,7 +16,7 @@ use Rattle.notation.specs.Bytes.{bytes, letter, wordByte, lowerCase, inLowerCas
 use Rattle.notation.specs.Tokens.{sign, Word, reserved, wordIn, plainWord, signOr, isNone, otherWord, wordToken, ZERO, ONE, OTHER, longestWord}
 use Rattle.notation.specs.Rules.{elem}
 use Rattle.notation.specs.Regular.{Every}
-use Rattle.notation.proofs.Booleans.{and-split, and-false}
+use Rattle.notation.proofs.Booleans.{and-split}
 use Rattle.notation.proofs.Members.{weaken, allPass, every-test}
 use Rattle.notation.proofs.Case.{lower-length}
 use Rattle.lexer.specs.working.Names.{upperCase}

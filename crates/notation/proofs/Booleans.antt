@@ -9,7 +9,3 @@ and-split false b e = (e, cc)
 
 pub and-join : (a b : Bool) → a ≡ true → b ≡ true → a && b ≡ true
 and-join a b p q = rw (p, q)
-
-pub and-false : (a : Bool) → a && false ≡ false
-and-false true = refl
-and-false false = refl

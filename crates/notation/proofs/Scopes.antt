@@ -1,7 +1,7 @@
 -- The names that a text uses are among those that it declares, so those of its model are in range.
 -- Assumes nothing.
 use mathlib.Core.Path.{_≡_, refl, sym, _∙_}
-use mathlib.Core.Bool.{Bool, true, false, cond, false≢true, _&&_, _||_, or-false}
+use mathlib.Core.Bool.{Bool, true, false, cond, false≢true, _&&_, _||_, or-false, or-assoc, and-false, and-or-distrib-left}
 use mathlib.Core.List.{List, [], _∷_, _++_, map}
 use mathlib.Core.Option.{Option, none, some}
 use Prim.Native.Nat.{ℕ, suc, _<_}
@@ -30,30 +30,18 @@ names-both (part r t ∷ ps) qs = rw (names-both ps qs) (go (view r .declared))
     go none = refl
     go (some s) = refl
 
-has-both : (f : Kind → Bool) (w : Word) (ns ms : List (Word × Kind)) → has (ns ++ ms) f w ≡ has ns f w || has ms f w
+pub has-both : (f : Kind → Bool) (w : Word) (ns ms : List (Word × Kind)) → has (ns ++ ms) f w ≡ has ns f w || has ms f w
 unfolding has
 has-both f w [] ms = refl
-has-both f w (n ∷ ns) ms = go (f (n .1) && sameWord w (n .0)) (has-both f w ns ms)
-  where
-    go : (x : Bool) → has (ns ++ ms) f w ≡ has ns f w || has ms f w → x || has (ns ++ ms) f w ≡ (x || has ns f w) || has ms f w
-    go true e = refl
-    go false e = e
+has-both f w (n ∷ ns) ms = rw (has-both f w ns ms) (sym (or-assoc (f (n .1) && sameWord w (n .0)) (has ns f w) (has ms f w)))
 
 parts-have : (f : Kind → Bool) (w : Word) (ps qs : List Part) → has (names (ps ++ qs)) f w ≡ has (names ps) f w || has (names qs) f w
 parts-have f w ps qs = rw (names-both ps qs) (has-both f w (names ps) (names qs))
 
 declared-have : (f : Kind → Bool) (w : Word) (s : Kind) (ns : List Name) → has (names (declared s ns)) f w ≡ f s && among w (wordsOf ns)
 unfolding names has view among
-declared-have f w s [] = go (f s)
-  where
-    go : (x : Bool) → false ≡ x && false
-    go true = refl
-    go false = refl
-declared-have f w s (n ∷ ns) = rw (declared-have f w s ns) (go (f s))
-  where
-    go : (x : Bool) → (x && sameWord w (n .word)) || (x && among w (wordsOf ns)) ≡ x && (sameWord w (n .word) || among w (wordsOf ns))
-    go true = refl
-    go false = refl
+declared-have f w s [] = sym (and-false (f s))
+declared-have f w s (n ∷ ns) = rw (declared-have f w s ns) (sym (and-or-distrib-left (f s) (sameWord w (n .word)) (among w (wordsOf ns))))
 
 -- The parts declare no shared name and no row name.
 abbrev Silent : List Part → Type 0

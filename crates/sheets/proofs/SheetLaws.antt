@@ -1,7 +1,7 @@
 -- Laws of records, of demands and of the shapes they lead to, over plain variables, as the proofs of the functions cite them.
 -- Assumes nothing.
 use mathlib.Core.Path.{_≡_, refl, sym, ap, _∙_}
-use mathlib.Core.Bool.{Bool, true, false, _&&_, not-eq-not}
+use mathlib.Core.Bool.{Bool, true, false, _&&_, and-true, not-eq-not}
 use mathlib.Core.List.{List, [], _∷_}
 use Prim.Native.Nat.{ℕ, suc, _+_, _-_, _*_, _/_, _^_, _<_, _≤_}
 use native.Mathlib.Omega.{arith}
@@ -18,10 +18,6 @@ use Rattle.sheets.specs.working.SheetReading.{Reading, refused, demand, 
 use Rattle.sheets.specs.working.Shapes.{shapeOf}
 use Rattle.sheets.specs.declared.shapes.Shape.{Shape}
 use Rattle.sheets.specs.declared.shapes.Shape.the-variants.{Bad, Map, Trace}
-
-and-true : (a : Bool) → a && true ≡ a
-and-true true = refl
-and-true false = refl
 
 three-split : (a b c : Bool) → a && (b && c) ≡ true → (a ≡ true) × (b ≡ true) × (c ≡ true)
 three-split a b c e =
