@@ -2,10 +2,10 @@
 -- Assumes nothing.
 use mathlib.Core.Path.{_≡_, refl, sym, ap, _∙_, subst}
 use mathlib.Core.List.{List, [], _∷_}
-use Prim.Native.Nat.{ℕ, zero, suc, _+_, _-_, _^_, _<_, _≤_}
+use Prim.Native.Nat.{ℕ, zero, suc, _+_, _-_, _*_, _^_, _<_, _≤_}
 use native.Mathlib.Omega.{arith}
 use native.Mathlib.Nat.{mod-lt}
-use lib.ListN.{getD, set, take}
+use lib.ListN.{length, getD, set, take}
 use lib.Pow.{pow-pos}
 use lib.Seq.{slice, getD-take, getD-set-other}
 use Rattle.evaluation.specs.working.CodeMachine.{runOf, startOf}
@@ -17,7 +17,9 @@ use Rattle.exploration.specs.working.Transitions.{Transitions, Lawful, m
 use Rattle.exploration.specs.working.Runs.{firstMove}
 use Rattle.exploration.specs.working.CodeTransitions.{transitionsIn}
 use Rattle.exploration.specs.working.Tables.{Ready, marked}
+use Rattle.exploration.specs.working.Trials.{wordsOf}
 use Rattle.exploration.proofs.Laws.{Tried, tried-refl}
+use Rattle.exploration.proofs.TrialCounts.{moves-count}
 
 pub step-picked : (ops : List ℕ) {ends : List ℕ} (bits s k w : ℕ) {from to x : ℕ} → Bounds ends (4 + k) from to
     → x ≡ afterOf (slice from to ops) s bits w → x ≡ nextIn ops ends bits s k w
@@ -62,3 +64,18 @@ unmet-next p s v n f i a h = getD-set-other p s i v 0 (λ (e : i ≡ s). omega a
 pub words-within : {plan : Plan} → Sound plan → (k : ℕ) → k < plan .commands → 2 ^ starsIn (plan .stars) k ≤ 256
 unfolding starsIn
 words-within {plan = plan} S k h = words-few S k (getD (plan .stars) k 0) (2 ^ getD (plan .stars) k 0) h refl refl .1
+
+-- And no state has more than 4096 moves.
+few-words : (words : ℕ → ℕ) (c n : ℕ) → ((k : ℕ) → k < c + n → words k ≤ 256) → wordsOf words c n ≤ 256 * n
+unfolding wordsOf
+few-words words c zero h = omega arith
+few-words words c (suc n) h = omega (arith, h c (omega arith), few-words words (c + 1) n (λ k l. h k (omega arith)))
+
+pub moves-few : (ops : List ℕ) (plan : Plan) → Sound plan → length (moves (transitionsIn ops plan)) ≤ 4096
+moves-few ops plan S =
+    omega (
+      arith,
+      moves-count (transitionsIn ops plan) 0 (plan .commands),
+      few-words (transitionsIn ops plan .words) 0 (plan .commands) (λ k h. words-within S k (omega arith)),
+      S .fewCommands,
+    )

@@ -200,7 +200,7 @@ place-before M ρ x G j head h b =
     (lt-or-ge j head)
 
 -- A step from a covered run.
-covered-step : (M : Transitions) (ρ : List Run) (r y : Run) (l : Move) → final M r ≡ final M y → AtMost r y → Covered M ρ (goesOn r l) → Covered M ρ (goesOn y l)
+pub covered-step : (M : Transitions) (ρ : List Run) (r y : Run) (l : Move) → final M r ≡ final M y → AtMost r y → Covered M ρ (goesOn r l) → Covered M ρ (goesOn y l)
 covered-step M ρ r y l e a c =
     (c .0, c .1, c .2 ∙ ap (λ (u : ℕ). M .step u (l .command) (l .word)) e, at-most-trans (at ρ (c .0)) (goesOn r l) (goesOn y l) (c .3) (at-most-then r y l a))
 
@@ -344,7 +344,7 @@ tries-then : (M : Transitions) (head s : ℕ) (d e : List Move) (o : Progress) (
 tries-then M head s d e (broke x) f t k = t
 tries-then M head s d e (through x) f t k = k x t
 
-tries-all : (M : Transitions) → Lawful M → (head s : ℕ) (done ms : List Move) → moves M ≡ done ++ ms → (x : Seen) → Going M head s done x → Tries M head s (moves M) (tryMoves M s ms x)
+pub tries-all : (M : Transitions) → Lawful M → (head s : ℕ) (done ms : List Move) → moves M ≡ done ++ ms → (x : Seen) → Going M head s done x → Tries M head s (moves M) (tryMoves M s ms x)
 unfolding tryMoves
 tries-all M law head s done [] split x W = rw (split, append-nil) W
 tries-all M law head s done (m ∷ ms) split x W =
@@ -369,7 +369,7 @@ abbrev pub Searched : Transitions → Progress → Type 0
 Searched M (broke x) = Ended M x
 Searched M (through x) = Closed M x
 
-next-head : (M : Transitions) (head s : ℕ) (x : Seen) → Going M head s (moves M) x → Between M (head + 1) x
+pub next-head : (M : Transitions) (head s : ℕ) (x : Seen) → Going M head s (moves M) x → Between M (head + 1) x
 next-head M head s x W =
     record {
       runs = W .runs;
@@ -399,7 +399,7 @@ closed M head x B h = record { runs = B .runs; good = B .good; reached = go }
         covered-step M (B .runs) (at (B .runs) (c .0)) y l (c .2) (c .3)
         (B .frontier .past (c .0) (omega (arith, c .1)) l (moves-has M 0 (M .commands) l (omega arith) (omega (arith, v .1 .0)) (v .1 .1)))
 
-queue-length : (M : Transitions) (ρ : List Run) (x : Seen) → Good M ρ x → length (x .queue) ≡ length ρ
+pub queue-length : (M : Transitions) (ρ : List Run) (x : Seen) → Good M ρ x → length (x .queue) ≡ length ρ
 queue-length M ρ x G = ap length (G .queue-is) ∙ length-map ρ (final M)
 
 searched-then : (M : Transitions) (head s : ℕ) (d : List Move) (o : Progress) (f : Seen → Progress) → Tries M head s d o
@@ -408,7 +408,7 @@ searched-then M head s d (broke x) f t k = t
 searched-then M head s d (through x) f t k = k x t
 
 module _ (M : Transitions) (law : Lawful M) (n head : ℕ) (x : Seen) (B : Between M head x) where
-  here-is : getD (x .queue) head 0 ≡ final M (at (B .runs) head)
+  pub here-is : getD (x .queue) head 0 ≡ final M (at (B .runs) head)
   here-is = ap (λ (l : List ℕ). getD l head 0) (B .good .queue-is) ∙ List·getD-map (final M) (B .runs) head (startsAt 0)
 
   explored-next : ((y : Seen) → Between M (head + 1) y → Searched M (explore M n (head + 1) y))
@@ -515,7 +515,7 @@ takes-then : (M : Transitions) (s t : ℕ) (o : Progress) (f : Seen → Progress
 takes-then M s t (broke x) f k g = k
 takes-then M s t (through x) f k g = g x k
 
-taken : (M : Transitions) (n s : ℕ) (x : Seen) → s + n ≡ M .size → Starting M s x → Takes M (M .size) (takeIn M n s x)
+pub taken : (M : Transitions) (n s : ℕ) (x : Seen) → s + n ≡ M .size → Starting M s x → Takes M (M .size) (takeIn M n s x)
 unfolding takeIn
 taken M zero s x h S = let e : s ≡ M .size = omega arith in subst (λ (t : ℕ). Starting M t x) e S
 taken M (suc n) s x h S =
@@ -523,7 +523,7 @@ taken M (suc n) s x h S =
     (take-one M s x S (omega arith) (M .starts s) refl)
     (λ y N. taken M n (s + 1) y (omega arith) N)
 
-starting : (M : Transitions) → Starting M 0 (record { queue = []; parent = replicate (M .size) 0 })
+pub starting : (M : Transitions) → Starting M 0 (record { queue = []; parent = replicate (M .size) 0 })
 starting M =
     record {
       runs = [];
@@ -543,8 +543,8 @@ starting M =
       starts = λ t h. absurd (omega arith);
     }
 
-begun : (M : Transitions) (x : Seen) → Starting M (M .size) x → Between M 0 x
-begun M x S =
+pub queue-begun : (M : Transitions) (x : Seen) → Starting M (M .size) x → Between M 0 x
+queue-begun M x S =
     record {
       runs = S .runs;
       good = S .good;
@@ -567,4 +567,4 @@ unfolding search
 searched M law =
     search-from M (takeIn M (M .size) 0 (record { queue = []; parent = replicate (M .size) 0 })) (explore M (M .size) 0)
     (taken M (M .size) 0 (record { queue = []; parent = replicate (M .size) 0 }) (omega arith) (starting M))
-    (λ y N. explored M law (M .size) 0 y (omega arith) (begun M y N))
+    (λ y N. explored M law (M .size) 0 y (omega arith) (queue-begun M y N))

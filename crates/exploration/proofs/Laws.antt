@@ -7,14 +7,14 @@ use mathlib.Core.List.{List, [], _∷_, _++_}
 use native.Mathlib.Omega.{arith}
 use native.Mathlib.Numerals.{add-one}
 use lib.ListN.{length, getD, set, take, drop, length-set, length-append, length-drop, length-replicate, replicate}
-use lib.Seq.{length-take-le, take-suc-set, take-set-lt, drop-set-lt, getD-take, getD-set-same, getD-set-other, take-at, drop-at}
+use lib.Seq.{drop-drop, length-take-le, take-suc-set, take-set-lt, drop-set-lt, getD-take, getD-set-same, getD-set-other, take-at, drop-at}
 use borrow.Author.Count.{below-more}
 use borrow.Author.Tests.{eq-eqb, ne-eqb, lt-ltb, le-ltb}
 use Rattle.exploration.specs.working.Transitions.{Transitions, Move, moveOf, wordsFrom, movesFrom, moves}
-use Rattle.exploration.specs.working.Exploring.{Seen, Progress, broke, through, andThen, progress, meet, tryMoves, takeIn, explore, search}
+use Rattle.exploration.specs.working.Exploring.{Seen, Progress, broke, through, andThen, progress, meet, tryMoves, takeIn, begun, explore, placeAfter, placeFrom, search}
 use Rattle.exploration.specs.working.Trials.{Trial, trialOf, afterwards, trialsWith, trialsFrom, trials}
 use Rattle.exploration.specs.working.Runs.{firstMove}
-use Rattle.exploration.specs.working.Tables.{seen, marked, Ready, Kept, Explored, Meets, Took, Ran}
+use Rattle.exploration.specs.working.Tables.{seen, marked, Ready, Kept, Explored, Meets, Took, Began, Ran}
 
 -- Entries that are not 0.
 
@@ -41,15 +41,23 @@ count-le M q n p R = omega (arith, R .counted, marked-le (take (M .size) p), len
 
 -- The frame: tables that are ready, as long as they were, and unchanged from `size` on.
 
-pub kept-refl : (M : Transitions) (q : List ℕ) (n : ℕ) (p : List ℕ) → Ready M q n p → Kept M q p q n p
-kept-refl M q n p R = record { ready = R; few = count-le M q n p R; queue-rest = refl; parent-rest = refl; queue-length = refl; parent-length = refl }
+pub kept-refl : (M : Transitions) (q : List ℕ) (n : ℕ) (p : List ℕ) → Ready M q n p → Kept M q n p q n p
+kept-refl M q n p R = record { ready = R; few = count-le M q n p R; more = omega arith; queue-rest = refl; parent-rest = refl; queue-length = refl; parent-length = refl }
 
-pub kept-trans : {M : Transitions} {q₀ p₀ q₁ p₁ q₂ p₂ : List ℕ} {n₁ n₂ : ℕ} → Kept M q₀ p₀ q₁ n₁ p₁ → Kept M q₁ p₁ q₂ n₂ p₂ → Kept M q₀ p₀ q₂ n₂ p₂
-kept-trans a b =
+-- What is the same from a place on is the same from a later one on.
+pub drop-later : (m n : ℕ) (l k : List ℕ) → m ≤ n → drop m l ≡ drop m k → drop n l ≡ drop n k
+drop-later m n l k h e =
+    let f : n ≡ m + (n - m) = omega arith in
+    subst (λ (i : ℕ). drop i l ≡ drop i k) (sym f) (sym (drop-drop (n - m) m l) ∙ ap (drop (n - m)) e ∙ drop-drop (n - m) m k)
+
+pub kept-trans : {M : Transitions} {q₀ : List ℕ} {n₀ : ℕ} {p₀ q₁ : List ℕ} {n₁ : ℕ} {p₁ q₂ : List ℕ} {n₂ : ℕ} {p₂ : List ℕ}
+    → Kept M q₀ n₀ p₀ q₁ n₁ p₁ → Kept M q₁ n₁ p₁ q₂ n₂ p₂ → Kept M q₀ n₀ p₀ q₂ n₂ p₂
+kept-trans {M} {q₀} {n₀} {p₀} {q₁} {n₁} {p₁} {q₂} {n₂} {p₂} a b =
     record {
       ready = b .ready;
       few = b .few;
-      queue-rest = b .queue-rest ∙ a .queue-rest;
+      more = omega (arith, a .more, b .more);
+      queue-rest = b .queue-rest ∙ drop-later n₁ n₂ q₁ q₀ (b .more) (a .queue-rest);
       parent-rest = b .parent-rest ∙ a .parent-rest;
       queue-length = b .queue-length ∙ a .queue-length;
       parent-length = b .parent-length ∙ a .parent-length;
@@ -81,7 +89,7 @@ module _ (M : Transitions) (q : List ℕ) (n : ℕ) (p : List ℕ) (R : Ready M 
     below-pushed = below-more (λ (i : ℕ). getD (set q n t) i 0 < M .size) n (λ k h. rw (getD-set-other q n k t 0 (omega arith)) (R .below k h))
         (rw (getD-set-same q n t 0 (omega (arith, room, R .queue-room))) ht)
 
-    pub kept-pushed : Kept M q p (set q n t) (n + 1) (set p t (s + 1))
+    pub kept-pushed : Kept M q n p (set q n t) (n + 1) (set p t (s + 1))
     kept-pushed =
         record {
           ready =
@@ -92,7 +100,8 @@ module _ (M : Transitions) (q : List ℕ) (n : ℕ) (p : List ℕ) (R : Ready M 
                 below = below-pushed;
               };
           few = omega (arith, room);
-          queue-rest = drop-set-lt (M .size) q n t room;
+          more = omega arith;
+          queue-rest = drop-set-lt (n + 1) q n t (omega arith);
           parent-rest = drop-set-lt (M .size) p t (s + 1) ht;
           queue-length = length-set q n t;
           parent-length = length-set p t (s + 1);
@@ -146,13 +155,13 @@ trials-append M s (m ∷ a) b x = ap (λ l. trialOf s m ∷ l) (go (λ y. trials
 
 -- What is left to try, ms, at the tables now gives what ms₀ gave at the tables then; with what is left, the trials are as many, counted from j₀ then and from j now.
 pub record Tried (M : Transitions) (s : ℕ) (ms₀ : List Move) (q₀ : List ℕ) (n₀ : ℕ) (p₀ : List ℕ) (j₀ : ℕ) (ms : List Move) (q : List ℕ) (n : ℕ) (p : List ℕ) (j : ℕ) : Type 0 where
-  pub kept : Kept M q₀ p₀ q n p
+  pub kept : Kept M q₀ n₀ p₀ q n p
   pub same : tryMoves M s ms (seen M q n p) ≡ tryMoves M s ms₀ (seen M q₀ n₀ p₀)
   pub many : j + length (trialsWith M s ms (seen M q n p)) ≡ j₀ + length (trialsWith M s ms₀ (seen M q₀ n₀ p₀))
 
 -- The moves ms₀ from the tables then broke, and left the tables as they are now, after so many trials.
 pub record Broke (M : Transitions) (s : ℕ) (ms₀ : List Move) (q₀ : List ℕ) (n₀ : ℕ) (p₀ : List ℕ) (j₀ : ℕ) (q : List ℕ) (n : ℕ) (p : List ℕ) (j : ℕ) : Type 0 where
-  pub kept : Kept M q₀ p₀ q n p
+  pub kept : Kept M q₀ n₀ p₀ q n p
   pub same : broke (seen M q n p) ≡ tryMoves M s ms₀ (seen M q₀ n₀ p₀)
   pub many : j ≡ j₀ + length (trialsWith M s ms₀ (seen M q₀ n₀ p₀))
 
@@ -186,7 +195,7 @@ module _ {M : Transitions} {s : ℕ} {ms₀ : List Move} {q₀ : List ℕ} {n₀
       }
 
   module _ (new : getD p t 0 ≡ 0) where
-    kept-new : Kept M q₀ p₀ (set q n t) (n + 1) (set p t (s + 1))
+    kept-new : Kept M q₀ n₀ p₀ (set q n t) (n + 1) (set p t (s + 1))
     kept-new = kept-trans (T .kept) (kept-pushed M q n p (T .kept .ready) s t ht new)
 
     met-new : andThen (progress (M .breaks t) (seen M (set q n t) (n + 1) (set p t (s + 1)))) (tryMoves M s rest) ≡ tryMoves M s ms₀ (seen M q₀ n₀ p₀)
@@ -239,19 +248,25 @@ unfolding explore
 explore-end M zero head x h = refl
 explore-end M (suc f) head x h = rw (le-ltb head (length (x .queue)) h)
 
-trials-end : (M : Transitions) (f head : ℕ) (x : Seen) → length (x .queue) ≤ head → trialsFrom M f head x ≡ []
+pub trials-end : (M : Transitions) (f head : ℕ) (x : Seen) → length (x .queue) ≤ head → trialsFrom M f head x ≡ []
 unfolding trialsFrom
 trials-end M zero head x h = refl
 trials-end M (suc f) head x h = rw (le-ltb head (length (x .queue)) h)
 
+pub place-end : (M : Transitions) (f head : ℕ) (x : Seen) → length (x .queue) ≤ head → placeFrom M f head x ≡ head
+unfolding placeFrom
+place-end M zero head x h = refl
+place-end M (suc f) head x h = rw (le-ltb head (length (x .queue)) h)
+
 -- What is left of the queue, from `head` on, gives what all of it gave from `from` on; j trials were made since.
 pub record Gone (M : Transitions) (from most : ℕ) (q₀ : List ℕ) (n₀ : ℕ) (p₀ : List ℕ) (head left : ℕ) (q : List ℕ) (n : ℕ) (p : List ℕ) (j : ℕ) : Type 0 where
-  pub kept : Kept M q₀ p₀ q n p
+  pub kept : Kept M q₀ n₀ p₀ q n p
   pub same : explore M left head (seen M q n p) ≡ explore M most from (seen M q₀ n₀ p₀)
+  pub far : placeFrom M left head (seen M q n p) ≡ placeFrom M most from (seen M q₀ n₀ p₀)
   pub many : j + length (trialsFrom M left head (seen M q n p)) ≡ length (trialsFrom M most from (seen M q₀ n₀ p₀))
 
 pub gone-refl : (M : Transitions) (from most : ℕ) (q : List ℕ) (n : ℕ) (p : List ℕ) → Ready M q n p → Gone M from most q n p from most q n p 0
-gone-refl M from most q n p R = record { kept = kept-refl M q n p R; same = refl; many = omega arith }
+gone-refl M from most q n p R = record { kept = kept-refl M q n p R; same = refl; far = refl; many = omega arith }
 
 module _ {M : Transitions} {from most : ℕ} {q₀ : List ℕ} {n₀ : ℕ} {p₀ : List ℕ} {head left : ℕ} {q : List ℕ} {n : ℕ} {p : List ℕ} {j : ℕ}
     (G : Gone M from most q₀ n₀ p₀ head left q n p j)
@@ -266,6 +281,13 @@ module _ {M : Transitions} {from most : ℕ} {q₀ : List ℕ} {n₀ : ℕ} {p�
       expanded =
           let e : left ≡ suc (left - 1) = omega arith in
           rw (queue-count, lt-ltb head n h, getD-take n q head 0 h) at (subst (λ (k : ℕ). explore M k head (seen M q n p) ≡ explore M most from (seen M q₀ n₀ p₀)) e (G .same))
+
+      -- How far that goes.
+      passed : placeAfter (tryMoves M (getD q head 0) (moves M) (seen M q n p)) head (placeFrom M (left - 1) (head + 1)) ≡ placeFrom M most from (seen M q₀ n₀ p₀)
+      unfolding placeFrom
+      passed =
+          let e : left ≡ suc (left - 1) = omega arith in
+          rw (queue-count, lt-ltb head n h, getD-take n q head 0 h) at (subst (λ (k : ℕ). placeFrom M k head (seen M q n p) ≡ placeFrom M most from (seen M q₀ n₀ p₀)) e (G .far))
 
       -- Its trials, and those that are left then.
       here : List Trial
@@ -288,27 +310,28 @@ module _ {M : Transitions} {from most : ℕ} {q₀ : List ℕ} {n₀ : ℕ} {p�
       unfolding tryMoves trialsWith here there
       gone-next U =
           let x = rw (← U .same) at trials-expanded in
-          record { kept = kept-trans (G .kept) (U .kept); same = rw (← U .same) at expanded; many = omega (arith, x, U .many) }
+          record { kept = kept-trans (G .kept) (U .kept); same = rw (← U .same) at expanded; far = rw (← U .same) at passed; many = omega (arith, x, U .many) }
 
       pub gone-broke : {q₁ : List ℕ} {n₁ : ℕ} {p₁ : List ℕ} {j₁ : ℕ} → Broke M (getD q head 0) (moves M) q n p j q₁ n₁ p₁ j₁
-          → Explored M from most q₀ n₀ p₀ q₁ n₁ p₁ true j₁
+          → Explored M from most q₀ n₀ p₀ q₁ n₁ p₁ true head j₁
       unfolding here there
       gone-broke U =
           let x = rw (← U .same) at trials-expanded in
-          record { kept = kept-trans (G .kept) (U .kept); what = rw (← U .same) at expanded; tried = omega (arith, x, U .many) }
+          record { kept = kept-trans (G .kept) (U .kept); what = rw (← U .same) at expanded; place = rw (← U .same) at passed; tried = omega (arith, x, U .many) }
 
     -- The queue is at its end, or no state is left to go through.
-    pub gone-end : n ≤ head → Explored M from most q₀ n₀ p₀ q n p false j
+    pub gone-end : n ≤ head → Explored M from most q₀ n₀ p₀ q n p false head j
     gone-end h =
         record {
           kept = G .kept;
           what = sym (explore-end M left head (seen M q n p) (rw queue-count h)) ∙ G .same;
+          place = sym (place-end M left head (seen M q n p) (rw queue-count h)) ∙ G .far;
           tried = omega (arith, G .many, ap length (trials-end M left head (seen M q n p) (rw queue-count h)));
         }
 
-    pub gone-enough : left ≡ 0 → Explored M from most q₀ n₀ p₀ q n p false j
-    unfolding explore trialsFrom
-    gone-enough e = let x = rw e at (G .many) in record { kept = G .kept; what = rw e at (G .same); tried = omega (arith, x) }
+    pub gone-enough : left ≡ 0 → Explored M from most q₀ n₀ p₀ q n p false head j
+    unfolding explore placeFrom trialsFrom
+    gone-enough e = let x = rw e at (G .many) in record { kept = G .kept; what = rw e at (G .same); place = rw e at (G .far); tried = omega (arith, x) }
 
 -- The loops' own steps.
 
@@ -339,7 +362,7 @@ commands-done {M} c n le ge T = let f : c ≡ n = omega arith in rw (f, moves-no
 -- The start states.
 
 pub record Taking (M : Transitions) (q₀ p₀ : List ℕ) (s : ℕ) (q : List ℕ) (n : ℕ) (p : List ℕ) : Type 0 where
-  pub kept : Kept M q₀ p₀ q n p
+  pub kept : Kept M q₀ 0 p₀ q n p
   pub same : takeIn M (M .size - s) s (seen M q n p) ≡ takeIn M (M .size) 0 (seen M q₀ 0 p₀)
 
 pub taking-refl : (M : Transitions) (q p : List ℕ) → Ready M q 0 p → Taking M q p 0 q 0 p
@@ -383,7 +406,7 @@ module _ (M : Transitions) (q p₀ p : List ℕ) (e : p ≡ replicate (M .size) 
   cleared-length = ap length e ∙ length-append (replicate (M .size) 0) (drop (M .size) p₀)
       ∙ ap (λ (k : ℕ). k + length (drop (M .size) p₀)) (length-replicate (M .size) 0) ∙ omega (arith, length-drop (M .size) p₀)
 
-  pub cleared : Kept M q p₀ q 0 p
+  pub cleared : Kept M q 0 p₀ q 0 p
   cleared =
       record {
         ready =
@@ -394,30 +417,36 @@ module _ (M : Transitions) (q p₀ p : List ℕ) (e : p ≡ replicate (M .size) 
               below = λ i h. omega arith;
             };
         few = omega arith;
+        more = omega arith;
         queue-rest = refl;
         parent-rest = ap (drop (M .size)) e ∙ drop-at (replicate (M .size) 0) (drop (M .size) p₀) (M .size) (length-replicate (M .size) 0);
         queue-length = refl;
         parent-length = cleared-length;
       }
 
-  taken-in : {q₁ : List ℕ} {n₁ : ℕ} {p₁ : List ℕ} {b : Bool} → Took M q p q₁ n₁ p₁ b → andThen (progress b (seen M q₁ n₁ p₁)) (explore M (M .size) 0) ≡ search M
+  -- The start states taken into cleared tables.
+  pub began : {q₁ : List ℕ} {n₁ : ℕ} {p₁ : List ℕ} {b : Bool} → Took M q p q₁ n₁ p₁ b → Began M q p₀ q₁ n₁ p₁ b
+  began T = record { kept = kept-trans cleared (T .kept); what = T .what ∙ ap (λ (l : List ℕ). takeIn M (M .size) 0 (record { queue = []; parent = l })) cleared-front }
+
+module _ {M : Transitions} {q₀ p₀ q₁ : List ℕ} {n₁ : ℕ} {p₁ : List ℕ} {b : Bool} (B : Began M q₀ p₀ q₁ n₁ p₁ b) where
+  taken-in : andThen (progress b (seen M q₁ n₁ p₁)) (explore M (M .size) 0) ≡ search M
   unfolding search
-  taken-in T = rw (T .what, cleared-front)
+  taken-in = ap (λ o. andThen o (explore M (M .size) 0)) (B .what)
 
-  trials-taken : {q₁ : List ℕ} {n₁ : ℕ} {p₁ : List ℕ} {b : Bool} → Took M q p q₁ n₁ p₁ b → afterwards (progress b (seen M q₁ n₁ p₁)) (trialsFrom M (M .size) 0) ≡ trials M
+  trials-taken : afterwards (progress b (seen M q₁ n₁ p₁)) (trialsFrom M (M .size) 0) ≡ trials M
   unfolding trials
-  trials-taken T = rw (T .what, cleared-front)
+  trials-taken = ap (λ o. afterwards o (trialsFrom M (M .size) 0)) (B .what)
 
-  pub ran-broke : {q₁ : List ℕ} {n₁ : ℕ} {p₁ : List ℕ} {b : Bool} → Took M q p q₁ n₁ p₁ b → b ≡ true → Ran M q p₀ q₁ n₁ p₁ b 0
-  ran-broke T f = record { kept = kept-trans cleared (T .kept); what = rw f (rw f at (taken-in T)); tried = ap length (rw f at (trials-taken T)) }
+  pub ran-broke : b ≡ true → Ran M q₀ p₀ q₁ n₁ p₁ b 0
+  ran-broke f = record { kept = B .kept; what = rw f (rw f at taken-in); tried = ap length (rw f at trials-taken) }
 
-  pub ran-on : {q₁ : List ℕ} {n₁ : ℕ} {p₁ : List ℕ} {b : Bool} → Took M q p q₁ n₁ p₁ b → b ≡ false → {q₂ : List ℕ} {n₂ : ℕ} {p₂ : List ℕ} {d : Bool} {j : ℕ}
-      → Explored M 0 (M .size) q₁ n₁ p₁ q₂ n₂ p₂ d j → Ran M q p₀ q₂ n₂ p₂ d j
-  ran-on T f E =
+  pub ran-on : b ≡ false → {q₂ : List ℕ} {n₂ : ℕ} {p₂ : List ℕ} {d : Bool} {head j : ℕ}
+      → Explored M 0 (M .size) q₁ n₁ p₁ q₂ n₂ p₂ d head j → Ran M q₀ p₀ q₂ n₂ p₂ d j
+  ran-on f E =
       record {
-        kept = kept-trans (kept-trans cleared (T .kept)) (E .kept);
-        what = E .what ∙ (rw f at (taken-in T));
-        tried = E .tried ∙ ap length (rw f at (trials-taken T));
+        kept = kept-trans (B .kept) (E .kept);
+        what = E .what ∙ (rw f at taken-in);
+        tried = E .tried ∙ ap length (rw f at trials-taken);
       }
 
 -- The first move from s to t.

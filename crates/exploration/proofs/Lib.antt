@@ -19,3 +19,8 @@ pub mod MapsAlike
 pub mod FindsOnce
 pub mod FoundShort
 pub mod CodeSteps
+pub mod Portions
+pub mod Invariants
+pub mod Pauses
+pub mod Recorded
+pub mod Judging

@@ -54,7 +54,7 @@ unfolding wordsFrom
 words-count c w zero = refl
 words-count c w (suc n) = ap suc (words-count c (w + 1) n)
 
-moves-count : (M : Transitions) (c n : ℕ) → length (movesFrom M c n) ≡ wordsOf (M .words) c n
+pub moves-count : (M : Transitions) (c n : ℕ) → length (movesFrom M c n) ≡ wordsOf (M .words) c n
 unfolding movesFrom wordsOf
 moves-count M c zero = refl
 moves-count M c (suc n) =
@@ -94,7 +94,7 @@ moves-are T m A =
     ap (λ n. length (movesFrom T 0 n)) (A .commands) ∙ moves-count T 0 (length (m .commands)) ∙ words-are (T .words) m (A .words)
 
 -- The members of the map that a table of parents makes are the entries that are not 0.
-marked-next : (l : List ℕ) (i : ℕ) → i < length l → marked (take (suc i) l) ≡ marked (take i l) + cond (ltb 0 (getD l i 0)) 1 0
+pub marked-next : (l : List ℕ) (i : ℕ) → i < length l → marked (take (suc i) l) ≡ marked (take i l) + cond (ltb 0 (getD l i 0)) 1 0
 unfolding marked
 marked-next [] i h = absurd (omega arith)
 marked-next (zero ∷ l) zero h = refl
@@ -167,7 +167,7 @@ few-after : (o : Progress) (f : Seen → List Trial) (n : ℕ) → ((y : Seen) �
 few-after (broke y) f n h = omega arith
 few-after (through y) f n h = h y
 
-few-with : (M : Transitions) (s : ℕ) (ms : List Move) (x : Seen) → length (trialsWith M s ms x) ≤ length ms
+pub few-with : (M : Transitions) (s : ℕ) (ms : List Move) (x : Seen) → length (trialsWith M s ms x) ≤ length ms
 unfolding trialsWith
 few-with M s [] x = omega arith
 few-with M s (m ∷ ms) x =

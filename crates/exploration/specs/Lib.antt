@@ -3,5 +3,6 @@ pub mod Order
 pub mod Findings
 pub mod Members
 pub mod Trials
+pub mod Pause
 pub mod working
 pub mod Promises

@@ -5,6 +5,7 @@ pub mod Trials
 pub mod Runs
 pub mod Results
 pub mod Tables
+pub mod Pauses
 pub mod Written
 pub mod Found
 pub mod CodeTransitions

@@ -2,3 +2,4 @@
 pub mod SheetsFound
 pub mod SearchesLeft
 pub mod SearchTexts
+pub mod PausesHeld

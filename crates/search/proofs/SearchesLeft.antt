@@ -18,16 +18,21 @@ use Rattle.sheets.specs.working.SheetReading.{countsIn}
 use Rattle.sheets.specs.working.FlatSystem.{systemIn}
 use Rattle.exploration.specs.working.Transitions.{Transitions, Lawful}
 use Rattle.exploration.specs.working.CodeTransitions.{transitionsIn}
-use Rattle.exploration.specs.working.Tables.{Ran}
+use Rattle.exploration.specs.working.Exploring.{Progress, progress, search}
+use Rattle.exploration.specs.working.Results.{result}
+use Rattle.exploration.specs.working.Tables.{seen, Kept, Ran}
 use Rattle.exploration.specs.working.Trials.{trialCount}
-use Rattle.exploration.specs.working.Written.{headBytes, runBytes, mapFrom, RecordedTo, TraceStored}
+use Rattle.exploration.specs.working.Written.{headBytes, runBytes, mapFrom, RecordedTo, Closing, TraceStored}
+use Rattle.meaning.specs.Evidence.{Verdict}
 use Rattle.verdicts.specs.Left.{Left}
-use Rattle.verdicts.specs.working.Searching.{roomy, foundBy, leftAlone, searchFor}
+use Rattle.verdicts.specs.working.Searching.{roomy, leftWith, leftBy, foundBy, leftAlone}
 use Rattle.search.specs.working.Ends.{Ends}
 use Rattle.verdicts.specs.declared.finding.Finding.{Finding}
 use Rattle.verdicts.specs.declared.finding.Finding.the-variants.{Safe, Void, Unsafe, Refused}
+use Rattle.exploration.specs.working.Found.{foundIn}
 use Rattle.exploration.proofs.CodeSteps.{code-lawful}
-use Rattle.exploration.proofs.Whole.{queue-cleared, parent-cleared, ran-some, ran-recorded, lastRun, ran-unsafe, mapLeft, ran-void, ran-safe}
+use Rattle.exploration.proofs.Laws.{count-le}
+use Rattle.exploration.proofs.Whole.{queue-cleared, parent-cleared, lastRun, closed-unsafe, mapLeft, closed-void, closed-safe}
 use Rattle.exploration.proofs.TraceSteps.{steps-count}
 use Rattle.exploration.proofs.Map.{map-length}
 use Rattle.search.proofs.SheetsFound.{trace-left, safe-map-left, void-map-left}
@@ -85,70 +90,91 @@ module _ (ops : List ℕ) (plan : Plan) (S : Sound plan) (states : ℕ) (e : sta
         map-asked m s o₂ g =
             (s, length-small (plan .bits) states n (S .fewBits) e f, omega (arith, map-room, ap length g, length-sets o₁ at (headBytes n 2)))
 
-      module _ {q₀ p₀ q p : List ℕ} {n : ℕ} {b : Bool} {j : ℕ} (R : Ran T q₀ p₀ q n p b j) where
+      module _ {q : List ℕ} {n : ℕ} {p : List ℕ} {b : Bool} (C : Closing T q n p b) (j : ℕ) where
         pub second-room : states ≤ length p
-        second-room = rw e (R .kept .ready .parent-room)
+        second-room = rw e (C .ready .parent-room)
 
-        pub last-some : b ≡ true → 1 ≤ n
-        last-some f = ran-some law R f
+        pub count-few : n ≤ 4096
+        count-few = omega (arith, count-le T q n p (C .ready), pow-small (plan .bits) (2 ^ plan .bits) (S .fewBits) refl)
 
         pub last-within : b ≡ true → n - 1 < length q
-        last-within f = let a = last-some f in let d = R .kept .few in let g = R .kept .ready .queue-room in omega arith
+        last-within f = let a = C .some f in let d = count-le T q n p (C .ready) in let g = C .ready .queue-room in omega arith
 
         pub trace-asked : b ≡ true
             → Sound plan × (2 ^ plan .bits ≤ length p) × RecordedTo T (take (2 ^ plan .bits) p) (getD q (n - 1) 0) × (at + 10 * 2 ^ plan .bits ≤ length o₁ + 2)
-        trace-asked f = (S, R .kept .ready .parent-room, ran-recorded law R f, omega (arith, room, e, header-kept))
+        trace-asked f = (S, C .ready .parent-room, C .recorded f, omega (arith, room, e, header-kept))
+
+        -- What is to be left.
+        abbrev Due : Left
+        Due = leftBy M (progress b (seen T q n p)) j q p o₀
 
         sized : (l l₁ : List ℕ) → l₁ ≡ replicate states 0 ++ drop states l → l₁ ≡ replicate (2 ^ plan .bits) 0 ++ drop (2 ^ plan .bits) l
         sized l l₁ h = subst (λ (k : ℕ). l₁ ≡ replicate k 0 ++ drop k l) e h
 
         module _ {q₁ p₁ : List ℕ} (eq : q₁ ≡ replicate states 0 ++ drop states q) (ep : p₁ ≡ replicate states 0 ++ drop states p) where
-          pub unsafe-left : b ≡ true → {o : List ℕ} {len : ℕ} → TraceStored T p (getD q (n - 1) 0) at o₁ o len → Ends (foundBy M q₀ p₀ o₀) (Unsafe len) q₁ p₁ o
+          pub unsafe-left : b ≡ true → {o : List ℕ} {len : ℕ} → TraceStored T p (getD q (n - 1) 0) at o₁ o len → Ends Due (Unsafe len) q₁ p₁ o
           unfolding headerBytes recordBytes little runBytes
           unsafe-left f w =
-              trace-left M o₀ header q₀ p₀ (queue-cleared law R (sized q q₁ eq)) (parent-cleared law R (sized p p₁ ep)) (trialCount T) (ran-unsafe law R f) (w .bytes)
-              (w .ends ∙ ap (λ (k : ℕ). at + 8 + 10 * k) (sym (steps-count T (lastRun law R f))))
+              trace-left M o₀ header q p (sized q q₁ eq) (sized p p₁ ep) j (closed-unsafe C f) (w .bytes)
+              (w .ends ∙ ap (λ (k : ℕ). at + 8 + 10 * k) (sym (steps-count T (lastRun C))))
 
           module _ (f : b ≡ false) {k : ℕ} (g : k ≡ mapLength states) {o₂ o : List ℕ} (x : o₂ ≡ sets o₁ at (headBytes k 2))
               (y : o ≡ sets o₂ (at + 6) (mapFrom (map (ltb 0) (take states p)) 0 k)) where
             counted : k ≡ mapLength (2 ^ plan .bits)
             counted = g ∙ ap mapLength e
 
-            long : k ≡ length (mapLeft law R)
+            long : k ≡ length (mapLeft C)
             long = counted ∙ sym (map-length (map (ltb 0) (take (2 ^ plan .bits) p)) 0 (mapLength (2 ^ plan .bits)))
 
-            stored : o ≡ sets o₂ (at + 6) (mapLeft law R)
+            stored : o ≡ sets o₂ (at + 6) (mapLeft C)
             stored =
                 y
                 ∙ ap (λ (u : ℕ). sets o₂ (at + 6) (mapFrom (map (ltb 0) (take u p)) 0 k)) e
                 ∙ ap (λ (u : ℕ). sets o₂ (at + 6) (mapFrom (map (ltb 0) (take (2 ^ plan .bits) p)) 0 u)) counted
 
-            pub void-left : n ≡ 0 → Ends (foundBy M q₀ p₀ o₀) (Void (at + 6 + k)) q₁ p₁ o
+            pub void-left : n ≡ 0 → Ends Due (Void (at + 6 + k)) q₁ p₁ o
             unfolding headerBytes recordBytes little
-            void-left z =
-                void-map-left M o₀ header q₀ p₀ (queue-cleared law R (sized q q₁ eq)) (parent-cleared law R (sized p p₁ ep)) long x stored (trialCount T) (ran-void law R f z)
+            void-left z = void-map-left M o₀ header q p (sized q q₁ eq) (sized p p₁ ep) long x stored j (closed-void C f z)
 
-            pub safe-left : 0 < n → Ends (foundBy M q₀ p₀ o₀) (Safe (at + 6 + k) j) q₁ p₁ o
+            pub safe-left : 0 < n → Ends Due (Safe (at + 6 + k) j) q₁ p₁ o
             unfolding headerBytes recordBytes little
-            safe-left z =
-                safe-map-left M o₀ header q₀ p₀ (queue-cleared law R (sized q q₁ eq)) (parent-cleared law R (sized p p₁ ep)) long x stored (trialCount T) (R .tried) (ran-safe law R f z)
+            safe-left z = safe-map-left M o₀ header q p (sized q q₁ eq) (sized p p₁ ep) long x stored j refl (closed-safe C f z)
+
+    -- What is left hangs on tables only beyond their states.
+    pub left-kept : {q₀ : List ℕ} {n₀ : ℕ} {p₀ q : List ℕ} {n : ℕ} {p : List ℕ} → Kept T q₀ n₀ p₀ q n p → (v : Verdict) (t : ℕ)
+        → leftWith M v t q p o₀ ≡ leftWith M v t q₀ p₀ o₀
+    left-kept {q₀} {n₀} {p₀} {q} {n} {p} K v t = λ i.
+        record { answer = leftWith M v t q p o₀ .answer; first = queue-cleared K i; second = parent-cleared K i; sheet = leftWith M v t q p o₀ .sheet }
+
+    -- Where the whole search was run, that is what the search finds.
+    pub run-left : {q₀ p₀ q p : List ℕ} {n : ℕ} {b : Bool} {j : ℕ} → Ran T q₀ p₀ q n p b j → {r : Finding} {q₁ p₁ o : List ℕ}
+        → Ends (leftBy M (progress b (seen T q n p)) j q p o₀) r q₁ p₁ o → Ends (foundBy M q₀ p₀ o₀) r q₁ p₁ o
+    unfolding foundIn result
+    run-left {q₀} {p₀} {q} {p} {n} {b} {j} R {r} {q₁} {p₁} {o} l =
+        subst (λ (L : Left). Ends L r q₁ p₁ o)
+        (ap (λ (u : Progress). leftBy M u j q p o₀) (R .what)
+        ∙ ap (λ (k : ℕ). leftBy M (search T) k q p o₀) (R .tried)
+        ∙ left-kept (R .kept) (foundIn T) (trialCount T))
+        l
 
 -- A test that fails, or that holds, first.
-and-first : (a b : Bool) → a ≡ false → a && b ≡ false
+pub and-first : (a b : Bool) → a ≡ false → a && b ≡ false
 and-first a b e = rw e
 
-and-second : {c : Bool} (a b : Bool) → a ≡ true → b ≡ c → a && b ≡ c
+pub and-second : {c : Bool} (a b : Bool) → a ≡ true → b ≡ c → a && b ≡ c
 and-second a b e f = rw e f
 
--- Whether there is room.
-module _ (M : System) (states : ℕ) (e : states ≡ size M) (q p o : List ℕ) where
-  no-room : roomy M q p o ≡ false → Ends (searchFor M q p o) (Refused 8 0) q p o
-  unfolding searchFor
+-- Whether there is room: where there is none, the call is refused, and else it leaves what is due.
+module _ (M : System) (due : Left) (states : ℕ) (e : states ≡ size M) (q p o : List ℕ) where
+  abbrev pub Judged : Left
+  Judged = cond (roomy M q p o) due (leftAlone 8 0 q p o)
+
+  no-room : roomy M q p o ≡ false → Ends Judged (Refused 8 0) q p o
   no-room h =
-      let d : searchFor M q p o ≡ leftAlone 8 0 q p o = ap (λ (t : Bool). cond t (foundBy M q p o) (leftAlone 8 0 q p o)) h in
+      let d : Judged ≡ leftAlone 8 0 q p o = ap (λ (t : Bool). cond t due (leftAlone 8 0 q p o)) h in
       subst (λ (L : Left). Ends L (Refused 8 0) q p o) (sym d) (refl, (refl, refl, refl))
 
-  pub first-short : length q < states → Ends (searchFor M q p o) (Refused 8 0) q p o
+  pub first-short : length q < states → Ends Judged (Refused 8 0) q p o
   unfolding roomy
   first-short a = no-room (and-first _ _ (lt-leb (size M) (length q) (subst (λ (k : ℕ). length q < k) e a)))
 
@@ -156,7 +182,7 @@ module _ (M : System) (states : ℕ) (e : states ≡ size M) (q p o : List ℕ) 
     first-room : leb (size M) (length q) ≡ true
     first-room = le-leb (size M) (length q) (subst (λ (k : ℕ). k ≤ length q) e a)
 
-    pub second-short : length p < states → Ends (searchFor M q p o) (Refused 8 0) q p o
+    pub second-short : length p < states → Ends Judged (Refused 8 0) q p o
     unfolding roomy
     second-short b = no-room (and-second _ _ first-room (and-first _ _ (lt-leb (size M) (length p) (subst (λ (k : ℕ). length p < k) e b))))
 
@@ -164,14 +190,13 @@ module _ (M : System) (states : ℕ) (e : states ≡ size M) (q p o : List ℕ) 
       next-room : leb (size M) (length p) ≡ true
       next-room = le-leb (size M) (length p) (subst (λ (k : ℕ). k ≤ length p) e b)
 
-      pub sheet-short : length o < 4 + length (M .counts) + 10 * states → Ends (searchFor M q p o) (Refused 8 0) q p o
+      pub sheet-short : length o < 4 + length (M .counts) + 10 * states → Ends Judged (Refused 8 0) q p o
       unfolding roomy
       sheet-short d = no-room (and-second _ _ first-room (and-second _ _ next-room (lt-leb (sheetRoom M) (length o) (omega (arith, d, e)))))
 
       pub room-for : 4 + length (M .counts) + 10 * states ≤ length o → (r : Finding) (q₁ p₁ o₁ : List ℕ)
-          → Ends (foundBy M q p o) r q₁ p₁ o₁ → Ends (searchFor M q p o) r q₁ p₁ o₁
-      unfolding searchFor roomy
+          → Ends due r q₁ p₁ o₁ → Ends Judged r q₁ p₁ o₁
+      unfolding roomy
       room-for d r q₁ p₁ o₁ l =
           let g : roomy M q p o ≡ true = and-second _ _ first-room (and-second _ _ next-room (le-leb (sheetRoom M) (length o) (omega (arith, d, e)))) in
-          let f : searchFor M q p o ≡ foundBy M q p o = ap (λ (t : Bool). cond t (foundBy M q p o) (leftAlone 8 0 q p o)) g in
-          subst (λ (L : Left). Ends L r q₁ p₁ o₁) (sym f) l
+          subst (λ (L : Left). Ends L r q₁ p₁ o₁) (sym (ap (λ (t : Bool). cond t due (leftAlone 8 0 q p o)) g)) l

@@ -1,62 +1,23 @@
 // The search: the first breaking run of a model's table of one row, or the map of the states that its runs reach, or that none can begin.
+mod concluding;
+mod portions;
+pub mod position;
+
 ghost use mathlib.Core.Path.{_≡_};
-ghost use Prim.Native.Nat.{_+_, _^_, _≤_};
 ghost use Rattle.evaluation.specs.working.CodeSystem.{Sound};
-ghost use Rattle.sheets.specs.Sheets.{sheetRoom};
 ghost use Rattle.sheets.specs.SheetTexts.{AreBytes};
 ghost use Rattle.sheets.specs.working.FlatSystem.{systemIn};
 ghost use Rattle.verdicts.specs.Left.{Leaves};
-ghost use Rattle.verdicts.specs.working.Searching.{foundBy, searchFor, searchOf};
+ghost use Rattle.verdicts.specs.working.Searching.{searchFor, searchOf};
 ghost use Rattle.search.specs.working.Ends.{EndsWith};
 use acceptance::plans::read_plan;
+use concluding::search_roomy;
 use evaluation::numbers::power;
 use evaluation::plan::Plan;
 use reader::Answer;
-use sheets::fields::HEADER;
 use sheets::fields::bytes_known;
-use sheets::fields::map_length;
 use sheets::fields::sheet_room;
-use tracing::traces::write_trace;
-use traversal::exploring::run;
 use verdicts::finding::Finding;
-use writing::maps::write_map;
-use writing::records::put_head;
-use writing::records::put_header;
-use writing::tables::clear;
-
-// The search over the flat form of a model, where every lent buffer has room.
-fn search_roomy(
-    ops: &[u16; 2048],
-    plan: Plan,
-    states: usize,
-    first: &mut [u16],
-    second: &mut [u16],
-    sheet: &mut [u8],
-) -> Finding
-    requires { do ⌜ Sound plan × (states ≡ 2 ^ plan .bits) × (states ≤ (← ⟦first.len()⟧)) × (states ≤ (← ⟦second.len()⟧)) × (sheetRoom (systemIn (now ops) plan) ≤ (← ⟦sheet.len()⟧)) ⌝ }
-    ensures { λ r. ⌜ EndsWith (foundBy (systemIn (now (ops .entry)) plan)) r first second sheet ⌝ }
-{
-    put_header(sheet, plan.shared, plan.row, plan.commands);
-    let x = run(ops, plan, states, first, second);
-    if x.found {
-        let t = first[x.count - 1];
-        let len = write_trace(ops, plan, second, t, HEADER, sheet);
-        clear(first, states);
-        clear(second, states);
-        return Finding::Unsafe(len);
-    }
-    let n = map_length(states);
-    put_head(sheet, HEADER, n, 2);
-    let at = HEADER + 6;
-    write_map(states, second, n, at, sheet);
-    clear(first, states);
-    clear(second, states);
-    let len = at + n;
-    if x.count == 0 {
-        return Finding::Void(len);
-    }
-    Finding::Safe(len, x.trials)
-}
 
 // The search over the flat form of a model. A call whose buffers have no room is refused and leaves them as they are.
 fn search_code(

@@ -1,2 +1,3 @@
-// The way back from the state where the search ended: the trace of the run that led there.
+// The way back through the states that the search met: whether a run is recorded, and its trace.
+pub mod recorded;
 pub mod traces;

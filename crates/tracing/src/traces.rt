@@ -22,7 +22,7 @@ pub struct Choice {
 }
 
 // The first command, and of its words the first, that leads from s to t.
-fn first_move(ops: &[u16; 2048], plan: Plan, s: u16, t: u16) -> Choice
+pub fn first_move(ops: &[u16; 2048], plan: Plan, s: u16, t: u16) -> Choice
     requires { ⌜ Sound plan × (s < 2 ^ plan .bits) ⌝ }
     ensures { λ r. ⌜ moveOf (r .command) (r .word) ≡ firstMove (transitionsIn (now (ops .entry)) plan) s t (moves (transitionsIn (now (ops .entry)) plan)) ⌝ }
 {

@@ -6,8 +6,8 @@ use mathlib.Core.List.{List, _++_}
 use Prim.Native.Nat.{ℕ, _≤_}
 use lib.ListN.{length, drop, replicate}
 use Rattle.exploration.specs.working.Transitions.{Transitions}
-use Rattle.exploration.specs.working.Tables.{Ready, Explored, Took, Ran}
-use Rattle.exploration.proofs.Laws.{cleared, ran-broke, ran-on}
+use Rattle.exploration.specs.working.Tables.{Ready, Explored, Took, Began, Ran}
+use Rattle.exploration.proofs.Laws.{cleared, began, ran-broke, ran-on}
 
 module _ (T : Transitions) (states : ℕ) (e : states ≡ T .size) (q p₀ p : List ℕ) (c : p ≡ replicate states 0 ++ drop states p₀) (hq : states ≤ length q) (hp : states ≤ length p₀) where
   sized : p ≡ replicate (T .size) 0 ++ drop (T .size) p₀
@@ -22,10 +22,12 @@ module _ (T : Transitions) (states : ℕ) (e : states ≡ T .size) (q p₀ p : L
   pub ready-cleared : Ready T q 0 p
   ready-cleared = cleared T q p₀ p sized queue-room parent-room .ready
 
-  module _ {q₁ : List ℕ} {n₁ : ℕ} {p₁ : List ℕ} {b : Bool} (U : Took T q p q₁ n₁ p₁ b) where
-    pub run-broke : b ≡ true → (j : ℕ) → j ≡ 0 → Ran T q p₀ q₁ n₁ p₁ b j
-    run-broke h j z = subst (Ran T q p₀ q₁ n₁ p₁ b) (sym z) (ran-broke T q p₀ p sized queue-room parent-room U h)
+  pub begun : {q₁ : List ℕ} {n₁ : ℕ} {p₁ : List ℕ} {b : Bool} → Took T q p q₁ n₁ p₁ b → Began T q p₀ q₁ n₁ p₁ b
+  begun = began T q p₀ p sized queue-room parent-room
 
-    pub run-on : b ≡ false → {q₂ : List ℕ} {n₂ : ℕ} {p₂ : List ℕ} {d : Bool} {j : ℕ} → Explored T 0 states q₁ n₁ p₁ q₂ n₂ p₂ d j → Ran T q p₀ q₂ n₂ p₂ d j
-    run-on h {q₂} {n₂} {p₂} {d} {j} X =
-        ran-on T q p₀ p sized queue-room parent-room U h (subst (λ (k : ℕ). Explored T 0 k q₁ n₁ p₁ q₂ n₂ p₂ d j) e X)
+module _ (T : Transitions) (states : ℕ) (e : states ≡ T .size) {q₀ p₀ q₁ : List ℕ} {n₁ : ℕ} {p₁ : List ℕ} {b : Bool} (B : Began T q₀ p₀ q₁ n₁ p₁ b) where
+  pub run-broke : b ≡ true → (j : ℕ) → j ≡ 0 → Ran T q₀ p₀ q₁ n₁ p₁ b j
+  run-broke h j z = subst (Ran T q₀ p₀ q₁ n₁ p₁ b) (sym z) (ran-broke B h)
+
+  pub run-on : b ≡ false → {q₂ : List ℕ} {n₂ : ℕ} {p₂ : List ℕ} {d : Bool} {head j : ℕ} → Explored T 0 states q₁ n₁ p₁ q₂ n₂ p₂ d head j → Ran T q₀ p₀ q₂ n₂ p₂ d j
+  run-on h {q₂} {n₂} {p₂} {d} {head} {j} X = ran-on B h (subst (λ (k : ℕ). Explored T 0 k q₁ n₁ p₁ q₂ n₂ p₂ d head j) e X)

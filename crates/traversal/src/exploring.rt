@@ -4,7 +4,7 @@ ghost use mathlib.Core.Path.{_≡_};
 ghost use Prim.Native.Nat.{_^_, _≤_};
 ghost use Rattle.evaluation.specs.working.CodeSystem.{Sound};
 ghost use Rattle.exploration.specs.working.CodeTransitions.{transitionsIn, ExploredIn};
-ghost use Rattle.exploration.specs.working.Tables.{Ready, Took, Ran};
+ghost use Rattle.exploration.specs.working.Tables.{Ready, Took, Began, Ran};
 use evaluation::lanes::fill;
 use evaluation::lanes::first_rows;
 use evaluation::lanes::pick;
@@ -15,10 +15,11 @@ use evaluation::one_row::word_count;
 use evaluation::plan::Plan;
 use writing::tables::clear;
 
-// How many states were met, whether the last of them violates `keep`, and how many trials were made: one for each command with each choice word at each state.
+// How many states were met, whether the last of them violates `keep`, how far the queue was gone through, and how many trials were made: one for each command with each choice word at each state.
 pub struct Reach {
     pub count: usize,
     pub found: bool,
+    pub head: usize,
     pub trials: usize,
 }
 
@@ -32,7 +33,7 @@ fn take_in(
 ) -> Reach
     requires { ⌜ (states ≡ 2 ^ plan .bits) × Sound plan × Ready (transitionsIn (now ops) plan) (now queue) 0 (now parent) ⌝ }
     ensures { λ r. ⌜ Took (transitionsIn (now (ops .entry)) plan) (now (queue .entry)) (now (parent .entry)) (now (queue .exit)) (r .count) (now (parent .exit)) (r .found) ⌝ }
-    ensures { λ r. ⌜ r .trials ≡ 0 ⌝ }
+    ensures { λ r. ⌜ (r .head ≡ 0) × (r .trials ≡ 0) ⌝ }
 {
     let mut count: usize = 0;
     let mut found = false;
@@ -50,6 +51,7 @@ fn take_in(
     Reach {
         count: count,
         found: found,
+        head: 0,
         trials: 0,
     }
 }
@@ -57,7 +59,7 @@ fn take_in(
 // Goes through the queue from a place on, for so many states at most: every command under every word, 64 words at a time, from each state in turn.
 // A state that is met for the first time goes to the queue's end; the first that violates `keep` ends the search.
 // Trials are counted a command at a time, and up to the word that ends the search: a count for each word would be made in the hottest loop.
-fn explore(
+pub fn explore(
     ops: &[u16; 2048],
     plan: Plan,
     queue: &mut [u16],
@@ -67,7 +69,7 @@ fn explore(
     most: usize,
 ) -> Reach
     requires { ⌜ Sound plan × Ready (transitionsIn (now ops) plan) (now queue) taken (now parent) ⌝ }
-    ensures { λ r. ⌜ ExploredIn (now (ops .entry)) plan start most (now (queue .entry)) taken (now (parent .entry)) (now (queue .exit)) (r .count) (now (parent .exit)) (r .found) (r .trials) ⌝ }
+    ensures { λ r. ⌜ ExploredIn (now (ops .entry)) plan start most (now (queue .entry)) taken (now (parent .entry)) (now (queue .exit)) (r .count) (now (parent .exit)) (r .found) (r .head) (r .trials) ⌝ }
 {
     let commands = plan.commands;
     let bits = plan.bits;
@@ -110,11 +112,28 @@ fn explore(
     Reach {
         count: count,
         found: found,
+        head: head,
         trials: trials,
     }
 }
 
-// The whole search, on tables that may hold anything.
+// The start states, on tables that may hold anything.
+pub fn begin(
+    ops: &[u16; 2048],
+    plan: Plan,
+    states: usize,
+    queue: &mut [u16],
+    parent: &mut [u16],
+) -> Reach
+    requires { do ⌜ Sound plan × (states ≡ 2 ^ plan .bits) × (states ≤ (← ⟦queue.len()⟧)) × (states ≤ (← ⟦parent.len()⟧)) ⌝ }
+    ensures { λ r. ⌜ Began (transitionsIn (now (ops .entry)) plan) (now (queue .entry)) (now (parent .entry)) (now (queue .exit)) (r .count) (now (parent .exit)) (r .found) ⌝ }
+    ensures { λ r. ⌜ (r .head ≡ 0) × (r .trials ≡ 0) ⌝ }
+{
+    clear(parent, states);
+    take_in(ops, plan, states, queue, parent)
+}
+
+// The whole search, on tables that may hold anything: the start states, and one portion of all states.
 pub fn run(
     ops: &[u16; 2048],
     plan: Plan,
@@ -125,8 +144,7 @@ pub fn run(
     requires { do ⌜ Sound plan × (states ≡ 2 ^ plan .bits) × (states ≤ (← ⟦queue.len()⟧)) × (states ≤ (← ⟦parent.len()⟧)) ⌝ }
     ensures { λ r. ⌜ Ran (transitionsIn (now (ops .entry)) plan) (now (queue .entry)) (now (parent .entry)) (now (queue .exit)) (r .count) (now (parent .exit)) (r .found) (r .trials) ⌝ }
 {
-    clear(parent, states);
-    let x = take_in(ops, plan, states, queue, parent);
+    let x = begin(ops, plan, states, queue, parent);
     if x.found {
         return x;
     }

@@ -12,6 +12,6 @@ use Rattle.exploration.specs.working.Tables.{Explored}
 abbrev pub transitionsIn : List ℕ → Plan → Transitions
 transitionsIn ops plan = transitionsOf (systemIn ops plan)
 
--- `Explored`, of the transitions of a flat form: the contract of a loop with eleven numbers and lists stays in one line by it.
-abbrev pub ExploredIn : List ℕ → Plan → ℕ → ℕ → List ℕ → ℕ → List ℕ → List ℕ → ℕ → List ℕ → Bool → ℕ → Type 0
+-- `Explored`, of the transitions of a flat form: the contract of a loop with twelve numbers and lists stays in one line by it.
+abbrev pub ExploredIn : List ℕ → Plan → ℕ → ℕ → List ℕ → ℕ → List ℕ → List ℕ → ℕ → List ℕ → Bool → ℕ → ℕ → Type 0
 ExploredIn ops plan = Explored (transitionsIn ops plan)

@@ -43,6 +43,17 @@ unfoldable pub explore : Transitions → ℕ → ℕ → Seen → Progress
 explore M zero head x = through x
 explore M (suc n) head x = cond (ltb head (length (x .queue))) (andThen (tryMoves M (getD (x .queue) head 0) (moves M) x) (explore M n (head + 1))) (through x)
 
+-- The place behind one that is gone through; where that stopped at a break, the place itself.
+abbrev pub placeAfter : Progress → ℕ → (Seen → ℕ) → ℕ
+placeAfter (broke x) head f = head
+placeAfter (through x) head f = f x
+
+-- How far the queue is gone through then: up to the place of the first state that is not gone through whole.
+unfoldable pub placeFrom : Transitions → ℕ → ℕ → Seen → ℕ
+placeFrom M zero head x = head
+placeFrom M (suc n) head x =
+    cond (ltb head (length (x .queue))) (placeAfter (tryMoves M (getD (x .queue) head 0) (moves M) x) head (placeFrom M n (head + 1))) head
+
 -- The start states from s on, n numbers at most.
 unfoldable pub takeIn : Transitions → ℕ → ℕ → Seen → Progress
 takeIn M zero s x = through x
@@ -52,6 +63,10 @@ takeIn M (suc n) s x = andThen (cond (M .starts s) (meet M s s x) (through x)) (
 abbrev pub unseen : Transitions → Seen
 unseen M = record { queue = []; parent = replicate (M .size) 0 }
 
+-- The start states, from nothing.
+abbrev pub begun : Transitions → Progress
+begun M = takeIn M (M .size) 0 (unseen M)
+
 -- The whole search.
 unfoldable pub search : Transitions → Progress
-search M = andThen (takeIn M (M .size) 0 (unseen M)) (explore M (M .size) 0)
+search M = andThen (begun M) (explore M (M .size) 0)

@@ -1,14 +1,15 @@
 -- The bytes of a run and of a map, and the run that a table of parents records.
 -- Assumes nothing.
-use Prim.Native.Nat.{ℕ, suc, zero, _+_, _*_, _<_}
+use Prim.Native.Nat.{ℕ, suc, zero, _+_, _-_, _*_, _<_, _≤_}
 use mathlib.Core.Path.{_≡_}
-use mathlib.Core.Bool.{Bool, false, cond}
+use mathlib.Core.Bool.{Bool, true, false, cond}
 use mathlib.Core.List.{List, [], _∷_, _++_}
 use lib.ListN.{getD, take}
 use lib.Seq.{sets}
 use Rattle.sheets.specs.Sheets.{little, startBytes, stepsBytes}
 use Rattle.exploration.specs.working.Transitions.{Transitions}
 use Rattle.exploration.specs.working.Runs.{Run, final, Valid, steps, Traced, runTo, startOf, stepsOf}
+use Rattle.exploration.specs.working.Tables.{Ready}
 
 -- A record's first six bytes: how long its payload is, and its kind.
 abbrev pub headBytes : ℕ → ℕ → List ℕ
@@ -43,6 +44,12 @@ pub record RecordedTo (M : Transitions) (p : List ℕ) (t : ℕ) : Type 0 where
 -- The front of the table p does, as far as there are states.
 abbrev pub RecordedIn : Transitions → List ℕ → ℕ → Type 0
 RecordedIn M p t = RecordedTo M (take (M .size) p) t
+
+-- Tables from which a sheet can be written: where the last state met breaks, a run to it is recorded.
+pub record Closing (M : Transitions) (q : List ℕ) (n : ℕ) (p : List ℕ) (found : Bool) : Type 0 where
+  pub ready : Ready M q n p
+  pub some : found ≡ true → 1 ≤ n
+  pub recorded : found ≡ true → RecordedIn M p (getD q (n - 1) 0)
 
 -- The trace of the run that the table of parents p records to t stands from `at` on, up to `end`; all else is as it was.
 pub record TraceStored (M : Transitions) (p : List ℕ) (t at : ℕ) (before after : List ℕ) (end : ℕ) : Type 0 where

@@ -12,7 +12,9 @@ use Rattle.notation.specs.working.Answer.{answer}
 use Rattle.sheets.specs.Sheets.{System, size, sheetRoom, systemOf, sheetBytes}
 use Rattle.meaning.specs.Evidence.{Verdict, safeBy, voidBy, unsafeBy, evidenceOf}
 use Rattle.exploration.specs.working.Trials.{trialCount}
-use Rattle.exploration.specs.working.Found.{foundIn, transitionsOf}
+use Rattle.exploration.specs.working.Exploring.{Progress}
+use Rattle.exploration.specs.working.Results.{resultOf}
+use Rattle.exploration.specs.working.Found.{foundIn, verdictFor, transitionsOf}
 use Rattle.verdicts.specs.declared.finding.Finding.{Finding}
 use Rattle.verdicts.specs.declared.finding.Finding.the-variants.{Safe, Void, Unsafe, Refused}
 use Rattle.verdicts.specs.Left.{Left, zeroed}
@@ -40,6 +42,10 @@ leftWith M x t first second sheet =
 -- After a refusal every buffer is as it was.
 abbrev pub leftAlone : ℕ → ℕ → List ℕ → List ℕ → List ℕ → Left
 leftAlone n p first second sheet = record { answer = Refused n p; first = first; second = second; sheet = sheet }
+
+-- Where a search went so, after so many trials.
+abbrev pub leftBy : System → Progress → ℕ → List ℕ → List ℕ → List ℕ → Left
+leftBy M o t first second sheet = leftWith M (verdictFor (transitionsOf M) (resultOf (transitionsOf M) o)) t first second sheet
 
 -- For a system, where there is room: what the search finds, with the trials that it makes.
 abbrev pub foundBy : System → List ℕ → List ℕ → List ℕ → Left

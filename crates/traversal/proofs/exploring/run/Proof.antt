@@ -1,22 +1,13 @@
--- `run` meets its contract: cleared tables, the start states, then the queue.
+-- `run` meets its contract: the start states, then the queue.
 -- Assumes nothing.
 use Rattle.exploration.specs.working.CodeTransitions.{transitionsIn}
-use Rattle.traversal.proofs.WholeRuns.{ready-cleared, run-broke, run-on}
+use Rattle.traversal.proofs.WholeRuns.{run-broke, run-on}
 use borrow.Author.Needs.{needs}
 use Rattle.traversal.proofs.exploring.run.Statement.{statement}
 use Rattle.traversal.proofs.exploring.run.Tie as tie
 
-clear-requires : tie.Need-clear-requires
-clear-requires c κs = search needs
-
-take-in-requires : tie.Need-take-in-requires
-take-in-requires c κs =
-    let after-clear : tie.After-clear = search in
-    let start : tie.Start = search in (
-      start .pre .1,
-      start .pre .0,
-      ready-cleared (transitionsIn _ (start .args .plan)) _ (start .pre .1) _ _ _ (after-clear .clear .ensures) (start .pre .2) (start .pre .3),
-    )
+begin-requires : tie.Need-begin-requires
+begin-requires c κs = search needs
 
 same-length : tie.Need-same-length
 same-length c = search needs
@@ -26,17 +17,16 @@ same-length-2 c = search needs
 
 returns : tie.Need-returns
 returns c =
-    let after-take-in : tie.After-take-in = search in
-    let after-clear : tie.After-clear = search in
+    let after-begin : tie.After-begin = search in
     let start : tie.Start = search in
-    run-broke (transitionsIn _ (start .args .plan)) _ (start .pre .1) _ _ _ (after-clear .clear .ensures) (start .pre .2)
-    (start .pre .3) (after-take-in .take-in .ensures .0) (c .if1 .taken) _ (after-take-in .take-in .ensures .1)
+    run-broke (transitionsIn _ (start .args .plan)) _ (start .pre .1) (after-begin .begin .ensures .0) (c .if1 .taken) _
+    (after-begin .begin .ensures .1 .1)
 
 explore-requires : tie.Need-explore-requires
 explore-requires c κs =
-    let after-take-in : tie.After-take-in = search in
+    let after-begin : tie.After-begin = search in
     let start : tie.Start = search in
-    (start .pre .0, after-take-in .take-in .ensures .0 .kept .ready)
+    (start .pre .0, after-begin .begin .ensures .0 .kept .ready)
 
 same-length-3 : tie.Need-same-length-3
 same-length-3 c = search needs
@@ -48,22 +38,10 @@ returns-2 : tie.Need-returns-2
 returns-2 c =
     let after-explore : tie.After-explore = search in
     let else1 : tie.Else1 = search in
-    let after-take-in : tie.After-take-in = search in
-    let after-clear : tie.After-clear = search in
+    let after-begin : tie.After-begin = search in
     let start : tie.Start = search in
-    run-on (transitionsIn _ (start .args .plan)) _ (start .pre .1) _ _ _ (after-clear .clear .ensures) (start .pre .2)
-    (start .pre .3) (after-take-in .take-in .ensures .0) (else1 .if1 .left) (after-explore .explore .ensures)
+    run-on (transitionsIn _ (start .args .plan)) _ (start .pre .1) (after-begin .begin .ensures .0) (else1 .if1 .left)
+    (after-explore .explore .ensures)
 
 pub run-spec : {M : Type 1} → statement M
-run-spec =
-    tie.close
-    (tie.spec
-    clear-requires
-    take-in-requires
-    same-length
-    same-length-2
-    returns
-    explore-requires
-    same-length-3
-    same-length-4
-    returns-2)
+run-spec = tie.close (tie.spec begin-requires same-length same-length-2 returns explore-requires same-length-3 same-length-4 returns-2)

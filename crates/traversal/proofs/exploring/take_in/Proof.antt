@@ -176,7 +176,7 @@ returns : tie.Need-returns Inv-states μ-states
 returns c =
     let start : Start = search in
     let end : 2 ^ start .args .plan .bits ≤ c .before .states .s = omega (arith, c .states-test .left, start .pre .0) in
-    (rw (c .before .states .inv .1) (taking-end (c .before .states .inv .2) end), refl)
+    (rw (c .before .states .inv .1) (taking-end (c .before .states .inv .2) end), (refl, refl))
 
 same-length-3 : tie.Need-same-length-3 Inv-states μ-states
 same-length-3 c = broken c .kept .queue-length
@@ -185,7 +185,7 @@ same-length-4 : tie.Need-same-length-4 Inv-states μ-states
 same-length-4 c = broken c .kept .parent-length
 
 returns-2 : tie.Need-returns-2 Inv-states μ-states
-returns-2 c = (broken c, refl)
+returns-2 c = (broken c, (refl, refl))
 
 pub take-in-spec : {M : Type 1} → statement M
 take-in-spec =

@@ -1,46 +1,46 @@
--- `search_roomy` meets its contract: the header, and then the trace or the map, with both tables cleared.
+-- `conclude` meets its contract: the header, and then the trace or the map, with both tables cleared.
 -- Assumes nothing.
 use native.Mathlib.Omega.{arith}
-use Rattle.search.proofs.SearchesLeft.{header-asked, head-asked, map-asked, length-small, second-room, last-some}
+use Rattle.search.proofs.SearchesLeft.{header-asked, head-asked, map-asked, length-small, second-room, count-few}
 use Rattle.search.proofs.SearchesLeft.{last-within, trace-asked, unsafe-left, void-left, safe-left}
 use Prim.Native.Nat.{_+_}
 use borrow.Author.Needs.{needs}
-use Rattle.search.proofs.search_roomy.Statement.{statement}
-use Rattle.search.proofs.search_roomy.Tie as tie
+use Rattle.search.proofs.concluding.conclude.Statement.{statement}
+use Rattle.search.proofs.concluding.conclude.Tie as tie
 
 put-header-requires : tie.Need-put-header-requires
 put-header-requires c κs =
     let start : tie.Start = search in
-    header-asked (start .args .ops .now) _ _ (start .pre .0) (start .pre .4)
-
-run-requires : tie.Need-run-requires
-run-requires c κs = search needs
+    header-asked (start .args .ops .now) _ _ (start .pre .0) (start .pre .3)
 
 sub-t : tie.Need-sub-t
 sub-t c =
-    let after-run : tie.After-run = search in
     let after-put-header : tie.After-put-header = search in
     let start : tie.Start = search in
-    last-some _ _ (start .pre .0) _ (start .pre .1) _ (start .pre .4) (after-put-header .put-header .ensures) (after-run .run .ensures) (c .before .if1 .taken)
+    start .pre .2 .some (c .before .if1 .taken)
 
 mul-t : tie.Need-mul-t
-mul-t c = search needs
+mul-t c =
+    let after-put-header : tie.After-put-header = search in
+    let start : tie.Start = search in
+    omega (
+      arith,
+      count-few _ _ (start .pre .0) _ (start .pre .1) _ (start .pre .3) (after-put-header .put-header .ensures) (start .pre .2) (start .args .reach .trials),
+    )
 
 slice-read-t : tie.Need-slice-read-t
 slice-read-t c =
     let then1 : tie.Then1 = search in
-    let after-run : tie.After-run = search in
     let after-put-header : tie.After-put-header = search in
     let start : tie.Start = search in
-    last-within _ _ (start .pre .0) _ (start .pre .1) _ (start .pre .4) (after-put-header .put-header .ensures) (after-run .run .ensures) (then1 .if1 .taken)
+    last-within _ _ (start .pre .0) _ (start .pre .1) _ (start .pre .3) (after-put-header .put-header .ensures) (start .pre .2) (start .args .reach .trials) (then1 .if1 .taken)
 
 write-trace-requires : tie.Need-write-trace-requires
 write-trace-requires c κs =
     let then1 : tie.Then1 = search in
-    let after-run : tie.After-run = search in
     let after-put-header : tie.After-put-header = search in
     let start : tie.Start = search in
-    trace-asked _ _ (start .pre .0) _ (start .pre .1) _ (start .pre .4) (after-put-header .put-header .ensures) (after-run .run .ensures) (then1 .if1 .taken)
+    trace-asked _ _ (start .pre .0) _ (start .pre .1) _ (start .pre .3) (after-put-header .put-header .ensures) (start .pre .2) (start .args .reach .trials) (then1 .if1 .taken)
 
 clear-requires : tie.Need-clear-requires
 clear-requires c κs = search needs
@@ -48,10 +48,9 @@ clear-requires c κs = search needs
 clear-requires-2 : tie.Need-clear-requires-2
 clear-requires-2 c κs =
     let then1 : tie.Then1 = search in
-    let after-run : tie.After-run = search in
     let after-put-header : tie.After-put-header = search in
     let start : tie.Start = search in
-    second-room _ _ (start .pre .0) _ (start .pre .1) _ (start .pre .4) (after-put-header .put-header .ensures) (after-run .run .ensures)
+    second-room _ _ (start .pre .0) _ (start .pre .1) _ (start .pre .3) (after-put-header .put-header .ensures) (start .pre .2) (start .args .reach .trials)
 
 same-length : tie.Need-same-length
 same-length c = search needs
@@ -68,11 +67,10 @@ returns c =
     let after-clear : tie.After-clear = search in
     let after-write-trace : tie.After-write-trace = search in
     let then1 : tie.Then1 = search in
-    let after-run : tie.After-run = search in
     let after-put-header : tie.After-put-header = search in
     let start : tie.Start = search in
-    unsafe-left _ _ (start .pre .0) _ (start .pre .1) (start .args .sheet .now) (start .pre .4)
-    (after-put-header .put-header .ensures) (after-run .run .ensures) (after-clear .clear .ensures) (after-clear2 .clear2 .ensures)
+    unsafe-left _ _ (start .pre .0) _ (start .pre .1) (start .args .sheet .now) (start .pre .3)
+    (after-put-header .put-header .ensures) (start .pre .2) (start .args .reach .trials) (after-clear .clear .ensures) (after-clear2 .clear2 .ensures)
     (then1 .if1 .taken) (after-write-trace .write-trace .ensures)
 
 map-length-requires : tie.Need-map-length-requires
@@ -82,7 +80,7 @@ put-head-requires : tie.Need-put-head-requires
 put-head-requires c κs =
     let after-put-header : tie.After-put-header = search in
     let start : tie.Start = search in
-    head-asked (start .args .ops .now) _ (start .pre .0) _ (start .pre .1) _ (start .pre .4)
+    head-asked (start .args .ops .now) _ (start .pre .0) _ (start .pre .1) _ (start .pre .3)
     (after-put-header .put-header .ensures) _ (c .before .map-length .ensures)
 
 add-at : tie.Need-add-at
@@ -92,12 +90,11 @@ write-map-requires : tie.Need-write-map-requires
 write-map-requires c κs =
     let after-put-head : tie.After-put-head = search in
     let after-map-length : tie.After-map-length = search in
-    let after-run : tie.After-run = search in
     let after-put-header : tie.After-put-header = search in
     let start : tie.Start = search in
-    map-asked (start .args .ops .now) _ (start .pre .0) _ (start .pre .1) _ (start .pre .4)
+    map-asked (start .args .ops .now) _ (start .pre .0) _ (start .pre .1) _ (start .pre .3)
     (after-put-header .put-header .ensures) _ (after-map-length .map-length .ensures) _
-    (second-room _ _ (start .pre .0) _ (start .pre .1) _ (start .pre .4) (after-put-header .put-header .ensures) (after-run .run .ensures)) _
+    (second-room _ _ (start .pre .0) _ (start .pre .1) _ (start .pre .3) (after-put-header .put-header .ensures) (start .pre .2) (start .args .reach .trials)) _
     (after-put-head .put-head .ensures)
 
 clear-requires-3 : tie.Need-clear-requires-3
@@ -106,10 +103,9 @@ clear-requires-3 c κs = search needs
 clear-requires-4 : tie.Need-clear-requires-4
 clear-requires-4 c κs =
     let after-put-head : tie.After-put-head = search in
-    let after-run : tie.After-run = search in
     let after-put-header : tie.After-put-header = search in
     let start : tie.Start = search in
-    second-room _ _ (start .pre .0) _ (start .pre .1) _ (start .pre .4) (after-put-header .put-header .ensures) (after-run .run .ensures)
+    second-room _ _ (start .pre .0) _ (start .pre .1) _ (start .pre .3) (after-put-header .put-header .ensures) (start .pre .2) (start .args .reach .trials)
 
 add-len : tie.Need-add-len
 add-len c =
@@ -140,11 +136,10 @@ returns-2 c =
     let after-put-head : tie.After-put-head = search in
     let after-map-length : tie.After-map-length = search in
     let else1 : tie.Else1 = search in
-    let after-run : tie.After-run = search in
     let after-put-header : tie.After-put-header = search in
     let start : tie.Start = search in
-    void-left _ _ (start .pre .0) _ (start .pre .1) (start .args .sheet .now) (start .pre .4)
-    (after-put-header .put-header .ensures) (after-run .run .ensures) (after-clear3 .clear3 .ensures) (after-clear4 .clear4 .ensures)
+    void-left _ _ (start .pre .0) _ (start .pre .1) (start .args .sheet .now) (start .pre .3)
+    (after-put-header .put-header .ensures) (start .pre .2) (start .args .reach .trials) (after-clear3 .clear3 .ensures) (after-clear4 .clear4 .ensures)
     (else1 .if1 .left) (after-map-length .map-length .ensures) (after-put-head .put-head .ensures)
     (after-write-map .write-map .ensures) (c .if2 .taken)
 
@@ -165,20 +160,18 @@ returns-3 c =
     let after-put-head : tie.After-put-head = search in
     let after-map-length : tie.After-map-length = search in
     let else1 : tie.Else1 = search in
-    let after-run : tie.After-run = search in
     let after-put-header : tie.After-put-header = search in
     let start : tie.Start = search in
-    safe-left _ _ (start .pre .0) _ (start .pre .1) (start .args .sheet .now) (start .pre .4)
-    (after-put-header .put-header .ensures) (after-run .run .ensures) (after-clear3 .clear3 .ensures) (after-clear4 .clear4 .ensures)
+    safe-left _ _ (start .pre .0) _ (start .pre .1) (start .args .sheet .now) (start .pre .3)
+    (after-put-header .put-header .ensures) (start .pre .2) (start .args .reach .trials) (after-clear3 .clear3 .ensures) (after-clear4 .clear4 .ensures)
     (else1 .if1 .left) (after-map-length .map-length .ensures) (after-put-head .put-head .ensures)
     (after-write-map .write-map .ensures) (omega (arith, c .if2 .left))
 
-pub search-roomy-spec : {M : Type 1} → statement M
-search-roomy-spec =
+pub conclude-spec : {M : Type 1} → statement M
+conclude-spec =
     tie.close
     (tie.spec
     put-header-requires
-    run-requires
     sub-t
     mul-t
     slice-read-t

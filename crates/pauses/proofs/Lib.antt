@@ -1,0 +1,1 @@
+-- Laws of a search in portions, by subject.

@@ -1,0 +1,4 @@
+-- What the calls of a search in portions leave, and in `working` how they go about it.
+pub mod Answers
+pub mod Held
+pub mod working
