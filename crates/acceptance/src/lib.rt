@@ -21,7 +21,7 @@ use sheets::shapes::Shape;
 use sheets::shapes::shape_of;
 
 // The outcome for a sheet and the flat form of a model.
-fn test_sheet(b: &[u8], ops: &[u16; 2048], plan: Plan) -> Outcome
+pub fn test_sheet(b: &[u8], ops: &[u16; 2048], plan: Plan) -> Outcome
     requires { ⌜ Sound plan ⌝ }
     ensures { λ r. ⌜ r ≡ outcomeOf (systemIn (now (ops .entry)) plan) (now (b .entry)) ⌝ }
 {

@@ -22,5 +22,6 @@ pub mod CodeSteps
 pub mod Portions
 pub mod Invariants
 pub mod Pauses
+pub mod PortionEnds
 pub mod Recorded
 pub mod Judging

@@ -32,7 +32,7 @@ use Rattle.exploration.proofs.TrialCounts.{few-with}
 -- How many states are expanded, and how many trials are made.
 
 module _ (M : Transitions) where
-  grown : (ms : List Move) (s : ℕ) (x : Seen) → length (x .queue) ≤ length (seenIn (tryMoves M s ms x) .queue)
+  pub grown : (ms : List Move) (s : ℕ) (x : Seen) → length (x .queue) ≤ length (seenIn (tryMoves M s ms x) .queue)
   unfolding tryMoves
   grown [] s x = omega arith
   grown (m ∷ ms) s x =

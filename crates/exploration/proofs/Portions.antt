@@ -21,7 +21,7 @@ use Rattle.exploration.proofs.Laws.{kept-refl, explore-end, trials-end,
 use Rattle.exploration.proofs.Order.{lt-or-ge}
 
 -- A stand by its three parts.
-stand-same : {o u : Progress} {e f j k : ℕ} → o ≡ u → e ≡ f → j ≡ k
+pub stand-same : {o u : Progress} {e f j k : ℕ} → o ≡ u → e ≡ f → j ≡ k
     → _≡_ {A = Stand} (record { went = o; expanded = e; trials = j }) (record { went = u; expanded = f; trials = k })
 stand-same p q r = λ i. record { went = p i; expanded = q i; trials = r i }
 

@@ -11,7 +11,7 @@ use Rattle.notation.specs.Model.{Model, stars}
 use Rattle.notation.specs.Regular.{Every, NumberedFrom, Regular}
 use Rattle.meaning.specs.Meaning.{State, Choice, Move, step, idle, commandAt, Fits, Breaks, AreSteps, IsRun, last}
 use Rattle.meaning.specs.OneRow.{One, stateNumber, stateCount, wordCount, spread, spreadWord, starts, breaks, next, TraceStep, spreadStep, lastOf}
-use Rattle.meaning.specs.Evidence.{StepFits, TracePasses}
+use Rattle.meaning.specs.Evidence.{StepFits, ConditionD, ConditionE, TracePasses}
 use Rattle.meaning.specs.working.Conditions.{testE}
 use Rattle.notation.proofs.Members.{joined}
 use Rattle.meaning.proofs.Lists.{every-at}
@@ -21,7 +21,7 @@ use Rattle.meaning.proofs.Fits.{step-fits}
 use Rattle.notation.proofs.Booleans.{and-split}
 use Rattle.meaning.proofs.OneRow.{starts-tell, breaks-tell, next-stays, last-is}
 use Rattle.meaning.proofs.Accept.{all-tests-tell}
-use Rattle.exploration.specs.Findings.{Reaches}
+use Rattle.exploration.specs.Findings.{Reaches, TraceTo}
 use Rattle.exploration.specs.working.Transitions.{Transitions, Lawful, moveOf}
 use Rattle.exploration.specs.working.Runs.{Run, startsAt, goesOn, final, Valid, steps, startOf, stepsOf}
 use Rattle.exploration.specs.working.Results.{Reached}
@@ -109,6 +109,9 @@ module _ (T : Transitions) (m : Model) (A : Agrees T m) where
             (ap (breaks m) (steps-end r) ∙ sym (A .breaks (final T r) (final-below r v)) ∙ e);
       }
 
+  pub trace-to : (r : Run) → Valid T r → TraceTo m (startOf r) (stepsOf T r) (final T r)
+  trace-to r v = record { startFits = start-below r v; stepsFit = steps-fit r v; starts = run-of r v .start; steps = run-of r v .steps; ends = steps-end r }
+
   pub run-reaches : (r : Run) → Valid T r → Reaches m (final T r)
   run-reaches r v = (
     spread m One (startOf r),
@@ -139,17 +142,30 @@ module _ (T : Transitions) (m : Model) (A : Agrees T m) where
   start-valid : (s : ℕ) → s < stateCount m → starts m s ≡ true → Valid T (startsAt s)
   start-valid s h e = (in-table h, A .starts s h ∙ e)
 
-  module _ (s : ℕ) (xs : List TraceStep) (p : TracePasses m s xs) where
+  module _ (s : ℕ) (xs : List TraceStep) (f : s < stateCount m) (g : Every (StepFits m) xs) (d : ConditionD m s) where
     begins : Valid T (startsAt s)
-    begins = start-valid s (p .startFits) (starts-tell m s .1 (p .starts))
+    begins = start-valid s f (starts-tell m s .1 d)
 
+    steps-valid : Valid T (onBy (startsAt s) xs)
+    steps-valid = on-valid (startsAt s) xs begins g
+
+    steps-lead : ConditionE m s xs → final T (onBy (startsAt s) xs) ≡ lastOf s xs
+    steps-lead e = on-final (startsAt s) xs begins g (all-tests-tell m .tellsE s xs g .1 e)
+
+  pub to-valid : (s : ℕ) (xs : List TraceStep) (t : ℕ) → TraceTo m s xs t → Valid T (onBy (startsAt s) xs)
+  to-valid s xs t p = steps-valid s xs (p .startFits) (p .stepsFit) (p .starts)
+
+  pub to-final : (s : ℕ) (xs : List TraceStep) (t : ℕ) → TraceTo m s xs t → final T (onBy (startsAt s) xs) ≡ t
+  to-final s xs t p = steps-lead s xs (p .startFits) (p .stepsFit) (p .starts) (p .steps) ∙ p .ends
+
+  module _ (s : ℕ) (xs : List TraceStep) (p : TracePasses m s xs) where
     pub trace-valid : Valid T (onBy (startsAt s) xs)
-    trace-valid = on-valid (startsAt s) xs begins (p .stepsFit)
+    trace-valid = steps-valid s xs (p .startFits) (p .stepsFit) (p .starts)
 
     pub trace-breaks : T .breaks (final T (onBy (startsAt s) xs)) ≡ true
     trace-breaks =
         A .breaks (final T (onBy (startsAt s) xs)) (final-below (onBy (startsAt s) xs) trace-valid)
-        ∙ ap (breaks m) (on-final (startsAt s) xs begins (p .stepsFit) (all-tests-tell m .tellsE s xs (p .stepsFit) .1 (p .steps)))
+        ∙ ap (breaks m) (steps-lead s xs (p .startFits) (p .stepsFit) (p .starts) (p .steps))
         ∙ all-tests-tell m .tellsF s xs .1 (p .breaks)
 
   -- A run of the table of one row gives a run to the number of its last state.

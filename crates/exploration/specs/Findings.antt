@@ -7,9 +7,10 @@ use mathlib.Core.List.{List}
 use Prim.Native.Nat.{ℕ, _<_, _≤_}
 use lib.ListN.{length, replicate}
 use Rattle.notation.specs.Model.{Model}
+use Rattle.notation.specs.Regular.{Every}
 use Rattle.meaning.specs.Meaning.{State, Move, IsRun, Breaks, last, Safe, Unsafe, CanStart}
-use Rattle.meaning.specs.OneRow.{One, stateNumber, stateCount, TraceStep}
-use Rattle.meaning.specs.Evidence.{inMap, TracePasses, IsVoid, Verdict, safeBy, voidBy, unsafeBy}
+use Rattle.meaning.specs.OneRow.{One, stateNumber, stateCount, TraceStep, lastOf}
+use Rattle.meaning.specs.Evidence.{inMap, StepFits, ConditionD, ConditionE, TracePasses, IsVoid, Verdict, safeBy, voidBy, unsafeBy}
 use Rattle.sheets.specs.Sheets.{mapLength}
 use Rattle.sheets.specs.SheetTexts.{AreBytes, IsMap}
 use Rattle.exploration.specs.Order.{RunBefore}
@@ -17,6 +18,14 @@ use Rattle.exploration.specs.Order.{RunBefore}
 -- Some run of the table of one row leads to the state numbered t.
 abbrev pub Reaches : Model → ℕ → Type 0
 Reaches m t = (s : State One) × (xs : List (Move One)) × IsRun m s xs × (stateNumber (last s xs) ≡ t)
+
+-- So does the run that begins at the state numbered s and goes by the steps xs.
+pub record TraceTo (m : Model) (s : ℕ) (xs : List TraceStep) (t : ℕ) : Type 0 where
+  pub startFits : s < stateCount m
+  pub stepsFit : Every (StepFits m) xs
+  pub starts : ConditionD m s
+  pub steps : ConditionE m s xs
+  pub ends : lastOf s xs ≡ t
 
 -- The map has exactly those states. Its numbers are bytes.
 pub record ExactMap (m : Model) (map : List ℕ) : Type 0 where

@@ -1,1 +1,2 @@
 -- Laws of a search in portions, by subject.
+pub mod FlatTexts

@@ -8,7 +8,7 @@ use native.Mathlib.Omega.{arith}
 use lib.Dec.{leb, ltb}
 use lib.ListN.{length, getD, take}
 use lib.Seq.{length-take-le, getD-take}
-use borrow.Author.Tests.{le-leb, lt-leb, lt-ltb}
+use borrow.Author.Tests.{le-leb, lt-leb, lt-ltb, le-ltb}
 use Rattle.notation.specs.working.Machine as N
 use Rattle.notation.specs.working.Answer.{answer}
 use Rattle.reader.specs.declared.Answer.{Answer}
@@ -38,9 +38,12 @@ use Rattle.verdicts.specs.declared.finding.Finding.the-variants as F
 use Rattle.exploration.specs.working.Trials.{trialCount}
 use Rattle.exploration.specs.working.Results.{resultOf}
 use Rattle.exploration.specs.working.Found.{verdictFor}
+use Rattle.conditions.specs.declared.outcome.Outcome.the-variants as O
+use Rattle.questions.specs.declared.reply.Reply.{Reply}
+use Rattle.questions.specs.declared.reply.Reply.the-variants as Q
 use Rattle.pauses.specs.Answers.{Wording, paused, returned}
 use Rattle.pauses.specs.Held.{Held, Holding}
-use Rattle.pauses.specs.working.Pausing.{flatOf, tabled, heldAlone, heldBy, nothingLeft, openFor, portionIn, portionFor, lastRecorded, canClose, closedBy, allFrom, finishIn, heldIn, leftIn}
+use Rattle.pauses.specs.working.Pausing.{flatOf, tabled, heldAlone, heldBy, nothingLeft, openFor, portionIn, portionFor, lastRecorded, canClose, closedBy, allFrom, finishIn, heldIn, leftIn, metFor, metIn, metOf}
 use Rattle.search.specs.working.Ends.{Ends}
 use Rattle.search.proofs.SearchesLeft.{and-first, and-second, left-kept}
 
@@ -185,9 +188,32 @@ module _ (T : Transitions) (b : Bool) (n : ℕ) (q p : List ℕ) where
           let h : 0 < n = positive n (λ z. false≢true (sym (close-nothing e z) ∙ c)) in
           (h, recorded T (take (T .size) p) (getD q (n - 1) 0) (R .below (n - 1) (omega arith)) (sym (close-recorded (T .size) refl R e h) ∙ c))
 
+-- Whether a state is met, test by test.
+module _ (M : System) (t : ℕ) (q p : List ℕ) where
+  pub unasked : tabled M q p ≡ false → Q.Told (O.Refused 8 0) ≡ metFor M t q p
+  unfolding metFor
+  unasked h = rw h
+
+  module _ (h : tabled M q p ≡ true) where
+    pub no-state : size M ≤ t → Q.Told (O.Refused 10 0) ≡ metFor M t q p
+    unfolding metFor
+    no-state l = rw (h, le-ltb t (size M) l)
+
+    module _ (l : t < size M) where
+      pub not-met : getD p t 0 ≡ 0 → Q.No ≡ metFor M t q p
+      unfolding metFor
+      not-met e = rw (h, lt-ltb t (size M) l, le-ltb 0 (getD p t 0) (omega (arith, e)))
+
+      pub is-met : (getD p t 0 ≡ 0 → ⊥) → Q.Yes ≡ metFor M t q p
+      unfolding metFor
+      is-met e = rw (h, lt-ltb t (size M) l, lt-ltb 0 (getD p t 0) (positive (getD p t 0) e))
+        where
+          positive : (n : ℕ) → (n ≡ 0 → ⊥) → 0 < n
+          positive n f = omega arith
+
 -- The text was read, and the code is that of its model; or it was refused.
 module _ (text : List ℕ) {told : Answer} {plan : Plan} {ops : List ℕ} (P : ReadInto text told plan ops) where
-  flat-same : systemIn ops plan ≡ flatOf text
+  pub flat-same : systemIn ops plan ≡ flatOf text
   flat-same = ap (λ (x : List ℕ). systemIn x plan) (P .coded) ∙ ap (λ (x : Plan). systemIn (readingOf text .code .ops) x) (P .planned)
 
   pub held-read : A.Read ≡ told → (due : System → List ℕ → List ℕ → Held) (q p : List ℕ) {w : Wording} {q₁ p₁ : List ℕ}
@@ -210,3 +236,12 @@ module _ (text : List ℕ) {told : Answer} {plan : Plan} {ops : List ℕ} (P : R
   pub left-refused : (n i : ℕ) → A.Refused n i ≡ told → (due : List ℕ → List ℕ → List ℕ → Left) (q p o : List ℕ) → Ends (leftIn (answer text) due q p o) (F.Refused n i) q p o
   left-refused n i h due q p o =
       subst (λ (L : Left). Ends L (F.Refused n i) q p o) (sym (ap (λ (u : N.Outcome). leftIn u due q p o) (refused-of text P n i h))) (refl, (refl, refl, refl))
+
+  pub met-read : A.Read ≡ told → (t : ℕ) (q p : List ℕ) (r : Reply) → r ≡ metFor (systemIn ops plan) t q p → r ≡ metOf text t q p
+  unfolding metIn metOf
+  met-read h t q p r e =
+      e ∙ ap (λ (M : System). metFor M t q p) flat-same ∙ sym (ap (λ (u : N.Outcome). metIn u (metFor (flatOf text) t) q p) (read-of text P h .told))
+
+  pub met-refused : (n i : ℕ) → A.Refused n i ≡ told → (t : ℕ) (q p : List ℕ) → Q.Told (O.Refused n i) ≡ metOf text t q p
+  unfolding metIn metOf
+  met-refused n i h t q p = sym (ap (λ (u : N.Outcome). metIn u (metFor (flatOf text) t) q p) (refused-of text P n i h))

@@ -5,7 +5,7 @@ ghost use Rattle.evaluation.specs.working.CodeSystem.{Sound};
 ghost use Rattle.exploration.specs.working.CodeTransitions.{transitionsIn};
 ghost use Rattle.exploration.specs.working.Pauses.{Judged};
 ghost use Rattle.exploration.specs.working.Tables.{Ready};
-ghost use Rattle.pauses.specs.working.Pausing.{openFor, portionFor, finishIn, finishFor};
+ghost use Rattle.pauses.specs.working.Pausing.{openFor, portionFor, finishIn, finishFor, metFor};
 ghost use Rattle.sheets.specs.Sheets.{sheetRoom};
 ghost use Rattle.sheets.specs.working.FlatSystem.{systemIn};
 ghost use Rattle.search.specs.Answers.{pauseFor};
@@ -15,8 +15,10 @@ use crate::concluding::conclude;
 use crate::concluding::search_roomy;
 use crate::position::Paused;
 use crate::position::Position;
+use conditions::outcome::Outcome;
 use evaluation::numbers::power;
 use evaluation::plan::Plan;
+use questions::reply::Reply;
 use sheets::fields::sheet_room;
 use tracing::recorded::is_recorded;
 use traversal::exploring::Reach;
@@ -175,4 +177,25 @@ pub fn finish_code(
         return Finding::Refused(8, 0);
     }
     finish_roomy(ops, plan, states, reach, first, second, sheet)
+}
+
+// Whether a state is met.
+pub fn met_code(ops: &[u16; 2048], plan: Plan, state: usize, first: &[u16], second: &[u16]) -> Reply
+    requires { ⌜ Sound plan ⌝ }
+    ensures { λ r. ⌜ r ≡ metFor (systemIn (now (ops .entry)) plan) state (now (first .entry)) (now (second .entry)) ⌝ }
+{
+    let states = power(plan.bits);
+    if first.len() < states {
+        return Reply::Told(Outcome::Refused(8, 0));
+    }
+    if second.len() < states {
+        return Reply::Told(Outcome::Refused(8, 0));
+    }
+    if states <= state {
+        return Reply::Told(Outcome::Refused(10, 0));
+    }
+    if second[state] == 0 {
+        return Reply::No;
+    }
+    Reply::Yes
 }

@@ -1,16 +1,19 @@
 // A search in portions: the position is handed back as a value, and the tables stay with the caller.
 ghost use mathlib.Core.Path.{_≡_};
 ghost use Rattle.pauses.specs.Held.{Holding};
-ghost use Rattle.pauses.specs.working.Pausing.{openOf, portionOf, finishOf};
+ghost use Rattle.pauses.specs.working.Pausing.{openOf, portionOf, finishOf, metOf};
 ghost use Rattle.sheets.specs.SheetTexts.{AreBytes};
 ghost use Rattle.verdicts.specs.Left.{Leaves};
 ghost use Rattle.search.specs.Answers.{pauseFor, wordingOf};
 ghost use Rattle.search.specs.working.Ends.{EndsWith};
 ghost use Rattle.search.specs.working.Pausing.{pauseIn};
 use crate::portions::finish_code;
+use crate::portions::met_code;
 use crate::portions::open_code;
 use crate::portions::portion_code;
 use acceptance::plans::read_plan;
+use conditions::outcome::Outcome;
+use questions::reply::Reply;
 use reader::Answer;
 use sheets::fields::bytes_known;
 use traversal::exploring::Reach;
@@ -41,6 +44,20 @@ pub fn open(text: &[u8], first: &mut [u16], second: &mut [u16]) -> Paused
     match answer {
         Answer::Refused(n, p) => Paused::Refused(n, p),
         Answer::Read => open_code(&ops, told.plan, first, second),
+    }
+}
+
+// Whether a state has been met by the search that the tables hold, which the tables alone tell.
+// Yes and no mean something where the tables are as a call for the same text left them (`MetTells`).
+pub fn met(state: usize, text: &[u8], first: &[u16], second: &[u16]) -> Reply
+    ensures { λ r. ⌜ r ≡ metOf (now (text .entry)) state (now (first .entry)) (now (second .entry)) ⌝ }
+{
+    let mut ops = [0u16; 2048];
+    let told = read_plan(text, &mut ops);
+    let answer = told.answer;
+    match answer {
+        Answer::Refused(n, p) => Reply::Told(Outcome::Refused(n, p)),
+        Answer::Read => met_code(&ops, told.plan, state, first, second),
     }
 }
 

@@ -18,6 +18,9 @@ use Rattle.exploration.specs.working.Pauses.{Stand, seenIn, opened, further, pa
 use Rattle.exploration.specs.working.Found.{transitionsOf}
 use Rattle.verdicts.specs.Left.{Left}
 use Rattle.verdicts.specs.working.Searching.{roomy, leftBy, leftAlone, foundBy}
+use Rattle.conditions.specs.declared.outcome.Outcome.the-variants.{Refused}
+use Rattle.questions.specs.declared.reply.Reply.{Reply}
+use Rattle.questions.specs.declared.reply.Reply.the-variants.{Yes, No, Told}
 use Rattle.pauses.specs.Answers.{paused, returned}
 use Rattle.pauses.specs.Held.{Held}
 
@@ -104,3 +107,15 @@ portionOf text p k = heldIn (answer text) (portionFor (flatOf text) p k)
 
 unfoldable pub finishOf : List ℕ → Pause → List ℕ → List ℕ → List ℕ → Left
 finishOf text p = leftIn (answer text) (finishFor (flatOf text) p)
+
+-- Whether a state is met: its entry in the table of parents is not 0.
+unfoldable pub metFor : System → ℕ → List ℕ → List ℕ → Reply
+metFor M t first second =
+    cond (tabled M first second) (cond (ltb t (size M)) (cond (ltb 0 (getD second t 0)) Yes No) (Told (Refused 10 0))) (Told (Refused 8 0))
+
+unfoldable pub metIn : N.Outcome → (List ℕ → List ℕ → Reply) → List ℕ → List ℕ → Reply
+metIn (N.read x) due first second = due first second
+metIn (N.refused n p) due first second = Told (Refused n p)
+
+unfoldable pub metOf : List ℕ → ℕ → List ℕ → List ℕ → Reply
+metOf text t = metIn (answer text) (metFor (flatOf text) t)
