@@ -35,7 +35,7 @@ module _ (M : System) where
   trace-sheet-length s xs = omega (arith, length-append (headerBytes M) (startBytes s ++ stepsBytes xs), steps-length xs)
 
 -- The run that the search gives has fewer steps than there are states.
-abbrev Short : Transitions → Result → Type 0
+abbrev pub Short : Transitions → Result → Type 0
 Short T (firstRun r) = steps r < T .size
 Short T (reached b) = Unit {0}
 
@@ -54,7 +54,7 @@ map-evidence false map = refl
 
 -- The sheet that is found has its place in the buffer.
 module _ (M : System) (T : Transitions) where
-  short-for : 1 ≤ T .size → (v : Result) → Short T v → length (sheetBytes M (evidenceOf (verdictFor T v))) + 2 ≤ length (headerBytes M) + 10 * T .size
+  pub short-for : 1 ≤ T .size → (v : Result) → Short T v → length (sheetBytes M (evidenceOf (verdictFor T v))) + 2 ≤ length (headerBytes M) + 10 * T .size
   unfolding verdictFor
   short-for h (firstRun r) k = omega (arith, trace-sheet-length M (startOf r) (stepsOf T r), steps-count T r)
   short-for h (reached b) k =

@@ -1,2 +1,4 @@
 -- Laws of a search in portions, by subject.
 pub mod FlatTexts
+pub mod Finished
+pub mod AnyCalls

@@ -204,7 +204,7 @@ whatever-left text first second sheet P refused missing searched = go (one-answe
     go (inr (n, i, r)) = subst P (sym (refused-left text n i r first second sheet)) (refused n i r)
 
 -- A call that has searched was not refused.
-searched-said : (x : Verdict) (l t n p : ℕ) → wordingOf (verdictOf x l t) ≡ returned n p → ⊥
+pub searched-said : (x : Verdict) (l t n p : ℕ) → wordingOf (verdictOf x l t) ≡ returned n p → ⊥
 unfolding verdictOf wordingOf
 searched-said (safeBy map) l t n p e = not-verdict n p l _ .0 (sym e)
 searched-said (voidBy map) l t n p e = not-verdict n p l _ .1 (sym e)
