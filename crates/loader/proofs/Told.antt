@@ -1,13 +1,12 @@
 -- The numbers that C is given tell the answers, and fit.
 -- Assumes nothing.
-use mathlib.Core.Path.{_≡_, refl, sym, ap, _∙_, subst}
+use mathlib.Core.Path.{_≡_, sym, ap, _∙_}
 use mathlib.Core.Logic.{_⊎_, inl, inr}
 use mathlib.Core.List.{List}
 use Prim.Native.Nat.{ℕ, _+_, _*_, _/_, _%_, _≤_}
 use native.Mathlib.Omega.{arith}
 use lib.ListN.{length}
 use borrow.Author.Tests.{ne-eqb}
-use Rattle.notation.specs.Bytes.{bytes}
 use Rattle.notation.specs.Model.{Model}
 use Rattle.notation.specs.Texts.{TextSays, TextRefused}
 use Rattle.notation.proofs.Texts.{one-answer}
@@ -19,52 +18,17 @@ use Rattle.reader.specs.declared.Reading.{Reading}
 use Rattle.reader.specs.Read.{readingOf}
 use Rattle.reader.specs.Answers as R
 use Rattle.reader.proofs.Promised.{model-called, refusal-called, read-answers}
-use Rattle.conditions.specs.declared.outcome.Outcome.{Outcome}
-use Rattle.conditions.specs.declared.outcome.Outcome.the-variants as O
-use Rattle.conditions.specs.Outcomes.{wordingOf}
-use Rattle.acceptance.specs.Promises.{Bounded}
 use Rattle.acceptance.specs.working.Test.{testOf}
 use Rattle.acceptance.proofs.TestTexts.{read-into, read-sound}
 use Rattle.acceptance.proofs.Places.{answers-bounded}
 use Rattle.packing.specs.Packed.{packed, mostAbove}
 use Rattle.packing.proofs.Packed.{low-back, above-back}
-use Rattle.loader.specs.Numbers.{testNumber, modelNumber, readNumber, wordingFor, readingFor}
+use Rattle.packing.proofs.OutcomesTold.{outcome-told}
+use Rattle.loader.specs.Numbers.{modelNumber, readNumber, readingFor}
 use Rattle.loader.specs.Promises.{TestNumbersTell, readingTo, ReadNumbersTell}
 
-told : (o : Outcome) → Bounded (wordingOf o) → wordingFor (testNumber (wordingOf o)) ≡ wordingOf o
-unfolding wordingOf testNumber bytes
-told O.SafeHolds b = refl
-told O.Void b = refl
-told O.TraceHolds b = refl
-told O.FailsA b = refl
-told O.FailsB b = refl
-told O.FailsC b = refl
-told O.FailsD b = refl
-told O.FailsE b = refl
-told O.FailsF b = refl
-told (O.Refused n p) b =
-    let h = b .1 in
-    rw (
-      low-back n p (omega arith),
-      above-back n p (omega arith),
-      ne-eqb n 115 (omega arith),
-      ne-eqb n 118 (omega arith),
-      ne-eqb n 116 (omega arith),
-      ne-eqb n 65 (omega arith),
-      ne-eqb n 66 (omega arith),
-      ne-eqb n 67 (omega arith),
-      ne-eqb n 68 (omega arith),
-      ne-eqb n 69 (omega arith),
-      ne-eqb n 70 (omega arith),
-    )
-
 pub test-numbers-tell : TestNumbersTell
-test-numbers-tell text b = told (testOf text b) (answers-bounded text b)
-
--- The place of an outcome that is a refusal.
-pub place-fits : (o : Outcome) (n p : ℕ) → Bounded (wordingOf o) → o ≡ O.Refused n p → p ≤ mostAbove
-unfolding wordingOf
-place-fits o n p b e = let c = subst (λ (x : Outcome). Bounded (wordingOf x)) e b in omega (arith, c .2)
+test-numbers-tell text b = outcome-told (testOf text b) (answers-bounded text b)
 
 -- The counts are bytes, and so the number tells them.
 model-back : (a b k : ℕ) → a ≤ 255 → b ≤ 255 → k ≤ 255 → readingFor (modelNumber a b k) ≡ R.model a b k
@@ -110,7 +74,3 @@ module _ (text : List ℕ) (r : Reading) (e : r ≡ readingOf text) where
 
   pub counts-fit : Read ≡ r .answer → (r .code .shared + r .code .row ≤ 12) × (r .code .commands ≤ 16)
   counts-fit h = let s = read-sound text (read-into text r e) h in (s .fewBits, s .fewCommands)
-
--- The number of an outcome that is this one.
-pub number-of : (o told : Outcome) (r x : ℕ) → o ≡ told → r ≡ x → x ≡ testNumber (wordingOf told) → r ≡ testNumber (wordingOf o)
-number-of o told r x e f g = f ∙ g ∙ sym (ap (λ (y : Outcome). testNumber (wordingOf y)) e)

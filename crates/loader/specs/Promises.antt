@@ -10,7 +10,8 @@ use Rattle.reader.specs.Read.{readingOf}
 use Rattle.reader.specs.Answers as R
 use Rattle.acceptance.specs.Promises.{answerTo}
 use Rattle.packing.specs.Packed.{packed}
-use Rattle.loader.specs.Numbers.{testNumber, modelNumber, readNumber, wordingFor, readingFor}
+use Rattle.packing.specs.Outcomes.{testNumber, wordingFor}
+use Rattle.loader.specs.Numbers.{modelNumber, readNumber, readingFor}
 
 -- The number of an answer of the test tells the answer.
 abbrev pub TestNumbersTell : Type 0

@@ -2,35 +2,16 @@
 // A slice is a pointer and a length there, and each answer is one number.
 ghost use mathlib.Core.Path.{_≡_};
 ghost use Prim.Native.Nat.{_+_, _≤_};
-ghost use Rattle.conditions.specs.Outcomes.{wordingOf};
-ghost use Rattle.acceptance.specs.Promises.{answerTo, Bounded};
+ghost use Rattle.acceptance.specs.Promises.{answerTo};
 ghost use Rattle.sheets.specs.SheetTexts.{AreBytes};
-ghost use Rattle.loader.specs.Numbers.{testNumber, modelNumber, readNumber};
+ghost use Rattle.packing.specs.Outcomes.{testNumber};
+ghost use Rattle.loader.specs.Numbers.{modelNumber, readNumber};
 ghost use Rattle.loader.specs.Promises.{readingTo};
 use acceptance::test;
-use conditions::outcome::Outcome;
+use packing::outcomes::outcome_number;
 use packing::pack;
 use reader::Answer;
 use reader::read;
-
-// The number of an outcome.
-fn outcome_number(outcome: Outcome) -> u64
-    requires { ⌜ Bounded (wordingOf outcome) ⌝ }
-    ensures { λ r. ⌜ r ≡ testNumber (wordingOf outcome) ⌝ }
-{
-    match outcome {
-        Outcome::SafeHolds => pack(b's', 0),
-        Outcome::Void => pack(b'v', 0),
-        Outcome::TraceHolds => pack(b't', 0),
-        Outcome::FailsA => pack(b'A', 0),
-        Outcome::FailsB => pack(b'B', 0),
-        Outcome::FailsC => pack(b'C', 0),
-        Outcome::FailsD => pack(b'D', 0),
-        Outcome::FailsE => pack(b'E', 0),
-        Outcome::FailsF => pack(b'F', 0),
-        Outcome::Refused(number, place) => pack(number, place),
-    }
-}
 
 // The answer to a text and a sheet.
 #[no_mangle]

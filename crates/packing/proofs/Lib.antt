@@ -1,2 +1,3 @@
 -- Laws of packed numbers.
 pub mod Packed
+pub mod OutcomesTold

@@ -1,4 +1,6 @@
 // An answer as one number for C: its low byte says which answer it is, and what is above that byte is a place or a length.
+pub mod outcomes;
+
 ghost use mathlib.Core.Path.{_≡_};
 ghost use Prim.Native.Nat.{_≤_};
 ghost use Rattle.packing.specs.Packed.{packed, mostAbove};

@@ -259,21 +259,22 @@ module _ (text : List ℕ) (m : Model) (says : TextSays text m) where
       go false e = anew p first second sheet (finish-no M p first second sheet e)
 
   -- Where there is room, and where there is none.
-  module _ (p : Pause) (k : ℕ) (first second : List ℕ) where
-    no-tables : ¬ (TableRoom m first second) → tabled M first second ≡ false
+  module _ (first second : List ℕ) where
+    pub no-tables : ¬ (TableRoom m first second) → tabled M first second ≡ false
     no-tables h = go (tabled M first second) refl
       where
         go : (b : Bool) → tabled M first second ≡ b → b ≡ false
         go true e = absurd (h (tables-room first second e))
         go false e = refl
 
+  module _ (p : Pause) (k : ℕ) (first second : List ℕ) where
     open-there : TableRoom m first second → openOf text first second ≡ heldBy (opened T) first second
     unfolding openFor
     open-there r = open-is first second ∙ ap (λ (b : Bool). cond b (heldBy (opened T) first second) (heldAlone 8 0 first second)) (tables-there first second r)
 
     open-missing : ¬ (TableRoom m first second) → openOf text first second ≡ heldAlone 8 0 first second
     unfolding openFor
-    open-missing h = open-is first second ∙ ap (λ (b : Bool). cond b (heldBy (opened T) first second) (heldAlone 8 0 first second)) (no-tables h)
+    open-missing h = open-is first second ∙ ap (λ (b : Bool). cond b (heldBy (opened T) first second) (heldAlone 8 0 first second)) (no-tables first second h)
 
     portion-there : TableRoom m first second → portionOf text p k first second ≡ portionIn M p k first second
     unfolding portionFor
@@ -281,7 +282,7 @@ module _ (text : List ℕ) (m : Model) (says : TextSays text m) where
 
     portion-missing : ¬ (TableRoom m first second) → portionOf text p k first second ≡ heldAlone 8 0 first second
     unfolding portionFor
-    portion-missing h = portion-is p k first second ∙ ap (λ (b : Bool). cond b (portionIn M p k first second) (heldAlone 8 0 first second)) (no-tables h)
+    portion-missing h = portion-is p k first second ∙ ap (λ (b : Bool). cond b (portionIn M p k first second) (heldAlone 8 0 first second)) (no-tables first second h)
 
   module _ (p : Pause) (first second sheet : List ℕ) where
     pub finish-there : Room m first second sheet → finishOf text p first second sheet ≡ finishIn M p first second sheet

@@ -2,3 +2,4 @@
 pub mod FlatTexts
 pub mod Finished
 pub mod AnyCalls
+pub mod MetRefusals

@@ -22,9 +22,12 @@ use Rattle.verdicts.specs.Answers as F
 use Rattle.verdicts.specs.Left.{Left, zeroed}
 use Rattle.verdicts.specs.Promises.{Room, answerOf, SearchRefused}
 use Rattle.verdicts.specs.working.Searching.{leftAlone, searchOf}
+use Rattle.conditions.specs.Outcomes as O
+use Rattle.questions.specs.Answers as Q
+use Rattle.questions.specs.Promises as QP
 use Rattle.pauses.specs.Answers.{Wording, paused, returned}
 use Rattle.pauses.specs.Held.{Held}
-use Rattle.pauses.specs.working.Pausing.{openOf, portionOf, finishOf}
+use Rattle.pauses.specs.working.Pausing.{openOf, portionOf, finishOf, metOf}
 
 -- The two lent tables have an entry for each state.
 abbrev pub TableRoom : Model → List ℕ → List ℕ → Type 0
@@ -224,3 +227,50 @@ pub record SameCalls (text other : List ℕ) (p : Pause) (k : ℕ) (first second
 
 abbrev pub PausedWithoutCase : Type 0
 PausedWithoutCase = (text other : List ℕ) → Recased text other → (p : Pause) (k : ℕ) (first second sheet : List ℕ) → SameCalls text other p k first second sheet
+
+-- What is replied to whether a state has been met.
+abbrev pub metReply : List ℕ → ℕ → List ℕ → List ℕ → Q.Wording
+metReply text t first second = Q.wordingOf (metOf text t first second)
+
+-- Yes is said exactly of the states met so far, and no of all others.
+pub record MetMeans (a : Paused) (t : ℕ) (reply : Q.Wording) : Type 0 where
+  pub yes : (reply ≡ Q.yes) ↔ Among (a .position .met) (a .first) t
+  pub no : (reply ≡ Q.no) ↔ (¬ (Among (a .position .met) (a .first) t))
+
+abbrev pub MetTells : Type 0
+MetTells =
+    (text : List ℕ) (m : Model) → TextSays text m → (a : Paused) → Unaltered text m a → (t : ℕ) → t < stateCount m
+    → MetMeans a t (metReply text t (a .first) (a .second))
+
+-- A state of which yes is said is one that a run of the table of one row reaches.
+abbrev pub MetReaches : Type 0
+MetReaches =
+    (text : List ℕ) (m : Model) → TextSays text m → (a : Paused) → Unaltered text m a → (t : ℕ)
+    → metReply text t (a .first) (a .second) ≡ Q.yes → Reaches m t
+
+-- As long as no state met breaks: yes exactly for a start state, and for the result of a step from a state expanded so far.
+abbrev pub MetExactly : Type 0
+MetExactly =
+    (text : List ℕ) (m : Model) → TextSays text m → (a : Paused) → Unaltered text m a → a .position .broke ≡ false → (t : ℕ) → t < stateCount m
+    → (metReply text t (a .first) (a .second) ≡ Q.yes) ↔ ((starts m t ≡ true) ⊎ StepFrom m (a .position .expanded) (a .first) t)
+
+-- Yes stays yes in every later pause of the same search.
+abbrev pub MetStays : Type 0
+MetStays =
+    (text : List ℕ) (m : Model) → TextSays text m → (a b : Paused) → Unaltered text m a → Later text m a b → (t : ℕ)
+    → metReply text t (a .first) (a .second) ≡ Q.yes → metReply text t (b .first) (b .second) ≡ Q.yes
+
+-- The refusals of a question, of any tables: the text's own, then 8 where a table is too short, then 10 for a number that no state has; and no other reply is one.
+pub record MetRefused (text : List ℕ) (t : ℕ) (first second : List ℕ) : Type 0 where
+  pub ofText : (n i : ℕ) → TextRefused text n i → metReply text t first second ≡ Q.told (O.returned n i)
+  pub ofTables : (m : Model) → TextSays text m → ¬ (TableRoom m first second) → metReply text t first second ≡ Q.told (O.returned 8 0)
+  pub ofState : (m : Model) → TextSays text m → TableRoom m first second → stateCount m ≤ t → metReply text t first second ≡ Q.told (O.returned 10 0)
+  pub answered : (m : Model) → TextSays text m → TableRoom m first second → t < stateCount m
+      → (metReply text t first second ≡ Q.yes) ⊎ (metReply text t first second ≡ Q.no)
+
+abbrev pub MetRefusals : Type 0
+MetRefusals = (text : List ℕ) (t : ℕ) (first second : List ℕ) → MetRefused text t first second
+
+-- The numbers in a reply.
+abbrev pub MetBounded : Type 0
+MetBounded = (text : List ℕ) (t : ℕ) (first second : List ℕ) → QP.Bounded (metReply text t first second)

@@ -1,13 +1,16 @@
-// The search and its reservation for programs in C and Python: a slice is a pointer and a length there, and the answer is one number.
+// The search, in one go and in portions, and its reservation for programs in C and Python: a slice is a pointer and a length there, and the answer is one number.
+mod portions;
+
 ghost use mathlib.Core.Path.{_≡_};
 ghost use Prim.Native.Nat.{_+_, _*_, _≤_};
 ghost use Rattle.packing.specs.Packed.{packed};
+ghost use Rattle.pauses.specs.Promises.{FinishBounded};
 ghost use Rattle.reserving.specs.Answers as reservations;
 ghost use Rattle.reserving.specs.Promises as reserving;
 ghost use Rattle.sheets.specs.SheetTexts.{AreBytes};
 ghost use Rattle.verdicts.specs.Answers.{wordingOf};
 ghost use Rattle.verdicts.specs.Left.{Leaves};
-ghost use Rattle.verdicts.specs.Promises.{Bounded, answerOf};
+ghost use Rattle.verdicts.specs.Promises.{answerOf};
 ghost use Rattle.verdicts.specs.working.Searching.{searchOf};
 ghost use Rattle.workbench.specs.Numbers.{searchNumber};
 ghost use Rattle.workbench.specs.Needs.{toldOf};
@@ -17,17 +20,17 @@ use reserving::reserve;
 use search::search;
 use verdicts::finding::Finding;
 
-// The number of a verdict: its letter, the sheet's length, and the number of trials above both. No sheet has more than 7 + 10 * 4096 bytes, and no search makes more than 4096 * 16 * 256 trials.
+// The number of a verdict: its letter, the sheet's length, and the number of trials above both. No sheet has more than 7 + 10 * 4096 bytes, and no search makes more than 4096 * 16 * 256 trials; of a position that was altered there may be four times as many.
 fn verdict_number(letter: u8, length: usize, trials: usize) -> u64
-    requires { ⌜ (length ≤ 40967) × (trials ≤ 16777216) ⌝ }
+    requires { ⌜ (length ≤ 40967) × (trials ≤ 67108864) ⌝ }
     ensures { λ r. ⌜ r ≡ packed letter (length + 65536 * trials) ⌝ }
 {
     pack(letter, length + 65536 * trials)
 }
 
 // The number of an answer.
-fn finding_number(finding: Finding) -> u64
-    requires { ⌜ Bounded (wordingOf finding) ⌝ }
+pub fn finding_number(finding: Finding) -> u64
+    requires { ⌜ FinishBounded (wordingOf finding) ⌝ }
     ensures { λ r. ⌜ r ≡ searchNumber (wordingOf finding) ⌝ }
 {
     match finding {

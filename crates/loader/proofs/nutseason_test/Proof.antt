@@ -5,7 +5,7 @@ use Rattle.conditions.specs.declared.outcome.Outcome.{Outcome}
 use Rattle.conditions.specs.Outcomes.{wordingOf}
 use Rattle.acceptance.specs.Promises.{Bounded}
 use Rattle.acceptance.proofs.Places.{answers-bounded}
-use Rattle.loader.specs.Numbers.{testNumber}
+use Rattle.packing.specs.Outcomes.{testNumber}
 use borrow.Author.Needs.{needs}
 use Rattle.loader.proofs.nutseason_test.Statement.{statement}
 use Rattle.loader.proofs.nutseason_test.Tie as tie

@@ -3,9 +3,9 @@
 use mathlib.Core.Path.{sym, ap, _∙_, subst}
 use Rattle.verdicts.specs.declared.finding.Finding.{Finding}
 use Rattle.verdicts.specs.Answers.{wordingOf}
-use Rattle.verdicts.specs.Promises.{Bounded}
-use Rattle.verdicts.proofs.Places.{answers-bounded}
+use Rattle.pauses.specs.Promises.{FinishBounded}
 use Rattle.workbench.specs.Numbers.{searchNumber}
+use Rattle.workbench.proofs.Told.{search-bounded}
 use borrow.Author.Needs.{needs}
 use Rattle.workbench.proofs.nutseason_search.Statement.{statement}
 use Rattle.workbench.proofs.nutseason_search.Tie as tie
@@ -16,7 +16,7 @@ search-requires c κs = search needs
 finding-number-requires : tie.Need-finding-number-requires
 finding-number-requires c κs =
     let after-search : tie.After-search = search in
-    subst (λ (f : Finding). Bounded (wordingOf f)) (sym (after-search .search .ensures .0)) (answers-bounded _ _ _ _)
+    subst (λ (f : Finding). FinishBounded (wordingOf f)) (sym (after-search .search .ensures .0)) (search-bounded _ _ _ _)
 
 same-length : tie.Need-same-length
 same-length c = search needs

@@ -5,11 +5,11 @@ use Rattle.notation.specs.Bytes.{bytes}
 use Rattle.conditions.specs.declared.outcome.Outcome.the-variants.{SafeHolds, Void, TraceHolds, FailsA, FailsB, FailsC}
 use Rattle.conditions.specs.declared.outcome.Outcome.the-variants.{FailsD, FailsE, FailsF, Refused}
 use Rattle.conditions.specs.Outcomes.{wordingOf}
-use Rattle.loader.specs.Numbers.{testNumber}
-use Rattle.loader.proofs.Told.{place-fits, number-of}
+use Rattle.packing.specs.Outcomes.{testNumber}
+use Rattle.packing.proofs.OutcomesTold.{place-fits, number-of}
 use borrow.Author.Needs.{needs}
-use Rattle.loader.proofs.outcome_number.Statement.{statement}
-use Rattle.loader.proofs.outcome_number.Tie as tie
+use Rattle.packing.proofs.outcomes.outcome_number.Statement.{statement}
+use Rattle.packing.proofs.outcomes.outcome_number.Tie as tie
 
 enum-told : tie.Need-enum-told
 enum-told c = search needs
