@@ -220,7 +220,7 @@ module _ (M : Transitions) (law : Lawful M) where
     fromPlace : (i : ℕ) → i < head → (m : Move) → MoveOf M m → M .step (getD (x .queue) i 0) (m .command) (m .word) ≡ t → Follows x head t
 
   module _ (head : ℕ) (x : Seen) (B : Between M head x) where
-    place-is : (i : ℕ) → getD (x .queue) i 0 ≡ final M (at (B .runs) i)
+    pub place-is : (i : ℕ) → getD (x .queue) i 0 ≡ final M (at (B .runs) i)
     place-is i = ap (λ (l : List ℕ). getD l i 0) (B .good .queue-is) ∙ List·getD-map (final M) (B .runs) i (startsAt 0)
 
     covered-marked : (j t : ℕ) → j < length (B .runs) → final M (at (B .runs) j) ≡ t → Marked t x

@@ -124,7 +124,7 @@ module _ (M : Transitions) where
 
 -- As many states as there are end the search.
 module _ (M : Transitions) (law : Lawful M) where
-  met-few : (n : ℕ) → length (seenIn (after M n .went) .queue) ≤ M .size
+  pub met-few : (n : ℕ) → length (seenIn (after M n .went) .queue) ≤ M .size
   met-few n = let F = fit-after M law n in omega (arith, F .counted, marked-le (seenIn (after M n .went) .parent), F .sized)
 
   all-ended : (brokeOff (after M (M .size) .went) ≡ true) ⊎ (length (seenIn (after M (M .size) .went) .queue) ≤ after M (M .size) .expanded)

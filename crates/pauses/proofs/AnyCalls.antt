@@ -268,15 +268,15 @@ module _ (text : List ℕ) (m : Model) (says : TextSays text m) where
         go false e = refl
 
   module _ (p : Pause) (k : ℕ) (first second : List ℕ) where
-    open-there : TableRoom m first second → openOf text first second ≡ heldBy (opened T) first second
+    pub open-there : TableRoom m first second → openOf text first second ≡ heldBy (opened T) first second
     unfolding openFor
     open-there r = open-is first second ∙ ap (λ (b : Bool). cond b (heldBy (opened T) first second) (heldAlone 8 0 first second)) (tables-there first second r)
 
-    open-missing : ¬ (TableRoom m first second) → openOf text first second ≡ heldAlone 8 0 first second
+    pub open-missing : ¬ (TableRoom m first second) → openOf text first second ≡ heldAlone 8 0 first second
     unfolding openFor
     open-missing h = open-is first second ∙ ap (λ (b : Bool). cond b (heldBy (opened T) first second) (heldAlone 8 0 first second)) (no-tables first second h)
 
-    portion-there : TableRoom m first second → portionOf text p k first second ≡ portionIn M p k first second
+    pub portion-there : TableRoom m first second → portionOf text p k first second ≡ portionIn M p k first second
     unfolding portionFor
     portion-there r = portion-is p k first second ∙ ap (λ (b : Bool). cond b (portionIn M p k first second) (heldAlone 8 0 first second)) (tables-there first second r)
 

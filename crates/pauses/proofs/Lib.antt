@@ -3,3 +3,5 @@ pub mod FlatTexts
 pub mod Finished
 pub mod AnyCalls
 pub mod MetRefusals
+pub mod Unaltered
+pub mod PausesTold

@@ -1,0 +1,237 @@
+-- What a pause that nobody altered tells of the runs of the model's table of one row, and what portions and questions do there.
+-- Assumes nothing.
+use mathlib.Core.Path.{_≡_, refl, sym, ap, _∙_, subst}
+use mathlib.Core.Bool.{Bool, true, false, cond, true≢false, false≢true}
+use mathlib.Core.Logic.{_↔_, _⊎_, inl, inr, ⊎-elim}
+use mathlib.Core.List.{List, [], _∷_, _++_}
+use Prim.Native.Nat.{ℕ, _+_, _-_, _<_, _≤_}
+use native.Mathlib.Omega.{arith}
+use lib.Dec.{ltb}
+use lib.ListN.{length, getD, take, drop, length-map, length-append}
+use lib.Seq.{getD-take}
+use borrow.Author.Tests.{lt-ltb, le-ltb}
+use Rattle.notation.specs.Model.{Model}
+use Rattle.notation.specs.Texts.{TextSays}
+use Rattle.meaning.specs.Meaning.{commandAt}
+use Rattle.meaning.specs.OneRow.{stateCount, wordCount, starts, breaks, next, TraceStep}
+use Rattle.sheets.specs.Sheets.{size}
+use Rattle.exploration.specs.Findings.{Reaches, TraceTo}
+use Rattle.exploration.specs.Order.{RunBefore}
+use Rattle.exploration.specs.Pause.{Pause}
+use Rattle.exploration.specs.working.Transitions.{Transitions, Lawful, Move}
+use Rattle.exploration.specs.working.Exploring.{Seen, Progress, broke, through}
+use Rattle.exploration.specs.working.Runs.{Run, startsAt, final, Valid, Before, MoveOf, startOf, stepsOf}
+use Rattle.exploration.specs.working.Pauses.{Stand, seenIn, brokeOff, opened, after, further, pauseOf, Holds}
+use Rattle.exploration.specs.working.Found.{transitionsOf, Agrees}
+use Rattle.exploration.proofs.First.{at, Between, Ended, queue-length}
+use Rattle.exploration.proofs.Order.{before-trans, before-irrefl, at-most-before}
+use Rattle.exploration.proofs.Right.{queue-last}
+use Rattle.exploration.proofs.RunsOfModels.{onBy, run-reaches, trace-to, to-valid, to-final}
+use Rattle.exploration.proofs.TracesInOrder.{run-before}
+use Rattle.exploration.proofs.Pauses.{Marked, fit-after, mark-stays, Listed, listed-after, between-after, ended-after, Follows, fromStart, fromPlace, follows-marked, marked-follows, first-run, place-is, expanded-met}
+use Rattle.exploration.proofs.PortionEnds.{met-few, grown-further, most-further, least-further, further-none, further-ended}
+use Rattle.exploration.proofs.Portions.{further-further}
+use Rattle.questions.specs.Answers as Q
+use Rattle.questions.specs.declared.reply.Reply.the-variants.{Yes, No}
+use Rattle.pauses.specs.Promises as P
+use Rattle.pauses.specs.Promises.{Paused, HandsBack, Unaltered, Later, Among, StepFrom, PauseMeans, PausesTell, PortionMeans, PortionsTell, MetMeans, MetTells, MetReaches, MetExactly, MetStays, metReply}
+use Rattle.pauses.specs.working.Pausing.{flatOf, heldBy, portionOf, metOf}
+use Rattle.pauses.proofs.AnyCalls as C
+use Rattle.pauses.proofs.MetRefusals.{met-entry}
+use Rattle.pauses.proofs.Unaltered.{over-same, StandsAt, portion-goes, later-at, unaltered-at}
+
+positive : (n : ℕ) → (n ≡ 0 → ⊥) → 0 < n
+positive n h = omega arith
+
+-- What is at the end of a list has a place in it.
+ended-some : (T : Transitions) (x : Seen) → Ended T x → 1 ≤ length (x .queue)
+ended-some T x E = omega (arith, ap length (E .queue-is), length-map (E .runs ++ E .last ∷ []) (final T), length-append (E .runs) (E .last ∷ []))
+
+module _ (text : List ℕ) (m : Model) (says : TextSays text m) (h : ℕ) (a : Paused) (S : StandsAt text m says h a) where
+  abbrev T : Transitions
+  T = transitionsOf (flatOf text)
+
+  abbrev stand : Stand
+  stand = after (transitionsOf (flatOf text)) h
+
+  abbrev x : Seen
+  x = seenIn (after (transitionsOf (flatOf text)) h .went)
+
+  law : Lawful T
+  law = C.law text m says
+
+  agrees : Agrees T m
+  agrees = C.flat text m says .agrees
+
+  -- The numbers of the position.
+  met-is : a .position .met ≡ length (x .queue)
+  met-is = ap (λ (p : Pause). p .met) (S .holds .position)
+
+  expanded-is : a .position .expanded ≡ stand .expanded
+  expanded-is = ap (λ (p : Pause). p .expanded) (S .holds .position)
+
+  broke-is : a .position .broke ≡ brokeOff (stand .went)
+  broke-is = ap (λ (p : Pause). p .broke) (S .holds .position)
+
+  -- The entries of the tables.
+  entry : (i : ℕ) → i < length (x .queue) → getD (a .first) i 0 ≡ getD (x .queue) i 0
+  entry i l = sym (getD-take (length (x .queue)) (a .first) i 0 l) ∙ ap (λ (q : List ℕ). getD q i 0) (S .holds .queue)
+
+  mark : (t : ℕ) → t < stateCount m → getD (a .second) t 0 ≡ getD (x .parent) t 0
+  mark t l =
+      sym (getD-take (T .size) (a .second) t 0 (subst (λ (n : ℕ). t < n) (sym (C.sized text m says)) l)) ∙ ap (λ (q : List ℕ). getD q t 0) (S .holds .parents)
+
+  below : (t : ℕ) → t < stateCount m → t < T .size
+  below t l = subst (λ (n : ℕ). t < n) (sym (C.sized text m says)) l
+
+  in-states : (i : ℕ) → i < length (x .queue) → getD (x .queue) i 0 < stateCount m
+  in-states i l = subst (λ (n : ℕ). getD (x .queue) i 0 < n) (C.sized text m says) (fit-after T law h .below i l)
+
+  listed : Listed T law x
+  listed = listed-after T law h
+
+  -- The states marked are those among the states met.
+  among-marked : (t : ℕ) → Among (a .position .met) (a .first) t → Marked t x
+  among-marked t (i, l, e) =
+      let k : i < length (x .queue) = omega (arith, l, met-is) in
+      subst (λ (u : ℕ). Marked u x) (sym (entry i k) ∙ e) (listed .marks i k)
+
+  marked-among : (t : ℕ) → t < stateCount m → Marked t x → Among (a .position .met) (a .first) t
+  marked-among t l k = let (i, j, e) = listed .queued t (below t l) k in (i, omega (arith, j, met-is), entry i j ∙ e)
+
+  reached-by : (i : ℕ) → i < a .position .met → Reaches m (getD (a .first) i 0)
+  reached-by i l =
+      let k : i < length (x .queue) = omega (arith, l, met-is) in
+      let r = listed .reached i k in
+      subst (Reaches m) (r .ends ∙ sym (entry i k)) (run-reaches T m agrees (r .run) (r .valid))
+
+  -- As long as no state breaks.
+  went-through : (o : Progress) → stand .went ≡ o → a .position .broke ≡ false → (y : Seen) × (stand .went ≡ through y)
+  went-through (broke y) e b = absurd (true≢false (sym (broke-is ∙ ap brokeOff e) ∙ b))
+  went-through (through y) e b = (y, e)
+
+  module _ (y : Seen) (e : stand .went ≡ through y) where
+    seen-same : x ≡ y
+    seen-same = ap seenIn e
+
+    between : Between T (stand .expanded) y
+    between = between-after T law h y e
+
+    abbrev runs : List Run
+    runs = between .runs
+
+    runs-long : length (x .queue) ≡ length (between .runs)
+    runs-long = ap (λ (z : Seen). length (z .queue)) seen-same ∙ queue-length T (between .runs) y (between .good)
+
+    run-entry : (i : ℕ) → i < length (x .queue) → getD (a .first) i 0 ≡ final T (at (between .runs) i)
+    run-entry i l = entry i l ∙ ap (λ (z : Seen). getD (z .queue) i 0) seen-same ∙ place-is T law (stand .expanded) y between i
+
+    step-entry : (i : ℕ) → i < stand .expanded → getD (a .first) i 0 ≡ getD (y .queue) i 0
+    step-entry i l = entry i (omega (arith, l, expanded-met T h)) ∙ ap (λ (z : Seen). getD (z .queue) i 0) seen-same
+
+    follows-from : (t : ℕ) → t < stateCount m → Follows T law y (stand .expanded) t → (starts m t ≡ true) ⊎ StepFrom m (a .position .expanded) (a .first) t
+    follows-from t l (fromStart s) = inl (sym (agrees .starts t l) ∙ s)
+    follows-from t l (fromPlace i k c v f) =
+        let q : i < length (x .queue) = omega (arith, k, expanded-met T h) in
+        let command = subst (λ (n : ℕ). c .command < n) (agrees .commands) (v .0) in
+        inr
+        (record {
+          place = i;
+          within = omega (arith, k, expanded-is);
+          command = c .command;
+          word = c .word;
+          commandFits = command;
+          wordFits = subst (λ (n : ℕ). c .word < n) (agrees .words (c .command) command) (v .1);
+          leads =
+              ap (λ (s : ℕ). next m s (c .command) (c .word)) (step-entry i k)
+              ∙ sym (agrees .step (getD (y .queue) i 0) (c .command) (c .word) (subst (λ (z : Seen). getD (z .queue) i 0 < stateCount m) seen-same (in-states i q)) command)
+              ∙ f;
+        })
+
+    from-follows : (t : ℕ) → t < stateCount m → (starts m t ≡ true) ⊎ StepFrom m (a .position .expanded) (a .first) t → Follows T law y (stand .expanded) t
+    from-follows t l (inl s) = fromStart (agrees .starts t l ∙ s)
+    from-follows t l (inr F) =
+        let k : F .place < stand .expanded = omega (arith, F .within, expanded-is) in
+        let q : F .place < length (x .queue) = omega (arith, k, expanded-met T h) in
+        fromPlace (F .place) k (record { command = F .command; word = F .word })
+        (
+          subst (λ (n : ℕ). F .command < n) (sym (agrees .commands)) (F .commandFits),
+          subst (λ (n : ℕ). F .word < n) (sym (agrees .words (F .command) (F .commandFits))) (F .wordFits),
+        )
+        (agrees .step (getD (y .queue) (F .place) 0) (F .command) (F .word) (subst (λ (z : Seen). getD (z .queue) (F .place) 0 < stateCount m) seen-same (in-states (F .place) q)) (F .commandFits)
+        ∙ ap (λ (s : ℕ). next m s (F .command) (F .word)) (sym (step-entry (F .place) k))
+        ∙ F .leads)
+
+    exactly : (t : ℕ) → t < stateCount m → Among (a .position .met) (a .first) t ↔ ((starts m t ≡ true) ⊎ StepFrom m (a .position .expanded) (a .first) t)
+    exactly t l = (
+      λ k. follows-from t l (marked-follows T law (stand .expanded) y between t (below t l) (subst (Marked t) seen-same (among-marked t k))),
+      λ k. marked-among t l (subst (Marked t) (sym seen-same) (follows-marked T law (stand .expanded) y between t (below t l) (from-follows t l k))),
+    )
+
+    ordered : (i j : ℕ) → i < j → j < a .position .met
+        → (s : ℕ) × (xs : List TraceStep) × TraceTo m s xs (getD (a .first) i 0)
+        × ((t : ℕ) (ys : List TraceStep) → TraceTo m t ys (getD (a .first) j 0) → ¬ (RunBefore t ys s xs))
+    ordered i j l k =
+        let q : j < length (x .queue) = omega (arith, k, met-is) in
+        let p : i < length (x .queue) = omega arith in
+        let G = between .good in
+        let iw : i < length (between .runs) = omega (arith, p, runs-long) in
+        let jw : j < length (between .runs) = omega (arith, q, runs-long) in
+        let r = at (between .runs) i in (
+          startOf r,
+          stepsOf T r,
+          subst (TraceTo m (startOf r) (stepsOf T r)) (sym (run-entry i p)) (trace-to T m agrees r (G .valid i iw)),
+          λ t ys W b.
+              let z = onBy (startsAt t) ys in
+              let f = first-run T law (stand .expanded) y between j jw z (to-valid T m agrees t ys _ W) (to-final T m agrees t ys _ W ∙ run-entry j q) in
+              before-irrefl r
+              (before-trans r (at (between .runs) j) r (G .sorted i j l jw)
+              (at-most-before (at (between .runs) j) z r f (run-before T t ys r b))),
+        )
+
+    unbroken : (i : ℕ) → i < a .position .met → breaks m (getD (a .first) i 0) ≡ false
+    unbroken i k =
+        let q : i < length (x .queue) = omega (arith, k, met-is) in
+        let w : i < length (between .runs) = omega (arith, q, runs-long) in
+        ap (breaks m) (entry i q)
+        ∙ sym (agrees .breaks (getD (x .queue) i 0) (in-states i q))
+        ∙ ap (T .breaks) (sym (entry i q) ∙ run-entry i q)
+        ∙ between .good .reached i w
+
+  -- Where the last state breaks.
+  went-broke : (o : Progress) → stand .went ≡ o → a .position .broke ≡ true → (y : Seen) × (stand .went ≡ broke y)
+  went-broke (broke y) e b = (y, e)
+  went-broke (through y) e b = absurd (true≢false (sym b ∙ broke-is ∙ ap brokeOff e))
+
+  broken : a .position .broke ≡ true → (1 ≤ a .position .met) × (breaks m (getD (a .first) (a .position .met - 1) 0) ≡ true)
+  broken b =
+      let (y, e) = went-broke (stand .went) refl b in
+      let E = ended-after T law h y e in
+      let f : x ≡ y = ap seenIn e in
+      let some : 1 ≤ length (x .queue) = subst (λ (z : Seen). 1 ≤ length (z .queue)) (sym f) (ended-some T y E) in
+      let l : length (x .queue) - 1 < length (x .queue) = omega arith in
+      let g : getD (x .queue) (length (x .queue) - 1) 0 ≡ final T (E .last) = ap (λ (z : Seen). getD (z .queue) (length (z .queue) - 1) 0) f ∙ queue-last T y E in
+      (
+        omega (arith, some, met-is),
+        ap (λ (n : ℕ). breaks m (getD (a .first) (n - 1) 0)) met-is
+            ∙ ap (breaks m) (entry (length (x .queue) - 1) l)
+            ∙ sym (agrees .breaks (getD (x .queue) (length (x .queue) - 1) 0) (in-states (length (x .queue) - 1) l))
+            ∙ ap (T .breaks) g
+            ∙ E .first .breaking,
+      )
+
+  pub means : PauseMeans m a
+  means =
+      record {
+        room = S .room;
+        fewExpanded = omega (arith, expanded-is, met-is, expanded-met T h);
+        fewMet = subst (λ (n : ℕ). a .position .met ≤ n) (C.sized text m says) (omega (arith, met-is, met-few T law h));
+        reached = reached-by;
+        exactly = λ b. let (y, e) = went-through (stand .went) refl b in exactly y e;
+        ordered = λ b. let (y, e) = went-through (stand .went) refl b in ordered y e;
+        unbroken = λ b. let (y, e) = went-through (stand .went) refl b in unbroken y e;
+        broken = broken;
+      }
+
+pub pauses-tell : PausesTell
+pauses-tell text m says a U = let (h, S) = unaltered-at text m says a U in means text m says h a S
