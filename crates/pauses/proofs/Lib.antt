@@ -5,3 +5,4 @@ pub mod AnyCalls
 pub mod MetRefusals
 pub mod Unaltered
 pub mod PausesTold
+pub mod PortionsTold

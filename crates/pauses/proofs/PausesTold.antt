@@ -77,7 +77,7 @@ module _ (text : List ℕ) (m : Model) (says : TextSays text m) (h : ℕ) (a : P
   entry : (i : ℕ) → i < length (x .queue) → getD (a .first) i 0 ≡ getD (x .queue) i 0
   entry i l = sym (getD-take (length (x .queue)) (a .first) i 0 l) ∙ ap (λ (q : List ℕ). getD q i 0) (S .holds .queue)
 
-  mark : (t : ℕ) → t < stateCount m → getD (a .second) t 0 ≡ getD (x .parent) t 0
+  pub mark : (t : ℕ) → t < stateCount m → getD (a .second) t 0 ≡ getD (x .parent) t 0
   mark t l =
       sym (getD-take (T .size) (a .second) t 0 (subst (λ (n : ℕ). t < n) (sym (C.sized text m says)) l)) ∙ ap (λ (q : List ℕ). getD q t 0) (S .holds .parents)
 
@@ -91,12 +91,12 @@ module _ (text : List ℕ) (m : Model) (says : TextSays text m) (h : ℕ) (a : P
   listed = listed-after T law h
 
   -- The states marked are those among the states met.
-  among-marked : (t : ℕ) → Among (a .position .met) (a .first) t → Marked t x
+  pub among-marked : (t : ℕ) → Among (a .position .met) (a .first) t → Marked t x
   among-marked t (i, l, e) =
       let k : i < length (x .queue) = omega (arith, l, met-is) in
       subst (λ (u : ℕ). Marked u x) (sym (entry i k) ∙ e) (listed .marks i k)
 
-  marked-among : (t : ℕ) → t < stateCount m → Marked t x → Among (a .position .met) (a .first) t
+  pub marked-among : (t : ℕ) → t < stateCount m → Marked t x → Among (a .position .met) (a .first) t
   marked-among t l k = let (i, j, e) = listed .queued t (below t l) k in (i, omega (arith, j, met-is), entry i j ∙ e)
 
   reached-by : (i : ℕ) → i < a .position .met → Reaches m (getD (a .first) i 0)
