@@ -153,8 +153,7 @@ module _ (text : List ℕ) (m : Model) (says : TextSays text m) (h : ℕ) (a : P
     from-follows t l (inr F) =
         let k : F .place < stand .expanded = omega (arith, F .within, expanded-is) in
         let q : F .place < length (x .queue) = omega (arith, k, expanded-met T h) in
-        fromPlace (F .place) k (record { command = F .command; word = F .word })
-        (
+        fromPlace (F .place) k (record { command = F .command; word = F .word }) (
           subst (λ (n : ℕ). F .command < n) (sym (agrees .commands)) (F .commandFits),
           subst (λ (n : ℕ). F .word < n) (sym (agrees .words (F .command) (F .commandFits))) (F .wordFits),
         )
@@ -210,8 +209,7 @@ module _ (text : List ℕ) (m : Model) (says : TextSays text m) (h : ℕ) (a : P
       let f : x ≡ y = ap seenIn e in
       let some : 1 ≤ length (x .queue) = subst (λ (z : Seen). 1 ≤ length (z .queue)) (sym f) (ended-some T y E) in
       let l : length (x .queue) - 1 < length (x .queue) = omega arith in
-      let g : getD (x .queue) (length (x .queue) - 1) 0 ≡ final T (E .last) = ap (λ (z : Seen). getD (z .queue) (length (z .queue) - 1) 0) f ∙ queue-last T y E in
-      (
+      let g : getD (x .queue) (length (x .queue) - 1) 0 ≡ final T (E .last) = ap (λ (z : Seen). getD (z .queue) (length (z .queue) - 1) 0) f ∙ queue-last T y E in (
         omega (arith, some, met-is),
         ap (λ (n : ℕ). breaks m (getD (a .first) (n - 1) 0)) met-is
             ∙ ap (breaks m) (entry (length (x .queue) - 1) l)

@@ -12,7 +12,7 @@ ghost use Rattle.verdicts.specs.Left.{Leaves};
 ghost use Rattle.verdicts.specs.working.Searching.{searchOf};
 ghost use Rattle.reporting.specs.Reports.{countsLine};
 ghost use Rattle.reporting.specs.working.Writing.{safeReport, voidReport, traceReport, MapShown, Printable};
-ghost use Rattle.reporting.specs.working.Reporting.{reportOf};
+ghost use Rattle.reporting.specs.working.Reporting.{reportOf, Searched};
 use counting::count_lines::put_count_lines;
 use lines::put;
 use lines::put_number;
@@ -90,20 +90,12 @@ fn put_unsafe(out: &mut [u8], text: &[u8], sheet: &[u8]) -> usize
     put_run(out, counted, text, &names, shared + row, sheet)
 }
 
-// Writes the report of a text at the front of `out`; how long it is.
-// Two tables and a sheet are lent to the search, and hold afterwards what it left there.
-pub fn write_report(
-    text: &[u8],
-    first: &mut Table,
-    second: &mut Table,
-    sheet: &mut Sheet,
-    out: &mut Report,
-) -> usize
+// Puts the report of a text at the front of `out`, from what a search of it answered and left in the sheet; how long it is.
+pub fn put_report(text: &[u8], found: Finding, sheet: &Sheet, out: &mut Report) -> usize
+    requires { ⌜ Searched (now text) found (now sheet) ⌝ }
     ensures { λ r. ⌜ (now (out .exit) ≡ sets (now (out .entry)) 0 (reportOf (now (text .entry)))) × (r ≡ length (reportOf (now (text .entry)))) ⌝ }
     ensures within { λ r. ⌜ Counts r (now (out .exit)) ⌝ }
-    ensures left { λ _. ⌜ Leaves (searchOf (now (text .entry)) (now (first .entry)) (now (second .entry)) (now (sheet .entry))) (now (first .exit)) (now (second .exit)) (now (sheet .exit)) ⌝ }
 {
-    let found = search(text, first, second, sheet);
     match found {
         Finding::Refused(number, place) => {
             let n = number as usize;
@@ -119,4 +111,21 @@ pub fn write_report(
             put_unsafe(out, text, &bytes[..n])
         }
     }
+}
+
+// Writes the report of a text at the front of `out`; how long it is.
+// Two tables and a sheet are lent to the search, and hold afterwards what it left there.
+pub fn write_report(
+    text: &[u8],
+    first: &mut Table,
+    second: &mut Table,
+    sheet: &mut Sheet,
+    out: &mut Report,
+) -> usize
+    ensures { λ r. ⌜ (now (out .exit) ≡ sets (now (out .entry)) 0 (reportOf (now (text .entry)))) × (r ≡ length (reportOf (now (text .entry)))) ⌝ }
+    ensures within { λ r. ⌜ Counts r (now (out .exit)) ⌝ }
+    ensures left { λ _. ⌜ Leaves (searchOf (now (text .entry)) (now (first .entry)) (now (second .entry)) (now (sheet .entry))) (now (first .exit)) (now (second .exit)) (now (sheet .exit)) ⌝ }
+{
+    let found = search(text, first, second, sheet);
+    put_report(text, found, sheet, out)
 }

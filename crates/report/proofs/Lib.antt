@@ -1,0 +1,2 @@
+-- Laws of a search that tells how far it is.
+pub mod Portions
