@@ -1,10 +1,11 @@
-/* Nutseason for programs in C: the reader and the acceptance test (libloader.a), and the search with its reservations
- * (libworkbench.a). They are installed as libnutseason_loader.a and libnutseason_workbench.a;
- * `pkg-config --libs nutseason` names both.
+/* Nutseason for programs in C: the reader and the acceptance test (libloader.a); and the search, in one go or in
+ * portions, its reservations, and questions about states (libworkbench.a). They are installed as
+ * libnutseason_loader.a and libnutseason_workbench.a; `pkg-config --libs nutseason` names both.
  *
  * Every function is proved: it ends on all inputs, touches nothing but what it is handed, keeps nothing between
  * calls, and needs no heap. It answers with one number. The low byte says which answer it is, and the rest,
- * number / 256, is a place, three counts, or a length with a number of trials; it is 0 where there is nothing to say.
+ * number / 256, is a place, three counts, a length with a number of trials, or where a search stands; it is 0 where
+ * there is nothing to say.
  *
  * What a caller owes: a pointer with its length is memory that the call may read, and write where it is not const;
  * a table or list is aligned as its type asks; no two of the arguments overlap where one of them is written; and
@@ -25,6 +26,7 @@
  *    8  a lent table, sheet buffer or list of needs is too short    0
  *    9  the sheet's records are not in form                         the record, or 65536 where the sheet is too long
  *   10  a number in the sheet does not fit the model                the record
+ *       or a question is about a state that the model has not       0
  */
 #ifndef NUTSEASON_H
 #define NUTSEASON_H
@@ -51,22 +53,47 @@ static inline unsigned nutseason_answer(uint64_t said)
     return (unsigned)(said & 255);
 }
 
-/* The place or the counts that come with it. What comes with the verdict of a search, the next two tell. */
+/* The place or the counts that come with it. What comes with the verdict of a search, the next two tell; where a search
+ * stands that is not finished, the four behind them. */
 static inline uint64_t nutseason_rest(uint64_t said)
 {
     return said >> 8;
 }
 
-/* After 's', 'v' or 'u' of nutseason_search: how many bytes its sheet has. */
+/* After 's', 'v' or 'u' of nutseason_search and nutseason_finish: how many bytes the sheet has. */
 static inline size_t nutseason_length(uint64_t said)
 {
     return (size_t)(said >> 8 & 65535);
 }
 
-/* After 's' of nutseason_search: how many trials it made; after 'v' and 'u' 0. */
+/* After 's' of the same: how many trials were made; after 'v' and 'u' 0. */
 static inline uint64_t nutseason_trials(uint64_t said)
 {
     return said >> 24;
+}
+
+/* Of a position ('p' or 'e' of nutseason_open and nutseason_portion): whether the search is at its end. */
+static inline int nutseason_ended(uint64_t position)
+{
+    return nutseason_answer(position) == 'e';
+}
+
+/* Whether it is because the state met last breaks the property: then the model is unsafe. */
+static inline int nutseason_broke(uint64_t position)
+{
+    return (int)(position >> 8 & 1);
+}
+
+/* How many states are expanded. */
+static inline unsigned nutseason_states_expanded(uint64_t position)
+{
+    return (unsigned)(position >> 9 & 8191);
+}
+
+/* How many states are met, those expanded among them. */
+static inline unsigned nutseason_states_met(uint64_t position)
+{
+    return (unsigned)(position >> 22 & 8191);
 }
 
 /* Reads a text. 'm': it says a model, and the next three bytes of the answer are its counts of shared names
@@ -98,6 +125,55 @@ uint64_t nutseason_reserve(const uint8_t *text, size_t text_len, uint64_t *needs
  * is as it was. What the buffers hold beforehand does not matter. */
 uint64_t nutseason_search(const uint8_t *text, size_t text_len, uint16_t *first, size_t first_len,
                           uint16_t *second, size_t second_len, uint8_t *sheet, size_t sheet_len);
+
+/* The same search in portions: nutseason_open, then nutseason_portion any number of times, then nutseason_finish. To
+ * expand a state is to try every command from it with every choice word; what that leads to is met, and so are the
+ * start states. The search is at its end once a state is met that breaks, or once all that are met are expanded.
+ *
+ * In between, all there is of it is with the caller: the position, which is a number with the low byte 'p' or, at the
+ * end, 'e'; and the first 2^k entries of both tables. As long as each call is handed the text, and these as the call
+ * before left them, any portions come to the answer, the sheet and the tables that nutseason_search leaves. The tables
+ * may have moved, and been kept in a file; from copies a search can be taken up more than once.
+ *
+ * Where position, text or such an entry was altered, a call still ends, is refused just where it would have been, and
+ * writes nothing but the first 2^k entries of the tables and, in nutseason_finish, the first 7 + 10 * 2^k bytes of the
+ * sheet buffer. Where it is not refused, its answer is free and tells nothing, be it a position, a yes, a no or a
+ * verdict; and what its sheet is worth, nutseason_test alone tells. */
+
+/* Opens a search, with the tables that nutseason_reserve tells, or longer ones; what they hold does not matter. 'p' or
+ * 'e': a position. The start states are met, the lowest first and none behind one that breaks, and no state is
+ * expanded. Without a start state the search is at its end. 1 to 8: the call is refused, with the place, and both
+ * tables are as they were. */
+uint64_t nutseason_open(const uint8_t *text, size_t text_len, uint16_t *first, size_t first_len,
+                        uint16_t *second, size_t second_len);
+
+/* Expands so many states more, or fewer up to the end: those that wait, in the order in which they were met, which is
+ * the order of their first runs. 'p' or 'e': the next position. A portion of 0 states changes nothing, nor does any
+ * portion at the end. At a break the state being expanded stays uncounted, and nothing behind the breaking state is
+ * met. 1 to 8: the call is refused, with the place, and both tables are as they were. */
+uint64_t nutseason_portion(uint64_t position, uint64_t states, const uint8_t *text, size_t text_len,
+                           uint16_t *first, size_t first_len, uint16_t *second, size_t second_len);
+
+/* Asks whether a state is met, at any pause or at the end, before nutseason_finish clears the tables. 'y': it is, so a
+ * run of the table of one row leads to it; later pauses say the same. 'n': it is not, and that tells nothing of runs.
+ * Until a state breaks, 'y' is said of the start states, of what a step leads to from a state expanded, and of no
+ * others. 1 to 8: refused, with the place; then 10, with place 0, for a state from 2^k up. */
+uint64_t nutseason_met(uint64_t position, uint64_t state, const uint8_t *text, size_t text_len,
+                       const uint16_t *first, size_t first_len, const uint16_t *second, size_t second_len);
+
+/* Finishes a search: expands all that is left, writes the sheet, and puts 0 in the first 2^k entries of both tables.
+ * It answers and leaves what nutseason_search does, with the trials of all portions together. After a refusal, 8 for a
+ * short sheet buffer too, everything is as it was, and the call can be made again. */
+uint64_t nutseason_finish(uint64_t position, const uint8_t *text, size_t text_len, uint16_t *first, size_t first_len,
+                          uint16_t *second, size_t second_len, uint8_t *sheet, size_t sheet_len);
+
+/* Asks the map of a sheet for a state: what to do once a search has ended as safe or void. 'y' or 'n': the sheet is a
+ * map that passes, and the state is a member or not. 'n' means that no run of the table of one row leads to the state,
+ * whoever wrote the sheet; 'y', of a sheet that the search wrote, that a run does. Another map that passes may have
+ * members besides. 't', 'A' to 'F', 1 to 7, 9 or 10: the sheet is no map that passes, and this is what nutseason_test
+ * says; then 10, with place 0, for a state from 2^k up. */
+uint64_t nutseason_reached(const uint8_t *text, size_t text_len, const uint8_t *sheet, size_t sheet_len,
+                           uint64_t state);
 
 #ifdef __cplusplus
 }

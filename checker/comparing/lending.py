@@ -8,11 +8,20 @@ def words(rng, count):
     return list(memoryview(rng.randbytes(2 * count)).cast("H"))
 
 
+def like_states(rng, count, states):
+    """So many numbers of 16 bits, about half of which a state may have."""
+    return [number % states if number >> 15 else number
+            for number in words(rng, count)]
+
+
+def sheet_buffer(rng, size):
+    return bytearray(rng.randbytes(size))
+
+
 def noise(rng, given):
     """Two tables and a sheet buffer of these lengths."""
     first, second, size = given
-    return words(rng, first), words(rng, second), bytearray(
-        rng.randbytes(size))
+    return words(rng, first), words(rng, second), sheet_buffer(rng, size)
 
 
 def memory(rng, count):

@@ -1,70 +1,110 @@
 """The functions of the libraries for C, called in this process."""
 
 import ctypes
+import random
+from array import array
 
-LETTERS = {"s": "safe holds", "v": "void", "t": "trace holds"}
-VERDICTS = {"s": "safe", "v": "void", "u": "unsafe"}
+from comparing.guarded import Guarded
+from comparing.told import (question_told, read_told, reserve_told,
+                            search_told, test_told)
+
+NUMBER = [ctypes.c_uint64]
+# A pointer, and how many entries there are.
+LENT = [ctypes.c_void_p, ctypes.c_size_t]
+MOST_LENT = 4
 
 
 class Library:
-    """A shared object that has `nutseason_read`, `nutseason_test`,
-    `nutseason_search` and `nutseason_reserve`. Answers are put in the words
-    of the checker."""
+    """A shared object that has all functions. Answers are put in the words of
+    the checker, but for positions, which are to be handed back.
 
-    def __init__(self, path):
-        loaded = ctypes.CDLL(path)
-        text = [ctypes.c_char_p, ctypes.c_size_t]
-        table = [ctypes.POINTER(ctypes.c_uint16), ctypes.c_size_t]
-        buffer = [ctypes.POINTER(ctypes.c_uint8), ctypes.c_size_t]
-        needs = [ctypes.POINTER(ctypes.c_uint64), ctypes.c_size_t]
-        self._read = typed(loaded.nutseason_read, text)
-        self._test = typed(loaded.nutseason_test, text * 2)
-        self._search = typed(loaded.nutseason_search,
-                             text + table * 2 + buffer)
-        self._reserve = typed(loaded.nutseason_reserve, text + needs)
+    Buffers are lent in guarded memory. A list of 16-bit numbers, an array or
+    a bytearray may be written, and holds afterwards what the call left; a
+    tuple of such numbers or bytes can only be read there."""
+
+    def __init__(self, path, load=ctypes.CDLL):
+        loaded = load(path)
+        self._read = typed(loaded.nutseason_read, LENT)
+        self._test = typed(loaded.nutseason_test, LENT * 2)
+        self._search = typed(loaded.nutseason_search, LENT * 4)
+        self._reserve = typed(loaded.nutseason_reserve, LENT * 2)
+        self._open = typed(loaded.nutseason_open, LENT * 3)
+        self._portion = typed(loaded.nutseason_portion, NUMBER * 2 + LENT * 3)
+        self._met = typed(loaded.nutseason_met, NUMBER * 2 + LENT * 3)
+        self._finish = typed(loaded.nutseason_finish, NUMBER + LENT * 4)
+        self._reached = typed(loaded.nutseason_reached, LENT * 2 + NUMBER)
+        self._places = [Guarded() for _ in range(MOST_LENT)]
+        self._rng = random.Random(0)
 
     def read(self, text):
-        said = self._read(text, len(text))
-        if said & 255 != ord("m"):
-            return refusal(said)
-        counts = [said >> shift & 255 for shift in (8, 16, 24)]
-        assert said >> 32 == 0, said
-        return "model {} {} {}".format(*counts)
+        return read_told(self._lent(self._read, text))
 
     def test(self, text, sheet):
-        said = self._test(text, len(text), sheet, len(sheet))
-        low = chr(said & 255)
-        if low.isalpha():
-            assert said >> 8 == 0, said
-            return LETTERS.get(low, low)
-        return refusal(said)
+        return test_told(self._lent(self._test, text, sheet))
 
     def search(self, text, first, second, sheet):
-        """The verdict, the sheet's length and the trials, or a refusal. The
-        lists `first` and `second` and the bytearray `sheet` are lent, and
-        hold afterwards what the search left there."""
-        lent = [(ctypes.c_uint16 * len(first))(*first),
-                (ctypes.c_uint16 * len(second))(*second),
-                (ctypes.c_uint8 * len(sheet))(*sheet)]
-        said = self._search(text, len(text),
-                            *(part for buffer in lent
-                              for part in (buffer, len(buffer))))
-        first[:], second[:], sheet[:] = lent
-        return search_told(said)
+        """The verdict, the sheet's length and the trials, or a refusal."""
+        return search_told(self._lent(self._search, text, first, second,
+                                      sheet))
 
     def reserve(self, text, memory, count):
         """Whether it is reserved, with the rest of the answer, or a refusal.
-        Of the list `memory` the first entries are lent, so many; it holds
-        afterwards what the call left there, behind what was lent too."""
-        lent = (ctypes.c_uint64 * len(memory))(*memory)
-        said = reserve_told(self._reserve(text, len(text), lent, count))
-        memory[:] = lent
-        if count and text:
-            return said
-        # A pointer whose length is 0 is not followed, whatever it is.
-        again = reserve_told(self._reserve(text or None, len(text),
-                                           lent if count else None, count))
-        return said if again == said else f"{said}, then {again}"
+        Of the list `memory` the first entries are lent, so many, and hold
+        afterwards what the call left there."""
+        needs = array("Q", memory[:count])
+        said = reserve_told(self._lent(self._reserve, text, needs))
+        memory[:count] = needs
+        return said
+
+    def open(self, text, first, second):
+        """A position or a refusal, as a number."""
+        return self._lent(self._open, text, first, second)
+
+    def portion(self, position, states, text, first, second):
+        """The same."""
+        return self._lent(
+            lambda *handed: self._portion(position, states, *handed),
+            text, first, second)
+
+    def met(self, position, states, text, first, second):
+        """What is answered to the question of each state."""
+        return self._lent(
+            lambda *handed: [question_told(self._met(position, state,
+                                                     *handed))
+                             for state in states],
+            text, tuple(first), tuple(second))
+
+    def finish(self, position, text, first, second, sheet):
+        """As a search."""
+        return search_told(self._lent(
+            lambda *handed: self._finish(position, *handed),
+            text, first, second, sheet))
+
+    def reached(self, text, sheet, states):
+        """What is answered to the question of each state."""
+        return self._lent(
+            lambda *handed: [question_told(self._reached(*handed, state))
+                             for state in states],
+            text, sheet)
+
+    def _lent(self, call, *buffers):
+        """What a call answers that is handed these, each as a pointer and a
+        length."""
+        handed = []
+        for place, buffer in zip(self._places, buffers):
+            handed += self._put(place, buffer), len(buffer)
+        said = call(*handed)
+        for address, buffer in zip(handed[::2], buffers):
+            take_back(address, buffer)
+        return said
+
+    def _put(self, place, buffer):
+        """A pointer whose length is 0 is not followed, whatever it is."""
+        at_end = self._rng.random() < 0.5
+        if not buffer and at_end:
+            return None
+        return place.put(array(code_of(buffer), buffer).tobytes(),
+                         is_written(buffer), at_end)
 
 
 def typed(function, arguments):
@@ -73,18 +113,19 @@ def typed(function, arguments):
     return function
 
 
-def refusal(said):
-    return f"refused {said & 255} {said >> 8}"
+def is_written(buffer):
+    return isinstance(buffer, (list, array, bytearray))
 
 
-def search_told(said):
-    """The rest of the answer is the length, and 65,536 times the trials."""
-    low = chr(said & 255)
-    if low not in VERDICTS:
-        return refusal(said)
-    return f"{VERDICTS[low]} {said >> 8 & 65535} {said >> 24}"
+def code_of(buffer):
+    """How wide its numbers are, as a module `array` says it."""
+    if isinstance(buffer, array):
+        return buffer.typecode
+    return "H" if isinstance(buffer, (list, tuple)) else "B"
 
 
-def reserve_told(said):
-    return (f"reserved {said >> 8}" if said & 255 == ord("r")
-            else refusal(said))
+def take_back(address, buffer):
+    if buffer and is_written(buffer):
+        left = array(code_of(buffer))
+        left.frombytes(ctypes.string_at(address, len(buffer) * left.itemsize))
+        buffer[:] = left

@@ -5,7 +5,7 @@ from dataclasses import dataclass
 from functools import cache
 from typing import Callable
 
-from comparing.library import reserve_told, search_told
+from comparing.told import reserve_told, search_told
 from evidence.calls import reserve_leaves, search_leaves
 from evidence.one_row import OneRow
 from evidence.reservations import reservation

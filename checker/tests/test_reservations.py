@@ -13,8 +13,8 @@ from tests import wrong_calls, wrong_trials
 from tests import wrong_reservations as wrong
 from tests.stand_ins import StandIn, members, table_in
 from comparing.differences import Differences
-from comparing.library import reserve_told, search_told
 from comparing.reservations import compare_all
+from comparing.told import reserve_told, search_told
 from corpora.reports_runs import counter
 from corpora.reservations import corpus, due, meant_by
 from evidence.acceptance import HOLDS, answer

@@ -6,6 +6,7 @@ ghost use Rattle.exploration.specs.working.CodeTransitions.{transitionsIn};
 ghost use Rattle.exploration.specs.working.Written.{Closing};
 ghost use Rattle.sheets.specs.Sheets.{sheetRoom};
 ghost use Rattle.sheets.specs.working.FlatSystem.{systemIn};
+ghost use Rattle.verdicts.specs.Left.{zeroed};
 ghost use Rattle.verdicts.specs.working.Searching.{foundBy};
 ghost use Rattle.search.specs.working.Ends.{EndsWith, concludes};
 use evaluation::plan::Plan;
@@ -19,6 +20,15 @@ use writing::maps::write_map;
 use writing::records::put_head;
 use writing::records::put_header;
 use writing::tables::clear;
+
+// The entries of states are made 0 in both tables.
+fn clear_tables(first: &mut [u16], second: &mut [u16], states: usize)
+    requires { do ⌜ (states ≤ (← ⟦first.len()⟧)) × (states ≤ (← ⟦second.len()⟧)) ⌝ }
+    ensures { λ _. ⌜ (now (first .exit) ≡ zeroed states (now (first .entry))) × (now (second .exit) ≡ zeroed states (now (second .entry))) ⌝ }
+{
+    clear(first, states);
+    clear(second, states);
+}
 
 // The trace of the recorded run to the last state met, if that violates `keep`; else the map of the states met.
 pub fn conclude(
@@ -37,16 +47,14 @@ pub fn conclude(
     if reach.found {
         let t = first[reach.count - 1];
         let len = write_trace(ops, plan, second, t, HEADER, sheet);
-        clear(first, states);
-        clear(second, states);
+        clear_tables(first, second, states);
         return Finding::Unsafe(len);
     }
     let n = map_length(states);
     put_head(sheet, HEADER, n, 2);
     let at = HEADER + 6;
     write_map(states, second, n, at, sheet);
-    clear(first, states);
-    clear(second, states);
+    clear_tables(first, second, states);
     let len = at + n;
     if reach.count == 0 {
         return Finding::Void(len);

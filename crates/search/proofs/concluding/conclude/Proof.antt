@@ -42,15 +42,13 @@ write-trace-requires c κs =
     let start : tie.Start = search in
     trace-asked _ _ (start .pre .0) _ (start .pre .1) _ (start .pre .3) (after-put-header .put-header .ensures) (start .pre .2) (start .args .reach .trials) (then1 .if1 .taken)
 
-clear-requires : tie.Need-clear-requires
-clear-requires c κs = search needs
-
-clear-requires-2 : tie.Need-clear-requires-2
-clear-requires-2 c κs =
-    let then1 : tie.Then1 = search in
+clear-tables-requires : tie.Need-clear-tables-requires
+clear-tables-requires c κs =
     let after-put-header : tie.After-put-header = search in
-    let start : tie.Start = search in
-    second-room _ _ (start .pre .0) _ (start .pre .1) _ (start .pre .3) (after-put-header .put-header .ensures) (start .pre .2) (start .args .reach .trials)
+    let start : tie.Start = search in (
+      omega (arith, start .pre .1, start .pre .2 .ready .queue-room),
+      second-room _ _ (start .pre .0) _ (start .pre .1) _ (start .pre .3) (after-put-header .put-header .ensures) (start .pre .2) (start .args .reach .trials),
+    )
 
 same-length : tie.Need-same-length
 same-length c = search needs
@@ -63,14 +61,13 @@ same-length-3 c = search needs
 
 returns : tie.Need-returns
 returns c =
-    let after-clear2 : tie.After-clear2 = search in
-    let after-clear : tie.After-clear = search in
+    let after-clear-tables : tie.After-clear-tables = search in
     let after-write-trace : tie.After-write-trace = search in
     let then1 : tie.Then1 = search in
     let after-put-header : tie.After-put-header = search in
     let start : tie.Start = search in
     unsafe-left _ _ (start .pre .0) _ (start .pre .1) (start .args .sheet .now) (start .pre .3)
-    (after-put-header .put-header .ensures) (start .pre .2) (start .args .reach .trials) (after-clear .clear .ensures) (after-clear2 .clear2 .ensures)
+    (after-put-header .put-header .ensures) (start .pre .2) (start .args .reach .trials) (after-clear-tables .clear-tables .ensures .0) (after-clear-tables .clear-tables .ensures .1)
     (then1 .if1 .taken) (after-write-trace .write-trace .ensures)
 
 map-length-requires : tie.Need-map-length-requires
@@ -97,15 +94,13 @@ write-map-requires c κs =
     (second-room _ _ (start .pre .0) _ (start .pre .1) _ (start .pre .3) (after-put-header .put-header .ensures) (start .pre .2) (start .args .reach .trials)) _
     (after-put-head .put-head .ensures)
 
-clear-requires-3 : tie.Need-clear-requires-3
-clear-requires-3 c κs = search needs
-
-clear-requires-4 : tie.Need-clear-requires-4
-clear-requires-4 c κs =
-    let after-put-head : tie.After-put-head = search in
+clear-tables-requires-2 : tie.Need-clear-tables-requires-2
+clear-tables-requires-2 c κs =
     let after-put-header : tie.After-put-header = search in
-    let start : tie.Start = search in
-    second-room _ _ (start .pre .0) _ (start .pre .1) _ (start .pre .3) (after-put-header .put-header .ensures) (start .pre .2) (start .args .reach .trials)
+    let start : tie.Start = search in (
+      omega (arith, start .pre .1, start .pre .2 .ready .queue-room),
+      second-room _ _ (start .pre .0) _ (start .pre .1) _ (start .pre .3) (after-put-header .put-header .ensures) (start .pre .2) (start .args .reach .trials),
+    )
 
 add-len : tie.Need-add-len
 add-len c =
@@ -130,8 +125,7 @@ same-length-6 c = search needs
 
 returns-2 : tie.Need-returns-2
 returns-2 c =
-    let after-clear4 : tie.After-clear4 = search in
-    let after-clear3 : tie.After-clear3 = search in
+    let after-clear-tables2 : tie.After-clear-tables2 = search in
     let after-write-map : tie.After-write-map = search in
     let after-put-head : tie.After-put-head = search in
     let after-map-length : tie.After-map-length = search in
@@ -139,7 +133,7 @@ returns-2 c =
     let after-put-header : tie.After-put-header = search in
     let start : tie.Start = search in
     void-left _ _ (start .pre .0) _ (start .pre .1) (start .args .sheet .now) (start .pre .3)
-    (after-put-header .put-header .ensures) (start .pre .2) (start .args .reach .trials) (after-clear3 .clear3 .ensures) (after-clear4 .clear4 .ensures)
+    (after-put-header .put-header .ensures) (start .pre .2) (start .args .reach .trials) (after-clear-tables2 .clear-tables2 .ensures .0) (after-clear-tables2 .clear-tables2 .ensures .1)
     (else1 .if1 .left) (after-map-length .map-length .ensures) (after-put-head .put-head .ensures)
     (after-write-map .write-map .ensures) (c .if2 .taken)
 
@@ -154,8 +148,7 @@ same-length-9 c = search needs
 
 returns-3 : tie.Need-returns-3
 returns-3 c =
-    let after-clear4 : tie.After-clear4 = search in
-    let after-clear3 : tie.After-clear3 = search in
+    let after-clear-tables2 : tie.After-clear-tables2 = search in
     let after-write-map : tie.After-write-map = search in
     let after-put-head : tie.After-put-head = search in
     let after-map-length : tie.After-map-length = search in
@@ -163,7 +156,7 @@ returns-3 c =
     let after-put-header : tie.After-put-header = search in
     let start : tie.Start = search in
     safe-left _ _ (start .pre .0) _ (start .pre .1) (start .args .sheet .now) (start .pre .3)
-    (after-put-header .put-header .ensures) (start .pre .2) (start .args .reach .trials) (after-clear3 .clear3 .ensures) (after-clear4 .clear4 .ensures)
+    (after-put-header .put-header .ensures) (start .pre .2) (start .args .reach .trials) (after-clear-tables2 .clear-tables2 .ensures .0) (after-clear-tables2 .clear-tables2 .ensures .1)
     (else1 .if1 .left) (after-map-length .map-length .ensures) (after-put-head .put-head .ensures)
     (after-write-map .write-map .ensures) (omega (arith, c .if2 .left))
 
@@ -176,8 +169,7 @@ conclude-spec =
     mul-t
     slice-read-t
     write-trace-requires
-    clear-requires
-    clear-requires-2
+    clear-tables-requires
     same-length
     same-length-2
     same-length-3
@@ -186,8 +178,7 @@ conclude-spec =
     put-head-requires
     add-at
     write-map-requires
-    clear-requires-3
-    clear-requires-4
+    clear-tables-requires-2
     add-len
     same-length-4
     same-length-5

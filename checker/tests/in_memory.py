@@ -1,0 +1,119 @@
+"""The functions for C of a program that works on lists, called by addresses
+as those of a built library are."""
+
+import ctypes
+from array import array
+
+from evidence.acceptance import HOLDS
+from evidence.calls import found_in, reserve_leaves, search_leaves
+from evidence.reservations import reserved
+from reader.model import Refusal
+from reader.reading import read
+from tests.portion_program import Program, number_of, tested
+from tests.stand_ins import LETTERS, number, packed
+
+# Bytes, numbers of 16 bits and of 64, each a pointer and a length; a number.
+BYTES, TABLE, NEEDS, NUMBER = "B", "H", "Q", "number"
+
+# What each function is handed, and which of it may be written.
+HANDED = {
+    "read": ((BYTES,), ()),
+    "test": ((BYTES, BYTES), ()),
+    "reserve": ((BYTES, NEEDS), (1,)),
+    "search": ((BYTES, TABLE, TABLE, BYTES), (1, 2, 3)),
+    "open": ((BYTES, TABLE, TABLE), (1, 2)),
+    "portion": ((NUMBER, NUMBER, BYTES, TABLE, TABLE), (3, 4)),
+    "met": ((NUMBER, NUMBER, BYTES, TABLE, TABLE), ()),
+    "finish": ((NUMBER, BYTES, TABLE, TABLE, BYTES), (2, 3, 4)),
+    "reached": ((BYTES, BYTES, NUMBER), ()),
+}
+
+
+def fetched(code, address, count):
+    """A buffer's numbers. One of length 0 is not looked at."""
+    there = array(code)
+    if count:
+        there.frombytes(ctypes.string_at(address, count * there.itemsize))
+    return bytes(there) if code == BYTES else list(there)
+
+
+def put_back(code, address, numbers):
+    data = array(code, numbers).tobytes()
+    if data:
+        ctypes.memmove(address, data, len(data))
+
+
+def by_addresses(call, kinds, written):
+    """The same function for addresses and lengths."""
+    def called(*passed):
+        rest, arguments, addresses = list(passed), [], []
+        for kind in kinds:
+            addresses.append(rest[0])
+            if kind == NUMBER:
+                arguments.append(rest.pop(0))
+            else:
+                address, count = rest.pop(0), rest.pop(0)
+                arguments.append(fetched(kind, address, count))
+        for place in written:
+            if kinds[place] == BYTES:
+                arguments[place] = bytearray(arguments[place])
+        said = call(*arguments)
+        for place in written:
+            put_back(kinds[place], addresses[place], arguments[place])
+        return said
+    return called
+
+
+def for_c(call, kinds, written):
+    types = [[ctypes.c_uint64] if kind == NUMBER
+             else [ctypes.c_void_p, ctypes.c_size_t] for kind in kinds]
+    return ctypes.CFUNCTYPE(ctypes.c_uint64, *sum(types, []))(
+        by_addresses(call, kinds, written))
+
+
+class InMemory:
+    """To be loaded by a Library. The functions that have no portions are the
+    checker's own."""
+
+    def __init__(self, program=None, **others):
+        program = program or Program()
+        calls = {"read": read_number, "test": test_number,
+                 "reserve": reserve_number, "search": search_number,
+                 "open": program.open, "portion": program.portion,
+                 "met": program.asked, "finish": program.finished,
+                 "reached": program.asked_map} | others
+        for name, call in calls.items():
+            setattr(self, f"nutseason_{name}", for_c(call, *HANDED[name]))
+
+
+def refusal_number(refusal):
+    return refusal.number + 256 * refusal.place
+
+
+def read_number(text):
+    model = read(text)
+    if isinstance(model, Refusal):
+        return refusal_number(model)
+    counts = len(model.shared), len(model.row), len(model.commands)
+    return number("m", sum(count << 8 * place
+                           for place, count in enumerate(counts)))
+
+
+def test_number(text, sheet):
+    said = tested(text, sheet)
+    passed = {HOLDS["safe"]: ord("s"), HOLDS["void"]: ord("v")}
+    return passed[said] if said in passed else number_of(said)
+
+
+def reserve_number(text, needs):
+    said, needs[:] = reserve_leaves(reserved(text), needs, len(needs))
+    return ord("r") if said == "reserved 0" else number_of(said)
+
+
+def search_number(text, first, second, sheet):
+    said, first[:], second[:], sheet[:] = search_leaves(
+        found_in(text), first, second, sheet)
+    if said.startswith("refused"):
+        return number_of(said)
+    verdict, *numbers = said.split(" ")
+    return number(LETTERS[verdict], packed(*map(int, numbers)))
