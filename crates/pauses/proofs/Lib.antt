@@ -6,3 +6,4 @@ pub mod MetRefusals
 pub mod Unaltered
 pub mod PausesTold
 pub mod PortionsTold
+pub mod PauseCases

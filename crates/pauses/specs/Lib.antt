@@ -3,3 +3,4 @@ pub mod Answers
 pub mod Held
 pub mod working
 pub mod Promises
+pub mod Cases
