@@ -26,7 +26,7 @@ PROGRAMS = {name: program for module in MODULES
             if isinstance(program, type) and issubclass(program, Program)}
 
 # These have parts to be exchanged, and are right.
-RIGHT = {"Program", "Asking", "OtherMoves", "Led"}
+RIGHT = {"Program", "Asking", "Led"}
 
 # Not walked in tests: this alone would take minutes.
 LONGEST = "most_trials"

@@ -101,13 +101,16 @@ class Program:
         return here.first[here.expanded] % here.table.states
 
     def expand(self, here, state):
-        for _, _, after in here.table.steps_from(state):
+        for after in self.results(here, state):
             here.trials += 1
             if not here.second[after] and here.met < here.table.states:
                 self.meet(here, after, state)
                 if here.broken:
                     return
         here.expanded += 1
+
+    def results(self, here, state):
+        return [after for _, _, after in here.table.steps_from(state)]
 
     def has_ended(self, here):
         return here.broken or here.expanded >= here.met

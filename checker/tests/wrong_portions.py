@@ -131,45 +131,28 @@ class LowestFirst(Program):
         return super().next_state(here)
 
 
-class OtherMoves(Program):
-    """The moves of a state may have another order; here they have the right
-    one."""
-
-    def expand(self, here, state):
-        for after in self.results(here, state):
-            here.trials += 1
-            if not here.second[after] and here.met < here.table.states:
-                self.meet(here, after, state)
-                if here.broken:
-                    return
-        here.expanded += 1
-
-    def results(self, here, state):
-        return [after for _, _, after in here.table.steps_from(state)]
-
-
-class LastWordFirst(OtherMoves):
+class LastWordFirst(Program):
     def results(self, here, state):
         return [after for _, _, after in sorted(
             here.table.steps_from(state), key=lambda step: (step[0],
                                                             -step[1]))]
 
 
-class LastCommandFirst(OtherMoves):
+class LastCommandFirst(Program):
     def results(self, here, state):
         return [after for _, _, after in sorted(
             here.table.steps_from(state), key=lambda step: (-step[0],
                                                             step[1]))]
 
 
-class WordBeforeCommand(OtherMoves):
+class WordBeforeCommand(Program):
     def results(self, here, state):
         return [after for _, _, after in sorted(
             here.table.steps_from(state), key=lambda step: (step[1],
                                                             step[0]))]
 
 
-class EachResultOnce(OtherMoves):
+class EachResultOnce(Program):
     """Does not try what leads to the same state again."""
 
     def results(self, here, state):

@@ -11,7 +11,7 @@ use lib.Seq.{drop-drop, length-take-le, take-suc-set, take-set-lt, drop-set-lt, 
 use borrow.Author.Count.{below-more}
 use borrow.Author.Tests.{eq-eqb, ne-eqb, lt-ltb, le-ltb}
 use Rattle.exploration.specs.working.Transitions.{Transitions, Move, moveOf, wordsFrom, movesFrom, moves}
-use Rattle.exploration.specs.working.Exploring.{Seen, Progress, broke, through, andThen, progress, meet, tryMoves, takeIn, begun, explore, placeAfter, placeFrom, search}
+use Rattle.exploration.specs.working.Exploring.{Seen, Progress, broke, through, andThen, progress, meet, tryMoves, takeIn, explore, placeAfter, placeFrom, search}
 use Rattle.exploration.specs.working.Trials.{Trial, trialOf, afterwards, trialsWith, trialsFrom, trials}
 use Rattle.exploration.specs.working.Runs.{firstMove}
 use Rattle.exploration.specs.working.Tables.{seen, marked, Ready, Kept, Explored, Meets, Took, Began, Ran}

@@ -4,15 +4,15 @@ use Prim.Native.Nat.{ℕ, suc, zero, _+_, _*_, _<_, _≤_}
 use mathlib.Core.Path.{_≡_, refl, sym, ap, _∙_, subst}
 use mathlib.Core.Bool.{Bool, true, false, cond}
 use mathlib.Core.Logic.{_⊎_, inl, inr, ⊎-elim}
-use mathlib.Core.List.{List, [], _∷_, _++_, List·Memᴰ, List·Memᴰ·not-nil}
+use mathlib.Core.List.{List, [], _∷_, _++_, List·Memᴰ·not-nil}
 use native.Mathlib.Omega.{arith}
 use native.Mathlib.Nat.{suc-mul, zero-mul, mul-le-mul}
 use native.Mathlib.Numerals.{add-one}
 use native.Mathlib.Decide.{ℕ-discrete}
-use lib.Dec.{ltb, leb, eqb}
-use lib.ListN.{length, getD, take, set, replicate, length-append, length-set, getD-replicate, List·getD-append, List·getD-map}
+use lib.Dec.{ltb, eqb}
+use lib.ListN.{length, getD, take, length-append, getD-replicate, List·getD-append, List·getD-map}
 use lib.Seq.{length-take-le, getD-take, getD-set-same, getD-set-other, getD-append-seam}
-use borrow.Author.Tests.{le-leb, eq-eqb, lt-ltb, ltb-true, ltb-false}
+use borrow.Author.Tests.{le-leb, eq-eqb, lt-ltb, ltb-true}
 use Rattle.notation.proofs.Booleans.{and-join}
 use Rattle.exploration.specs.working.Transitions.{Transitions, Lawful, Move, moves}
 use Rattle.exploration.specs.working.Runs.{Run, startsAt, goesOn, final, MoveOf, Valid, Before, steps, runTo}
@@ -21,7 +21,7 @@ use Rattle.exploration.specs.working.Trials.{Trial, afterwards, trialsWi
 use Rattle.exploration.specs.working.Tables.{seen, marked, Ready, Explored}
 use Rattle.exploration.specs.working.Results.{Reached}
 use Rattle.exploration.specs.Pause.{Pause}
-use Rattle.exploration.specs.working.Pauses.{Stand, seenIn, goneOn, further, opened, after, Holds, allStates, trialsHeld, intact}
+use Rattle.exploration.specs.working.Pauses.{Stand, seenIn, goneOn, further, after, Holds, allStates, intact}
 use Rattle.exploration.proofs.Order.{lt-or-ge, before-trans, before-then, AtMost, moves-has}
 use Rattle.exploration.proofs.First.{at, Covered, Upto, Between, Ended, Tries, Takes, tries-all, next-head, taken, starting, queue-begun, queue-length, here-is, covered-step, traced-met, run-to}
 use Rattle.exploration.proofs.Laws.{marked-le, count-le}

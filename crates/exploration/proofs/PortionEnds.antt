@@ -4,23 +4,23 @@ use Prim.Native.Nat.{ℕ, suc, zero, _+_, _*_, _<_, _≤_}
 use mathlib.Core.Path.{_≡_, refl, sym, ap, _∙_, subst}
 use mathlib.Core.Bool.{Bool, true, false, cond}
 use mathlib.Core.Logic.{_⊎_, inl, inr, ⊎-elim}
-use mathlib.Core.List.{List, [], _∷_, _++_}
+use mathlib.Core.List.{List}
 use native.Mathlib.Omega.{arith}
 use native.Mathlib.Nat.{mul-le-mul}
 use lib.Dec.{ltb}
-use lib.ListN.{length, getD, take}
+use lib.ListN.{length, getD}
 use lib.Seq.{length-take-le, getD-take}
-use borrow.Author.Tests.{ltb-true, ltb-false}
+use borrow.Author.Tests.{ltb-false}
 use Rattle.exploration.specs.Pause.{Pause}
 use Rattle.exploration.specs.working.Transitions.{Transitions, Lawful, moves}
-use Rattle.exploration.specs.working.Exploring.{Seen, Progress, broke, through, andThen, progress, tryMoves, explore, placeAfter, placeFrom, takeIn, unseen, begun, search}
+use Rattle.exploration.specs.working.Exploring.{Seen, Progress, broke, through, andThen, progress, tryMoves, explore, placeAfter, placeFrom, takeIn, unseen, search}
 use Rattle.exploration.specs.working.Trials.{afterwards, trialsFrom, trials, trialCount}
-use Rattle.exploration.specs.working.Tables.{seen, marked, Ready}
+use Rattle.exploration.specs.working.Tables.{seen, Ready}
 use Rattle.exploration.specs.working.Pauses.{Stand, seenIn, brokeOff, goneOn, further, opened, after, standIn, Judged}
 use Rattle.exploration.proofs.Laws.{marked-le, count-le, explore-end, trials-end, place-end}
-use Rattle.exploration.proofs.Portions.{stand-same, further-further, seen-told}
+use Rattle.exploration.proofs.Portions.{stand-same, further-further}
 use Rattle.exploration.proofs.Invariants as I
-use Rattle.exploration.proofs.Pauses.{grown, place-met, trials-place, fit-after, expanded-met}
+use Rattle.exploration.proofs.Pauses.{grown, place-met, trials-place, fit-after}
 
 -- A portion of no states, and one behind the end, change nothing.
 

@@ -1,20 +1,20 @@
 -- Portions one after the other are one portion, and tables hold where the search stands.
 -- Assumes nothing.
 use Prim.Native.Nat.{ℕ, suc, zero, _+_, _-_, _<_, _≤_}
-use mathlib.Core.Path.{_≡_, refl, sym, ap, _∙_, subst}
+use mathlib.Core.Path.{_≡_, refl, sym, ap, _∙_}
 use mathlib.Core.Bool.{Bool, true, false}
 use mathlib.Core.Logic.{⊎-elim}
-use mathlib.Core.List.{List, [], _∷_, _++_}
+use mathlib.Core.List.{List, _++_}
 use native.Mathlib.Omega.{arith}
 use lib.Dec.{ltb, leb, eqb}
 use lib.ListN.{length, getD, take, drop, length-append, take-append-drop}
 use lib.Seq.{length-take-le}
-use borrow.Author.Tests.{ltb-true, ltb-false, leb-true, eqb-true, lt-ltb}
+use borrow.Author.Tests.{ltb-true, ltb-false, leb-true, eqb-true}
 use Rattle.notation.proofs.Booleans.{and-split}
 use Rattle.exploration.specs.working.Transitions.{Transitions, moves}
 use Rattle.exploration.specs.working.Exploring.{Seen, Progress, broke, through, andThen, progress, tryMoves, explore, placeAfter, placeFrom}
 use Rattle.exploration.specs.working.Trials.{Trial, afterwards, trialsWith, trialsFrom}
-use Rattle.exploration.specs.working.Tables.{seen, marked, Ready, Kept, Explored, Began}
+use Rattle.exploration.specs.working.Tables.{seen, marked, Kept, Explored}
 use Rattle.exploration.specs.Pause.{Pause}
 use Rattle.exploration.specs.working.Pauses.{Stand, seenIn, brokeOff, goneOn, further, standIn, over, Holds, allStates, intact, Judged, GoneOn}
 use Rattle.exploration.proofs.Laws.{kept-refl, explore-end, trials-end, place-end}

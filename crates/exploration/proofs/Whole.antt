@@ -12,7 +12,7 @@ use borrow.Author.Tests.{lt-ltb}
 use Rattle.sheets.specs.Sheets.{mapLength}
 use Rattle.meaning.specs.Evidence.{Verdict, safeBy, voidBy, unsafeBy}
 use Rattle.exploration.specs.working.Transitions.{Transitions, Lawful}
-use Rattle.exploration.specs.working.Exploring.{broke, progress, search}
+use Rattle.exploration.specs.working.Exploring.{progress, search}
 use Rattle.exploration.specs.working.Runs.{Run, final, runTo, startOf, stepsOf}
 use Rattle.exploration.specs.working.Tables.{seen, marked, Kept, Ran}
 use Rattle.exploration.specs.working.Results.{firstRun, resultOf}

@@ -1,18 +1,18 @@
 -- What holds of every call of a search in portions, whatever position and tables are.
 -- Assumes nothing.
 use mathlib.Core.Path.{_≡_, refl, sym, ap, _∙_, subst}
-use mathlib.Core.Bool.{Bool, true, false, cond, true≢false, false≢true, _&&_}
+use mathlib.Core.Bool.{Bool, true, false, cond}
 use mathlib.Core.Logic.{_⊎_, inl, inr}
-use mathlib.Core.List.{List, [], _∷_, _++_}
+use mathlib.Core.List.{List}
 use mathlib.Core.Option.{Option, none, some}
-use Prim.Native.Nat.{ℕ, _+_, _-_, _*_, _^_, _<_, _≤_}
+use Prim.Native.Nat.{ℕ, _+_, _-_, _*_, _^_, _≤_}
 use Prim.Native.String.{String}
 use native.Mathlib.Omega.{arith}
 use native.Mathlib.Nat.{le-trans}
 use lib.Dec.{leb, ltb}
-use lib.ListN.{length, getD, take, drop}
+use lib.ListN.{length, getD, drop}
 use lib.Pow.{pow-pos}
-use lib.Seq.{sets, drop-drop, drop-append-add, length-front, length-take-le}
+use lib.Seq.{drop-drop, drop-append-add, length-front, length-take-le}
 use borrow.Author.Tests.{le-leb, leb-true, ltb-true}
 use Rattle.notation.specs.Model.{Model}
 use Rattle.notation.specs.Texts.{longestText, TextSays, TextRefused}
@@ -24,7 +24,6 @@ use Rattle.notation.proofs.Regular.{all-regular}
 use Rattle.notation.proofs.Texts.{refused-answer, one-answer, answers-recased}
 use Rattle.reader.specs.Read.{readingIn, readingOf}
 use Rattle.evaluation.proofs.Powers.{pow-small}
-use Rattle.evaluation.specs.working.CodeSystem.{Sound}
 use Rattle.meaning.specs.Evidence.{Verdict, safeBy, voidBy, unsafeBy, evidenceOf}
 use Rattle.meaning.specs.OneRow.{stateCount}
 use Rattle.sheets.specs.Sheets.{System, size, sheetRoom, systemOf, little, recordBytes, headerBytes, sheetBytes}
@@ -32,11 +31,11 @@ use Rattle.sheets.specs.working.FlatSystem.{systemIn}
 use Rattle.acceptance.specs.working.Test.{planOf}
 use Rattle.exploration.specs.Pause.{Pause}
 use Rattle.exploration.specs.working.Transitions.{Transitions, Lawful, moves}
-use Rattle.exploration.specs.working.Exploring.{Seen, Progress, broke, through}
+use Rattle.exploration.specs.working.Exploring.{Progress, broke, through}
 use Rattle.exploration.specs.working.Results.{resultOf}
 use Rattle.exploration.specs.working.Trials.{trialCount}
-use Rattle.exploration.specs.working.Pauses.{Stand, seenIn, opened, after, further, pauseOf, standIn, over, intact, recordsTo}
-use Rattle.exploration.specs.working.Found.{foundIn, verdictFor, transitionsOf, Agrees}
+use Rattle.exploration.specs.working.Pauses.{Stand, seenIn, opened, further, pauseOf, standIn, over, intact}
+use Rattle.exploration.specs.working.Found.{foundIn, verdictFor, transitionsOf}
 use Rattle.exploration.proofs.CodeSteps.{code-lawful, moves-few}
 use Rattle.exploration.proofs.FoundShort.{Short, short-for, found-short}
 use Rattle.exploration.proofs.Invariants as I
@@ -55,7 +54,7 @@ use Rattle.verdicts.proofs.SearchTells.{searched-said}
 use Rattle.pauses.specs.Answers.{Wording, paused, returned}
 use Rattle.pauses.specs.Held.{Held}
 use Rattle.pauses.specs.Promises.{TableRoom, HeldRefused, AnyHeld, AnyLeft, AnyTells, RefusedFirst, Bounded, FinishBounded, AllBounded, PausesBounded, PausedWithoutCase}
-use Rattle.pauses.specs.working.Pausing.{flatOf, tabled, heldAlone, heldBy, nothingLeft, openFor, portionIn, portionFor, lastRecorded, canClose, closedBy, allFrom, finishIn, finishFor, heldIn, leftIn, openOf, portionOf, finishOf}
+use Rattle.pauses.specs.working.Pausing.{flatOf, tabled, heldAlone, heldBy, nothingLeft, openFor, portionIn, portionFor, lastRecorded, canClose, allFrom, finishIn, finishFor, heldIn, leftIn, openOf, portionOf, finishOf}
 use Rattle.pauses.proofs.FlatTexts.{FlatSays, flat-says}
 use Rattle.pauses.proofs.Finished.{finish-no, finish-yes, finish-other}
 

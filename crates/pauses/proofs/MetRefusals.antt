@@ -23,7 +23,7 @@ use Rattle.questions.specs.Answers as Q
 use Rattle.questions.specs.Promises as QP
 use Rattle.questions.specs.declared.reply.Reply.{Reply}
 use Rattle.questions.specs.declared.reply.Reply.the-variants.{Yes, No, Told}
-use Rattle.pauses.specs.Promises.{TableRoom, MetRefused, MetRefusals, MetBounded}
+use Rattle.pauses.specs.Promises.{TableRoom, MetRefusals, MetBounded}
 use Rattle.pauses.specs.working.Pausing.{flatOf, tabled, metFor, metIn, metOf}
 use Rattle.pauses.proofs.AnyCalls.{flat, sized, tables-there, tables-room, no-tables}
 

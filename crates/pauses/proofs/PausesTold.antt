@@ -1,47 +1,36 @@
 -- What a pause that nobody altered tells of the runs of the model's table of one row, and what portions and questions do there.
 -- Assumes nothing.
 use mathlib.Core.Path.{_≡_, refl, sym, ap, _∙_, subst}
-use mathlib.Core.Bool.{Bool, true, false, cond, true≢false, false≢true}
-use mathlib.Core.Logic.{_↔_, _⊎_, inl, inr, ⊎-elim}
+use mathlib.Core.Bool.{true, false, true≢false}
+use mathlib.Core.Logic.{_↔_, _⊎_, inl, inr}
 use mathlib.Core.List.{List, [], _∷_, _++_}
 use Prim.Native.Nat.{ℕ, _+_, _-_, _<_, _≤_}
 use native.Mathlib.Omega.{arith}
-use lib.Dec.{ltb}
-use lib.ListN.{length, getD, take, drop, length-map, length-append}
+use lib.ListN.{length, getD, length-map, length-append}
 use lib.Seq.{getD-take}
-use borrow.Author.Tests.{lt-ltb, le-ltb}
 use Rattle.notation.specs.Model.{Model}
 use Rattle.notation.specs.Texts.{TextSays}
-use Rattle.meaning.specs.Meaning.{commandAt}
-use Rattle.meaning.specs.OneRow.{stateCount, wordCount, starts, breaks, next, TraceStep}
+use Rattle.meaning.specs.OneRow.{stateCount, starts, breaks, next, TraceStep}
 use Rattle.sheets.specs.Sheets.{size}
 use Rattle.exploration.specs.Findings.{Reaches, TraceTo}
 use Rattle.exploration.specs.Order.{RunBefore}
 use Rattle.exploration.specs.Pause.{Pause}
-use Rattle.exploration.specs.working.Transitions.{Transitions, Lawful, Move}
+use Rattle.exploration.specs.working.Transitions.{Transitions, Lawful}
 use Rattle.exploration.specs.working.Exploring.{Seen, Progress, broke, through}
-use Rattle.exploration.specs.working.Runs.{Run, startsAt, final, Valid, Before, MoveOf, startOf, stepsOf}
-use Rattle.exploration.specs.working.Pauses.{Stand, seenIn, brokeOff, opened, after, further, pauseOf, Holds}
+use Rattle.exploration.specs.working.Runs.{Run, startsAt, final, startOf, stepsOf}
+use Rattle.exploration.specs.working.Pauses.{Stand, seenIn, brokeOff, after}
 use Rattle.exploration.specs.working.Found.{transitionsOf, Agrees}
 use Rattle.exploration.proofs.First.{at, Between, Ended, queue-length}
 use Rattle.exploration.proofs.Order.{before-trans, before-irrefl, at-most-before}
 use Rattle.exploration.proofs.Right.{queue-last}
 use Rattle.exploration.proofs.RunsOfModels.{onBy, run-reaches, trace-to, to-valid, to-final}
 use Rattle.exploration.proofs.TracesInOrder.{run-before}
-use Rattle.exploration.proofs.Pauses.{Marked, fit-after, mark-stays, Listed, listed-after, between-after, ended-after, Follows, fromStart, fromPlace, follows-marked, marked-follows, first-run, place-is, expanded-met}
-use Rattle.exploration.proofs.PortionEnds.{met-few, grown-further, most-further, least-further, further-none, further-ended}
-use Rattle.exploration.proofs.Portions.{further-further}
-use Rattle.questions.specs.Answers as Q
-use Rattle.questions.specs.declared.reply.Reply.the-variants.{Yes, No}
-use Rattle.pauses.specs.Promises as P
-use Rattle.pauses.specs.Promises.{Paused, HandsBack, Unaltered, Later, Among, StepFrom, PauseMeans, PausesTell, PortionMeans, PortionsTell, MetMeans, MetTells, MetReaches, MetExactly, MetStays, metReply}
-use Rattle.pauses.specs.working.Pausing.{flatOf, heldBy, portionOf, metOf}
+use Rattle.exploration.proofs.Pauses.{Marked, fit-after, Listed, listed-after, between-after, ended-after, Follows, fromStart, fromPlace, follows-marked, marked-follows, first-run, place-is, expanded-met}
+use Rattle.exploration.proofs.PortionEnds.{met-few}
+use Rattle.pauses.specs.Promises.{Paused, Among, StepFrom, PauseMeans, PausesTell}
+use Rattle.pauses.specs.working.Pausing.{flatOf}
 use Rattle.pauses.proofs.AnyCalls as C
-use Rattle.pauses.proofs.MetRefusals.{met-entry}
-use Rattle.pauses.proofs.Unaltered.{over-same, StandsAt, portion-goes, later-at, unaltered-at}
-
-positive : (n : ℕ) → (n ≡ 0 → ⊥) → 0 < n
-positive n h = omega arith
+use Rattle.pauses.proofs.Unaltered.{StandsAt, unaltered-at}
 
 -- What is at the end of a list has a place in it.
 ended-some : (T : Transitions) (x : Seen) → Ended T x → 1 ≤ length (x .queue)

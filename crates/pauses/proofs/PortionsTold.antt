@@ -6,14 +6,12 @@ use mathlib.Core.Logic.{_↔_, _⊎_, inl, inr, ⊎-elim}
 use mathlib.Core.List.{List}
 use Prim.Native.Nat.{ℕ, _+_, _<_, _≤_}
 use native.Mathlib.Omega.{arith}
-use native.Mathlib.Decide.{ℕ-discrete}
 use lib.Dec.{ltb}
-use lib.ListN.{length, getD, take, drop}
+use lib.ListN.{length, getD, take}
 use borrow.Author.Tests.{lt-ltb, ltb-true}
 use Rattle.notation.specs.Model.{Model}
 use Rattle.notation.specs.Texts.{TextSays}
 use Rattle.meaning.specs.OneRow.{stateCount}
-use Rattle.sheets.specs.Sheets.{size}
 use Rattle.exploration.specs.Findings.{Reaches}
 use Rattle.exploration.specs.Pause.{Pause}
 use Rattle.exploration.specs.working.Transitions.{Transitions}
@@ -25,11 +23,10 @@ use Rattle.exploration.proofs.Pauses.{Marked, fit-after, mark-stays}
 use Rattle.exploration.proofs.PortionEnds.{grown-further, most-further, least-further, further-none, further-ended}
 use Rattle.exploration.proofs.Portions.{further-further}
 use Rattle.questions.specs.Answers as Q
-use Rattle.questions.specs.declared.reply.Reply.{Reply}
 use Rattle.questions.specs.declared.reply.Reply.the-variants.{Yes, No}
-use Rattle.pauses.specs.Promises.{Paused, HandsBack, Unaltered, Later, Among, PauseMeans, PortionMeans, PortionsTell, MetMeans, MetTells, MetReaches, MetExactly, MetStays, metReply}
+use Rattle.pauses.specs.Promises.{Paused, HandsBack, PortionMeans, PortionsTell, MetMeans, MetTells, MetReaches, MetExactly, MetStays, metReply}
 use Rattle.pauses.specs.Promises as P
-use Rattle.pauses.specs.working.Pausing.{flatOf, heldBy, portionOf, metOf}
+use Rattle.pauses.specs.working.Pausing.{flatOf, portionOf}
 use Rattle.pauses.proofs.AnyCalls as C
 use Rattle.pauses.proofs.MetRefusals.{met-entry, met-refusals}
 use Rattle.pauses.proofs.Unaltered.{over-same, StandsAt, portion-goes, later-at, unaltered-at}

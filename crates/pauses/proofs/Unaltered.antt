@@ -2,9 +2,8 @@
 -- Assumes nothing.
 use mathlib.Core.Path.{_≡_, refl, sym, ap, _∙_, subst}
 use mathlib.Core.Bool.{Bool, true, false, cond, true≢false}
-use mathlib.Core.Logic.{_⊎_, inl, inr, ⊎-elim}
 use mathlib.Core.List.{List, [], _∷_, _++_}
-use Prim.Native.Nat.{ℕ, _+_, _<_, _≤_}
+use Prim.Native.Nat.{ℕ, _+_, _≤_}
 use native.Mathlib.Omega.{arith}
 use native.Mathlib.Nat.{le-trans}
 use lib.ListN.{length, take, drop, replicate, length-take, take-append-drop}
@@ -15,22 +14,20 @@ use Rattle.meaning.specs.OneRow.{stateCount}
 use Rattle.sheets.specs.Sheets.{System, size}
 use Rattle.exploration.specs.Pause.{Pause}
 use Rattle.exploration.specs.working.Transitions.{Transitions}
-use Rattle.exploration.specs.working.Exploring.{Seen, Progress, search}
+use Rattle.exploration.specs.working.Exploring.{Progress, search}
 use Rattle.exploration.specs.working.Results.{result}
-use Rattle.exploration.specs.working.Trials.{trialCount}
 use Rattle.exploration.specs.working.Pauses.{Stand, seenIn, opened, after, further, pauseOf, standIn, over, Holds, intact}
 use Rattle.exploration.specs.working.Found.{foundIn, transitionsOf}
-use Rattle.exploration.proofs.Laws.{marked-le}
 use Rattle.exploration.proofs.Pauses.{fit-after, intact-held}
 use Rattle.exploration.proofs.PortionEnds.{further-none, grown-further, after-all, all-went, all-trials, met-few}
 use Rattle.exploration.proofs.Portions.{holds-stand, further-further}
-use Rattle.verdicts.specs.Left.{Left, zeroed}
+use Rattle.verdicts.specs.Left.{Left}
 use Rattle.verdicts.specs.Promises.{Room}
-use Rattle.verdicts.specs.working.Searching.{roomy, leftWith, leftBy, leftAlone, foundBy, searchFor, searchOf}
+use Rattle.verdicts.specs.working.Searching.{roomy, leftBy, leftAlone, foundBy, searchFor, searchOf}
 use Rattle.pauses.specs.Answers.{Wording, paused, returned}
 use Rattle.pauses.specs.Held.{Held}
-use Rattle.pauses.specs.Promises.{TableRoom, Paused, HandsBack, Moved, Later, here, portioned, moved, Unaltered, nextPortion, portionsFrom, finishFrom, inPortions, PortionsAgree, FinishAgrees}
-use Rattle.pauses.specs.working.Pausing.{flatOf, tabled, heldAlone, heldBy, nothingLeft, openFor, portionIn, canClose, allFrom, finishIn, finishFor, openOf, portionOf, finishOf}
+use Rattle.pauses.specs.Promises.{TableRoom, Paused, HandsBack, Moved, Later, here, portioned, moved, Unaltered, portionsFrom, finishFrom, PortionsAgree, FinishAgrees}
+use Rattle.pauses.specs.working.Pausing.{flatOf, tabled, heldBy, nothingLeft, portionIn, canClose, allFrom, finishIn, finishFor, openOf, portionOf, finishOf}
 use Rattle.pauses.proofs.AnyCalls as C
 use Rattle.pauses.proofs.Finished.{finish-no, finish-yes, finish-other}
 

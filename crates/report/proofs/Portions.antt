@@ -1,6 +1,6 @@
 -- A search that is underway goes on, and finished it is what a search in one go leaves.
 -- Assumes nothing.
-use mathlib.Core.Path.{_≡_, refl, sym, ap, _∙_, subst}
+use mathlib.Core.Path.{_≡_, sym, ap, _∙_}
 use mathlib.Core.Logic.{_⊎_, inl, inr}
 use mathlib.Core.List.{List, []}
 use Prim.Native.Nat.{ℕ, _≤_}
@@ -10,21 +10,19 @@ use lib.ListN.{length}
 use Rattle.notation.specs.Model.{Model}
 use Rattle.notation.specs.Texts.{TextSays, TextRefused}
 use Rattle.notation.proofs.Texts.{one-answer}
-use Rattle.meaning.specs.OneRow.{stateCount}
 use Rattle.exploration.specs.Pause.{Pause}
 use Rattle.verdicts.specs.Left.{Left, Leaves}
 use Rattle.verdicts.specs.declared.finding.Finding.{Finding}
 use Rattle.verdicts.proofs.SheetsPass.{few}
 use Rattle.pauses.specs.Answers.{Wording, paused, returned}
-use Rattle.pauses.specs.Held.{Held, Holding}
-use Rattle.pauses.specs.Promises.{TableRoom, Unaltered, here, portioned}
+use Rattle.pauses.specs.Held.{Holding}
+use Rattle.pauses.specs.Promises.{TableRoom, here, portioned}
 use Rattle.pauses.specs.working.Pausing.{openOf, portionOf, finishOf}
 use Rattle.pauses.proofs.AnyCalls.{any-tells, refused-first}
 use Rattle.pauses.proofs.Unaltered.{finish-agrees}
 use Rattle.reporting.specs.working.Reporting.{Searched}
 use Rattle.search.specs.Answers.{pauseFor, wordingOf}
 use Rattle.search.specs.declared.position.Position.{Position}
-use Rattle.search.specs.declared.position.Paused.{Paused}
 use Rattle.search.specs.declared.position.Paused.the-variants.{At, Refused}
 use Rattle.report.specs.working.Underway.{Underway}
 

@@ -1,6 +1,5 @@
 // A search in portions that tells on standard error how far it is, and leaves what a search in one go leaves.
 ghost use Prim.Native.Nat.{_≤_};
-ghost use lib.ListN.{length};
 ghost use Rattle.reporting.specs.working.Reporting.{Searched};
 ghost use Rattle.search.specs.Answers.{pauseFor};
 ghost use Rattle.report.specs.working.Underway.{Underway};

@@ -18,21 +18,21 @@ use Rattle.evaluation.specs.declared.plan.Plan.{Plan}
 use Rattle.evaluation.specs.working.CodeSystem.{Sound}
 use Rattle.sheets.specs.Sheets.{System, size, sheetRoom}
 use Rattle.sheets.specs.working.FlatSystem.{systemIn}
-use Rattle.acceptance.specs.working.Test.{planOf, ReadInto}
+use Rattle.acceptance.specs.working.Test.{ReadInto}
 use Rattle.acceptance.proofs.TestTexts.{read-of, refused-of}
 use Rattle.exploration.specs.Pause.{Pause}
 use Rattle.exploration.specs.working.Transitions.{Transitions}
 use Rattle.exploration.specs.working.Exploring.{Progress, broke, progress}
 use Rattle.exploration.specs.working.CodeTransitions.{transitionsIn}
 use Rattle.exploration.specs.working.Tables.{seen, Ready, Kept, Began}
-use Rattle.exploration.specs.working.Pauses.{Stand, opened, further, pauseOf, standIn, intact, GoneOn, recordsTo}
+use Rattle.exploration.specs.working.Pauses.{Stand, opened, further, standIn, intact, GoneOn, recordsTo}
 use Rattle.exploration.specs.working.Found.{foundIn}
 use Rattle.exploration.specs.working.Written.{RecordedTo, Closing}
 use Rattle.exploration.proofs.Laws.{count-le}
 use Rattle.exploration.proofs.Recorded.{recorded}
 use Rattle.exploration.proofs.Portions.{left-flag, left-count, left-queue, left-parents}
 use Rattle.verdicts.specs.Left.{Left}
-use Rattle.verdicts.specs.working.Searching.{leftBy, leftAlone, foundBy}
+use Rattle.verdicts.specs.working.Searching.{leftBy, foundBy}
 use Rattle.verdicts.specs.declared.finding.Finding.{Finding}
 use Rattle.verdicts.specs.declared.finding.Finding.the-variants as F
 use Rattle.exploration.specs.working.Trials.{trialCount}
@@ -43,7 +43,7 @@ use Rattle.questions.specs.declared.reply.Reply.{Reply}
 use Rattle.questions.specs.declared.reply.Reply.the-variants as Q
 use Rattle.pauses.specs.Answers.{Wording, paused, returned}
 use Rattle.pauses.specs.Held.{Held, Holding}
-use Rattle.pauses.specs.working.Pausing.{flatOf, tabled, heldAlone, heldBy, nothingLeft, openFor, portionIn, portionFor, lastRecorded, canClose, closedBy, allFrom, finishIn, heldIn, leftIn, metFor, metIn, metOf}
+use Rattle.pauses.specs.working.Pausing.{flatOf, tabled, heldAlone, heldBy, nothingLeft, portionIn, lastRecorded, canClose, closedBy, allFrom, finishIn, heldIn, leftIn, metFor, metIn, metOf}
 use Rattle.search.specs.working.Ends.{Ends}
 use Rattle.search.proofs.SearchesLeft.{and-first, and-second, left-kept}
 

@@ -8,7 +8,6 @@ ghost use Rattle.exploration.specs.working.Tables.{Ready};
 ghost use Rattle.pauses.specs.working.Pausing.{openFor, portionFor, finishIn, finishFor, metFor};
 ghost use Rattle.sheets.specs.Sheets.{sheetRoom};
 ghost use Rattle.sheets.specs.working.FlatSystem.{systemIn};
-ghost use Rattle.search.specs.Answers.{pauseFor};
 ghost use Rattle.search.specs.working.Ends.{EndsWith};
 ghost use Rattle.search.specs.working.Pausing.{pauseIn, canClose, GoesOn, HoldsWith};
 use crate::concluding::conclude;

@@ -5,8 +5,8 @@ use mathlib.Core.Bool.{Bool, true, false, cond, _||_}
 use mathlib.Core.List.{List, []}
 use Prim.Native.Nat.{ℕ, _+_, _*_, _/_, _%_, _<_, _≤_}
 use native.Mathlib.Omega.{arith}
-use lib.Dec.{eqb, leb}
-use borrow.Author.Tests.{ne-eqb, eq-eqb, le-leb, lt-leb}
+use lib.Dec.{eqb}
+use borrow.Author.Tests.{ne-eqb, le-leb, lt-leb}
 use Rattle.notation.specs.Bytes.{bytes}
 use Rattle.exploration.specs.Pause.{Pause}
 use Rattle.packing.specs.Packed.{packed, mostAbove}
@@ -20,7 +20,7 @@ use Rattle.acceptance.specs.Promises as A
 use Rattle.pauses.specs.Answers.{Wording, paused, returned}
 use Rattle.verdicts.specs.Left.{Leaves}
 use Rattle.pauses.specs.Held.{Holding}
-use Rattle.pauses.specs.Promises.{Bounded, metReply}
+use Rattle.pauses.specs.Promises.{Bounded}
 use Rattle.pauses.specs.working.Pausing.{openOf, portionOf, finishOf, metOf}
 use Rattle.pauses.proofs.AnyCalls.{pauses-bounded}
 use Rattle.pauses.proofs.MetRefusals.{met-bounded}
@@ -30,7 +30,7 @@ use Rattle.questions.specs.working.Asking.{reachedOf}
 use Rattle.questions.proofs.ReachedTells.{replies-bounded}
 use Rattle.questions.specs.declared.reply.Reply.{Reply}
 use Rattle.questions.specs.declared.reply.Reply.the-variants.{Yes, No, Told}
-use Rattle.search.specs.Answers.{pauseFor, wordingOf}
+use Rattle.search.specs.Answers.{wordingOf}
 use Rattle.search.specs.declared.position.Position.{Position}
 use Rattle.search.specs.declared.position.Paused.{Paused}
 use Rattle.search.specs.declared.position.Paused.the-variants.{At, Refused}

@@ -9,7 +9,7 @@ use Rattle.exploration.specs.Pause.{Pause}
 use Rattle.packing.specs.Packed.{packed, initial}
 use Rattle.packing.specs.Outcomes as T
 use Rattle.pauses.specs.Answers.{Wording, paused, returned}
-use Rattle.pauses.specs.Promises.{Bounded, metReply}
+use Rattle.pauses.specs.Promises.{metReply}
 use Rattle.pauses.specs.working.Pausing.{openOf, portionOf}
 use Rattle.questions.specs.Answers as Q
 use Rattle.questions.specs.Promises.{replyTo}

@@ -1,7 +1,7 @@
 -- What the contracts of a search in portions say of positions and of the tables that are lent.
 -- Assumes nothing.
 use mathlib.Core.Path.{_≡_}
-use mathlib.Core.Bool.{Bool, true, false}
+use mathlib.Core.Bool.{Bool}
 use mathlib.Core.List.{List}
 use Prim.Native.Nat.{ℕ}
 use Rattle.reader.specs.working.Commands.{Lent}

@@ -3,7 +3,6 @@
 use native.Mathlib.Omega.{arith}
 use mathlib.Core.Path.{sym, ap, _∙_}
 use Rattle.search.specs.Answers.{wordingOf}
-use Rattle.search.specs.declared.position.Paused.{Paused}
 use Rattle.report.proofs.Portions.{portioned-underway, never-refused}
 use borrow.Author.Needs.{needs}
 use Rattle.report.proofs.progress.next_position.Statement.{statement}

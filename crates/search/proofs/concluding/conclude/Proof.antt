@@ -3,7 +3,6 @@
 use native.Mathlib.Omega.{arith}
 use Rattle.search.proofs.SearchesLeft.{header-asked, head-asked, map-asked, length-small, second-room, count-few}
 use Rattle.search.proofs.SearchesLeft.{last-within, trace-asked, unsafe-left, void-left, safe-left}
-use Prim.Native.Nat.{_+_}
 use borrow.Author.Needs.{needs}
 use Rattle.search.proofs.concluding.conclude.Statement.{statement}
 use Rattle.search.proofs.concluding.conclude.Tie as tie

@@ -1,6 +1,6 @@
 -- `go_on` meets its contract: nothing changes behind a break, and else the queue is gone through.
 -- Assumes nothing.
-use Prim.Native.Nat.{ℕ, _^_}
+use Prim.Native.Nat.{_^_}
 use mathlib.Core.Path.{refl}
 use native.Mathlib.Omega.{arith}
 use Rattle.evaluation.proofs.Powers.{pow-small}

@@ -1,7 +1,6 @@
 -- `portion_code` meets its contract: the call is refused where a table has no room, and goes on from what is judged to be intact.
 -- Assumes nothing.
 use mathlib.Core.Path.{_≡_, sym, _∙_, subst}
-use mathlib.Core.Bool.{Bool, true, false}
 use borrow.Author.Tests.{not-true, not-false}
 use Prim.Native.Nat.{ℕ}
 use native.Mathlib.Omega.{arith}

@@ -1,14 +1,12 @@
 -- `leads_to` meets its contract: the first move that is found is a move, and its step is t.
 -- Assumes nothing.
-use Prim.Native.Nat.{ℕ, _^_, _≤_}
-use mathlib.Core.Path.{_≡_, refl, sym, ap, _∙_}
+use Prim.Native.Nat.{ℕ, _^_}
+use mathlib.Core.Path.{refl, sym, ap, _∙_}
 use native.Mathlib.Omega.{arith}
 use lib.Dec.{eqb}
 use borrow.Author.Needs.{needs}
 use Rattle.evaluation.proofs.Powers.{pow-small}
 use Rattle.exploration.specs.working.CodeTransitions.{transitionsIn}
-use Rattle.exploration.specs.working.Transitions.{moveOf}
-use Rattle.exploration.proofs.CodeSteps.{words-within}
 use Rattle.exploration.proofs.Recorded.{leads-command, leads-word, leads-there}
 use Rattle.tracing.proofs.recorded.leads_to.Statement.{statement}
 use Rattle.tracing.proofs.recorded.leads_to.Tie as tie

@@ -1,16 +1,13 @@
 -- `all_states` meets its contract: all entries before i are states.
 -- Assumes nothing.
-use Prim.Native.Nat.{ℕ, _-_, _<_, _≤_}
-use mathlib.Core.Path.{_≡_, refl, sym, ap, _∙_, subst}
+use Prim.Native.Nat.{ℕ, _-_, _≤_}
+use mathlib.Core.Path.{_≡_, refl, sym, subst}
 use mathlib.Core.Bool.{true}
 use native.Mathlib.Omega.{arith}
-use lib.ListN.{getD}
-use borrow.Author.Needs.{needs}
 use Rattle.exploration.specs.working.Pauses.{allStates}
 use Rattle.exploration.proofs.Judging.{states-more, states-none}
 use Rattle.traversal.proofs.intact.all_states.Statement.{statement}
 use Rattle.traversal.proofs.intact.all_states.Tie as tie
-use Rattle.evaluation.proofs.numbers.count.Reads as count-reads
 
 abbrev Inv-places : tie.InvT-places
 Inv-places table n states i₀ i = (i ≤ n) × (allStates states table i ≡ true)

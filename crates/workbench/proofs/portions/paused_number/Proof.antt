@@ -1,6 +1,5 @@
 -- `paused_number` meets its contract: a position, or a refusal with its place.
 -- Assumes nothing.
-use mathlib.Core.Path.{_∙_}
 use Rattle.search.specs.Answers.{wordingOf}
 use Rattle.search.specs.declared.position.Paused.the-variants.{At, Refused}
 use Rattle.workbench.specs.Positions.{pausedNumber}

@@ -1,6 +1,5 @@
 -- `reply_number` meets its contract: the letter of yes or no, or the number of the test's answer.
 -- Assumes nothing.
-use mathlib.Core.Path.{_∙_, refl}
 use Rattle.notation.specs.Bytes.{bytes}
 use Rattle.questions.specs.Answers.{wordingOf}
 use Rattle.questions.specs.declared.reply.Reply.the-variants.{Yes, No, Told}
