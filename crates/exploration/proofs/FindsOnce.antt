@@ -10,15 +10,20 @@ use lib.ListN.{length}
 use lib.Dec.{eqb}
 use borrow.Author.Tests.{eqb-true}
 use Rattle.notation.specs.Model.{Model}
+use Rattle.notation.specs.Regular.{Every}
 use Rattle.meaning.specs.Meaning.{CanStart, Unsafe}
 use Rattle.meaning.specs.OneRow.{One, next, TraceStep}
-use Rattle.meaning.specs.Evidence.{TracePasses, safeBy, voidBy, unsafeBy}
+use Rattle.meaning.specs.Evidence.{StepFits, ConditionE, Verdict, safeBy, voidBy, unsafeBy}
 use Rattle.meaning.specs.working.Conditions.{testE}
 use Rattle.notation.proofs.Booleans.{and-split}
 use Rattle.meaning.proofs.Accept.{all-tests-tell}
 use Rattle.exploration.specs.Order.{StepBefore, StepsBefore, RunBefore}
-use Rattle.exploration.specs.Findings.{FirstBreak, FindsOnce}
-use Rattle.exploration.proofs.Order.{lt-or-ge}
+use Rattle.exploration.specs.Findings.{TraceTo, FirstBreak, FindsOnce}
+use Rattle.exploration.specs.working.Transitions.{Transitions}
+use Rattle.exploration.specs.working.Runs.{Run, startsAt, startOf, stepsOf}
+use Rattle.exploration.proofs.Order.{AtMost, lt-or-ge}
+use Rattle.exploration.proofs.RunsOfModels.{onBy}
+use Rattle.exploration.proofs.TracesInOrder.{on-steps, run-before}
 use Rattle.exploration.proofs.MapsAlike.{maps-alike}
 
 -- A run that goes wrong begins at a start state.
@@ -87,10 +92,10 @@ module _ (step : ℕ → ℕ → ℕ → ℕ) where
       (step-total x y)
 
 module _ (m : Model) where
-  tested : (s : ℕ) (xs : List TraceStep) → TracePasses m s xs → testE (next m) s xs ≡ true
-  tested s xs p = all-tests-tell m .tellsE s xs (p .stepsFit) .1 (p .steps)
+  tested : (s : ℕ) (xs : List TraceStep) → Every (StepFits m) xs → ConditionE m s xs → testE (next m) s xs ≡ true
+  tested s xs f p = all-tests-tell m .tellsE s xs f .1 p
 
-  runs-total : (s : ℕ) (xs : List TraceStep) (t : ℕ) (ys : List TraceStep) → TracePasses m s xs → TracePasses m t ys
+  runs-total : (s : ℕ) (xs : List TraceStep) (t : ℕ) (ys : List TraceStep) → testE (next m) s xs ≡ true → testE (next m) t ys ≡ true
       → RunBefore s xs t ys ⊎ ((unsafeBy s xs ≡ unsafeBy t ys) ⊎ RunBefore t ys s xs)
   runs-total s xs t ys p q =
       ⊎-elim
@@ -110,7 +115,7 @@ module _ (m : Model) where
       (λ (g : xs ≡ ys). inr (inl (λ i. unsafeBy (f i) (g i))))
       (λ n. inr (inr (inr (sym e, inr (sym f, n)))))
       l)
-      (steps-total (next m) s xs ys e (tested s xs p) (subst (λ (u : ℕ). testE (next m) u ys ≡ true) (sym f) (tested t ys q))))
+      (steps-total (next m) s xs ys e p (subst (λ (u : ℕ). testE (next m) u ys ≡ true) (sym f) q)))
       (λ l. inr (inr (inr (sym e, inl l))))
       k)
       (trichotomy s t))
@@ -123,7 +128,21 @@ module _ (m : Model) where
       ⊎-elim
       (λ h. absurd (G .first s xs (F .breaks) h))
       (λ h. ⊎-elim (λ e. e) (λ k. absurd (F .first t ys (G .breaks) k)) h)
-      (runs-total s xs t ys (F .breaks) (G .breaks))
+      (runs-total s xs t ys (tested s xs (F .breaks .stepsFit) (F .breaks .steps)) (tested t ys (G .breaks .stepsFit) (G .breaks .steps)))
+
+  -- The run that a verdict gives, and of a run that does not come after another what that means.
+  abbrev runBy : Verdict → Run
+  runBy (safeBy a) = startsAt 0
+  runBy (voidBy a) = startsAt 0
+  runBy (unsafeBy s xs) = onBy (startsAt s) xs
+
+  pub not-after : (T : Transitions) (r : Run) (u : ℕ) → TraceTo m (startOf r) (stepsOf T r) u → (s : ℕ) (xs : List TraceStep) (t : ℕ) → TraceTo m s xs t
+      → ¬ (RunBefore (startOf r) (stepsOf T r) s xs) → AtMost (onBy (startsAt s) xs) r
+  not-after T r u P s xs t W n =
+      ⊎-elim
+      (λ h. inl (run-before T s xs r h))
+      (λ h. ⊎-elim (λ e. inr (ap runBy e ∙ on-steps T r)) (λ k. absurd (n k)) h)
+      (runs-total s xs (startOf r) (stepsOf T r) (tested s xs (W .stepsFit) (W .steps)) (tested (startOf r) (stepsOf T r) (P .stepsFit) (P .steps)))
 
 pub finds-once : FindsOnce
 finds-once m (safeBy a) (safeBy b) p q = ap safeBy (maps-alike m a b (p .1) (q .1))

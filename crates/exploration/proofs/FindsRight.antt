@@ -40,7 +40,7 @@ unfolding mapLength
 some-byte states = omega arith
 
 module _ (T : Transitions) (m : Model) (A : Agrees T m) where
-  first-break : Regular m → (r : Run) → First T r → FirstBreak m (startOf r) (stepsOf T r)
+  pub first-break : Regular m → (r : Run) → First T r → FirstBreak m (startOf r) (stepsOf T r)
   first-break g r F =
       record {
         breaks = trace-passes T m A r (F .valid) (F .breaking);

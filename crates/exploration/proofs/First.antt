@@ -27,13 +27,13 @@ final-below M law (goesOn r m) v = law .step-below (final M r) (m .command) (m .
 abbrev pub at : List Run → ℕ → Run
 at ρ i = getD ρ i (startsAt 0)
 
-length-snoc : (ρ : List Run) (z : Run) → length (ρ ++ z ∷ []) ≡ suc (length ρ)
+pub length-snoc : (ρ : List Run) (z : Run) → length (ρ ++ z ∷ []) ≡ suc (length ρ)
 length-snoc ρ z = omega (arith, length-append ρ (z ∷ []))
 
-at-old : (ρ : List Run) (z : Run) (i : ℕ) → i < length ρ → at (ρ ++ z ∷ []) i ≡ at ρ i
+pub at-old : (ρ : List Run) (z : Run) (i : ℕ) → i < length ρ → at (ρ ++ z ∷ []) i ≡ at ρ i
 at-old ρ z i h = List·getD-append ρ (z ∷ []) (startsAt 0) i h
 
-at-new : (ρ : List Run) (z : Run) (i : ℕ) → i ≡ length ρ → at (ρ ++ z ∷ []) i ≡ z
+pub at-new : (ρ : List Run) (z : Run) (i : ℕ) → i ≡ length ρ → at (ρ ++ z ∷ []) i ≡ z
 at-new ρ z i e = rw e (getD-append-seam ρ z [] (startsAt 0))
 
 snoc-all : (P : Run → Type 0) (ρ : List Run) (z : Run) → ((i : ℕ) → i < length ρ → P (at ρ i)) → P z → (i : ℕ) → i < length (ρ ++ z ∷ []) → P (at (ρ ++ z ∷ []) i)
@@ -167,7 +167,7 @@ pub record Going (M : Transitions) (head s : ℕ) (done : List Move) (x : Seen) 
   pub within : head < length runs
   pub here : s ≡ final M (at runs head)
 
--- Where a break was found: the last of the queue's runs is the first breaking run.
+-- Where a break was found: the last of the queue's runs is the first breaking run; the others, which were seen before it was met, come before it, and every run before it ends in one of their states.
 pub record Ended (M : Transitions) (x : Seen) : Type 0 where
   pub runs : List Run
   pub last : Run
@@ -175,6 +175,10 @@ pub record Ended (M : Transitions) (x : Seen) : Type 0 where
   pub traced : Traced M (x .parent) last
   pub short : steps last < M .size
   pub first : First M last
+  pub before : Seen
+  pub good : Good M runs before
+  pub earlier : (i : ℕ) → i < length runs → Before (at runs i) last
+  pub covered : (y : Run) → Valid M y → Before y last → Covered M runs y
 
 abbrev pub Tries : Transitions → ℕ → ℕ → List Move → Progress → Type 0
 Tries M head s done (broke x) = Ended M x
@@ -324,6 +328,10 @@ module _ (M : Transitions) (law : Lawful M) (head s : ℕ) (done : List Move) (m
               breaking = k;
               first = λ y v b. let c = reach y v b in ap (M .breaks) (sym (c .2)) ∙ W .good .reached (c .0) (c .1);
             };
+        before = x;
+        good = W .good;
+        earlier = earlier;
+        covered = reach;
       }
 
   try-new : getD (x .parent) (final M z) 0 ≡ 0 → (b : Bool) → M .breaks (final M z) ≡ b → Tries M head s (done ++ m ∷ []) (progress b (push x s (final M z)))
@@ -475,9 +483,9 @@ module _ (M : Transitions) (s : ℕ) (x : Seen) (S : Starting M s x) (h : s < M 
     earlier-start : (i : ℕ) → i < length (S .runs) → Before (at (S .runs) i) (startsAt s)
     earlier-start i k = early-before M s (at (S .runs) i) (S .early i k)
 
-    first-start : (y : Run) → Valid M y → Before y (startsAt s) → M .breaks (final M y) ≡ false
-    first-start (startsAt t) v b = let c = S .starts t b v in ap (M .breaks) (sym (c .2)) ∙ S .good .reached (c .0) (c .1)
-    first-start (goesOn y m) v b = absurd b
+    reach-start : (y : Run) → Valid M y → Before y (startsAt s) → Covered M (S .runs) y
+    reach-start (startsAt t) v b = S .starts t b v
+    reach-start (goesOn y m) v b = absurd b
 
     start-traced : Traced M (push x s s .parent) (startsAt s)
     start-traced = getD-set-same (x .parent) s (s + 1) 0 (rw (S .good .sized) h)
@@ -490,7 +498,11 @@ module _ (M : Transitions) (s : ℕ) (x : Seen) (S : Starting M s x) (h : s < M 
           queue-is = queue-more M (S .runs) (startsAt s) x (S .good .queue-is);
           traced = start-traced;
           short = omega arith;
-          first = record { valid = (h, e); breaking = k; first = first-start };
+          first = record { valid = (h, e); breaking = k; first = λ y v b. let c = reach-start y v b in ap (M .breaks) (sym (c .2)) ∙ S .good .reached (c .0) (c .1) };
+          before = x;
+          good = S .good;
+          earlier = earlier-start;
+          covered = reach-start;
         }
     take-new new false k =
         record {

@@ -25,3 +25,4 @@ pub mod Pauses
 pub mod PortionEnds
 pub mod Recorded
 pub mod Judging
+pub mod PauseTrials

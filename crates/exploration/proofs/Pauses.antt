@@ -23,7 +23,7 @@ use Rattle.exploration.specs.working.Results.{Reached}
 use Rattle.exploration.specs.Pause.{Pause}
 use Rattle.exploration.specs.working.Pauses.{Stand, seenIn, goneOn, further, after, Holds, allStates, intact}
 use Rattle.exploration.proofs.Order.{lt-or-ge, before-trans, before-then, AtMost, moves-has}
-use Rattle.exploration.proofs.First.{at, Covered, Upto, Between, Ended, Tries, Takes, tries-all, next-head, taken, starting, queue-begun, queue-length, here-is, covered-step, traced-met, run-to}
+use Rattle.exploration.proofs.First.{at, Good, Covered, Upto, Between, Ended, Tries, Takes, tries-all, next-head, taken, starting, queue-begun, queue-length, here-is, covered-step, traced-met, run-to}
 use Rattle.exploration.proofs.Laws.{marked-le, count-le}
 use Rattle.exploration.proofs.Portions.{seen-told, left-count}
 use Rattle.exploration.proofs.Invariants as I
@@ -214,6 +214,14 @@ module _ (M : Transitions) (law : Lawful M) where
   pub ended-after : (n : ℕ) (x : Seen) → after M n .went ≡ broke x → Ended M x
   ended-after n x e = subst (Pausing (after M n .expanded)) e (pausing-after n)
 
+  -- No two of the queue's runs end in one state.
+  pub recorded-same : (x : Seen) (ρ : List Run) → Good M ρ x → (i j : ℕ) → i < length ρ → j < length ρ → final M (at ρ i) ≡ final M (at ρ j) → at ρ i ≡ at ρ j
+  recorded-same x ρ G i j h k e =
+      let n = steps (at ρ i) + steps (at ρ j) in
+      sym (run-to M (x .parent) (at ρ i) (G .traced i h) n (omega arith))
+      ∙ ap (runTo M (x .parent) n) e
+      ∙ run-to M (x .parent) (at ρ j) (G .traced j k) n (omega arith)
+
   -- A start state, or where a move leads from a state of the queue before a place.
   pub data Follows (x : Seen) (head t : ℕ) : Type 0 where
     fromStart : M .starts t ≡ true → Follows x head t
@@ -274,17 +282,10 @@ module _ (M : Transitions) (law : Lawful M) where
             (λ n. absurd (List·Memᴰ·not-nil (n .1)))
             (u .2)
 
-    recorded-same : (i j : ℕ) → i < length (B .runs) → j < length (B .runs) → final M (at (B .runs) i) ≡ final M (at (B .runs) j) → at (B .runs) i ≡ at (B .runs) j
-    recorded-same i j h k e =
-        let n = steps (at (B .runs) i) + steps (at (B .runs) j) in
-        sym (run-to M (x .parent) (at (B .runs) i) (B .good .traced i h) n (omega arith))
-        ∙ ap (runTo M (x .parent) n) e
-        ∙ run-to M (x .parent) (at (B .runs) j) (B .good .traced j k) n (omega arith)
-
     pub first-run : (i : ℕ) → i < length (B .runs) → (y : Run) → Valid M y → final M y ≡ final M (at (B .runs) i) → AtMost (at (B .runs) i) y
     first-run i h y v e =
         ⊎-elim
-        (λ (c : Covered M (B .runs) y). subst (λ (r : Run). AtMost r y) (recorded-same (c .0) i (c .1) h (c .2 ∙ e)) (c .3))
+        (λ (c : Covered M (B .runs) y). subst (λ (r : Run). AtMost r y) (recorded-same x (B .runs) (B .good) (c .0) i (c .1) h (c .2 ∙ e)) (c .3))
         (λ b. inl (b i h))
         (reaches y v)
 

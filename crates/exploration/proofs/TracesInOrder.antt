@@ -29,7 +29,7 @@ unfolding onBy
 on-snoc r [] x = refl
 on-snoc r (y ∷ xs) x = on-snoc (goesOn r (moveIn y)) xs x
 
-on-steps : (T : Transitions) (r : Run) → onBy (startsAt (startOf r)) (stepsOf T r) ≡ r
+pub on-steps : (T : Transitions) (r : Run) → onBy (startsAt (startOf r)) (stepsOf T r) ≡ r
 unfolding onBy stepsOf
 on-steps T (startsAt s) = refl
 on-steps T (goesOn r k) = on-snoc (startsAt (startOf r)) (stepsOf T r) _ ∙ ap (λ (q : Run). goesOn q k) (on-steps T r)

@@ -89,7 +89,7 @@ module _ (words : ℕ → ℕ) (n : ℕ) where
     unfolding wordsOf
     sum-end l = let f : n - k ≡ 0 = omega arith in let g = rw f at h in omega (arith, g)
 
-moves-are : (T : Transitions) (m : Model) → Agrees T m → length (moves T) ≡ trialsAtState m
+pub moves-are : (T : Transitions) (m : Model) → Agrees T m → length (moves T) ≡ trialsAtState m
 moves-are T m A =
     ap (λ n. length (movesFrom T 0 n)) (A .commands) ∙ moves-count T 0 (length (m .commands)) ∙ words-are (T .words) m (A .words)
 

@@ -14,6 +14,7 @@ use Rattle.exploration.specs.Promises.{TrialsListed}
 use Rattle.exploration.specs.working.Transitions.{Transitions, Lawful, Move, moves}
 use Rattle.exploration.specs.working.Exploring.{Seen, Progress, broke, through, andThen, progress, push, meet, tryMoves, explore, takeIn, search, unseen}
 use Rattle.exploration.specs.working.Runs.{final}
+use Rattle.exploration.specs.working.Pauses.{seenIn}
 use Rattle.exploration.specs.working.Tables.{marked}
 use Rattle.exploration.specs.working.Trials.{trialOf, afterwards, trialsWith, trialsFrom, trials, everyTrial}
 use Rattle.exploration.proofs.Laws.{marked-le}
@@ -67,15 +68,11 @@ abbrev stopped : Progress → ℕ
 stopped (broke x) = 1
 stopped (through x) = 0
 
-abbrev seenIn : Progress → Seen
-seenIn (broke x) = x
-seenIn (through x) = x
-
-not-both : {A : Type 0} (x y : Seen) → broke x ≡ through y → A
+pub not-both : {A : Type 0} (x y : Seen) → broke x ≡ through y → A
 not-both x y e = let z : _≡_ {A = ℕ} 1 0 = ap stopped e in absurd (omega arith)
 
 -- At one state.
-all-tried : (M : Transitions) (s : ℕ) (ms : List Move) (x y : Seen) → tryMoves M s ms x ≡ through y → trialsWith M s ms x ≡ map (trialOf s) ms
+pub all-tried : (M : Transitions) (s : ℕ) (ms : List Move) (x y : Seen) → tryMoves M s ms x ≡ through y → trialsWith M s ms x ≡ map (trialOf s) ms
 unfolding tryMoves trialsWith
 all-tried M s [] x y e = refl
 all-tried M s (m ∷ ms) x y e = ap (λ l. trialOf s m ∷ l) (go (λ z f. all-tried M s ms z y f) (meet M s (M .step s (m .command) (m .word)) x) e)

@@ -2,39 +2,40 @@
 -- Assumes nothing.
 use mathlib.Core.Path.{_≡_, refl, sym, ap, _∙_, subst}
 use mathlib.Core.Bool.{true, false, true≢false}
-use mathlib.Core.Logic.{_↔_, _⊎_, inl, inr}
+use mathlib.Core.Logic.{_↔_, _⊎_, inl, inr, ⊎-elim}
 use mathlib.Core.List.{List, [], _∷_, _++_}
-use Prim.Native.Nat.{ℕ, _+_, _-_, _<_, _≤_}
+use Prim.Native.Nat.{ℕ, suc, _+_, _-_, _*_, _<_, _≤_}
 use native.Mathlib.Omega.{arith}
-use lib.ListN.{length, getD, length-map, length-append}
+use lib.ListN.{length, getD, length-map, List·getD-map}
 use lib.Seq.{getD-take}
 use Rattle.notation.specs.Model.{Model}
 use Rattle.notation.specs.Texts.{TextSays}
+use Rattle.notation.proofs.Regular.{all-regular}
 use Rattle.meaning.specs.OneRow.{stateCount, starts, breaks, next, TraceStep}
 use Rattle.sheets.specs.Sheets.{size}
 use Rattle.exploration.specs.Findings.{Reaches, TraceTo}
 use Rattle.exploration.specs.Order.{RunBefore}
 use Rattle.exploration.specs.Pause.{Pause}
+use Rattle.exploration.specs.Trials.{trialsAtState}
 use Rattle.exploration.specs.working.Transitions.{Transitions, Lawful}
 use Rattle.exploration.specs.working.Exploring.{Seen, Progress, broke, through}
-use Rattle.exploration.specs.working.Runs.{Run, startsAt, final, startOf, stepsOf}
+use Rattle.exploration.specs.working.Runs.{Run, startsAt, final, Valid, Before, startOf, stepsOf}
 use Rattle.exploration.specs.working.Pauses.{Stand, seenIn, brokeOff, after}
 use Rattle.exploration.specs.working.Found.{transitionsOf, Agrees}
-use Rattle.exploration.proofs.First.{at, Between, Ended, queue-length}
-use Rattle.exploration.proofs.Order.{before-trans, before-irrefl, at-most-before}
-use Rattle.exploration.proofs.Right.{queue-last}
+use Rattle.exploration.proofs.First.{at, length-snoc, at-old, at-new, final-below, Between, Ended, queue-length}
+use Rattle.exploration.proofs.Order.{AtMost, lt-or-ge, before-trans, before-irrefl, at-most-before}
 use Rattle.exploration.proofs.RunsOfModels.{onBy, run-reaches, trace-to, to-valid, to-final}
-use Rattle.exploration.proofs.TracesInOrder.{run-before}
-use Rattle.exploration.proofs.Pauses.{Marked, fit-after, Listed, listed-after, between-after, ended-after, Follows, fromStart, fromPlace, follows-marked, marked-follows, first-run, place-is, expanded-met}
+use Rattle.exploration.proofs.TracesInOrder.{on-steps, run-before}
+use Rattle.exploration.proofs.FindsRight.{first-break}
+use Rattle.exploration.proofs.FindsOnce.{not-after}
+use Rattle.exploration.proofs.Pauses.{Marked, fit-after, Listed, listed-after, between-after, ended-after, Follows, fromStart, fromPlace, follows-marked, marked-follows, first-run, recorded-same, place-is, expanded-met}
 use Rattle.exploration.proofs.PortionEnds.{met-few}
-use Rattle.pauses.specs.Promises.{Paused, Among, StepFrom, PauseMeans, PausesTell}
+use Rattle.exploration.proofs.PauseTrials.{trials-after}
+use Rattle.exploration.proofs.TrialCounts.{moves-are}
+use Rattle.pauses.specs.Promises.{Paused, Among, StepFrom, ReachesNoLater, Broken, PauseMeans, PausesTell}
 use Rattle.pauses.specs.working.Pausing.{flatOf}
 use Rattle.pauses.proofs.AnyCalls as C
 use Rattle.pauses.proofs.Unaltered.{StandsAt, unaltered-at}
-
--- What is at the end of a list has a place in it.
-ended-some : (T : Transitions) (x : Seen) → Ended T x → 1 ≤ length (x .queue)
-ended-some T x E = omega (arith, ap length (E .queue-is), length-map (E .runs ++ E .last ∷ []) (final T), length-append (E .runs) (E .last ∷ []))
 
 module _ (text : List ℕ) (m : Model) (says : TextSays text m) (h : ℕ) (a : Paused) (S : StandsAt text m says h a) where
   abbrev T : Transitions
@@ -61,6 +62,9 @@ module _ (text : List ℕ) (m : Model) (says : TextSays text m) (h : ℕ) (a : P
 
   broke-is : a .position .broke ≡ brokeOff (stand .went)
   broke-is = ap (λ (p : Pause). p .broke) (S .holds .position)
+
+  trials-is : a .position .trials ≡ stand .trials
+  trials-is = ap (λ (p : Pause). p .trials) (S .holds .position)
 
   -- The entries of the tables.
   entry : (i : ℕ) → i < length (x .queue) → getD (a .first) i 0 ≡ getD (x .queue) i 0
@@ -93,6 +97,12 @@ module _ (text : List ℕ) (m : Model) (says : TextSays text m) (h : ℕ) (a : P
       let k : i < length (x .queue) = omega (arith, l, met-is) in
       let r = listed .reached i k in
       subst (Reaches m) (r .ends ∙ sym (entry i k)) (run-reaches T m agrees (r .run) (r .valid))
+
+  -- A run leads to the state at one place that no run to the state at another comes before.
+  abbrev Ordered : ℕ → ℕ → Type 0
+  Ordered i j =
+      (s : ℕ) × (xs : List TraceStep) × TraceTo m s xs (getD (a .first) i 0)
+      × ((t : ℕ) (ys : List TraceStep) → TraceTo m t ys (getD (a .first) j 0) → ¬ (RunBefore t ys s xs))
 
   -- As long as no state breaks.
   went-through : (o : Progress) → stand .went ≡ o → a .position .broke ≡ false → (y : Seen) × (stand .went ≡ through y)
@@ -156,9 +166,7 @@ module _ (text : List ℕ) (m : Model) (says : TextSays text m) (h : ℕ) (a : P
       λ k. marked-among t l (subst (Marked t) (sym seen-same) (follows-marked T law (stand .expanded) y between t (below t l) (from-follows t l k))),
     )
 
-    ordered : (i j : ℕ) → i < j → j < a .position .met
-        → (s : ℕ) × (xs : List TraceStep) × TraceTo m s xs (getD (a .first) i 0)
-        × ((t : ℕ) (ys : List TraceStep) → TraceTo m t ys (getD (a .first) j 0) → ¬ (RunBefore t ys s xs))
+    ordered : (i j : ℕ) → i < j → j < a .position .met → Ordered i j
     ordered i j l k =
         let q : j < length (x .queue) = omega (arith, k, met-is) in
         let p : i < length (x .queue) = omega arith in
@@ -177,6 +185,13 @@ module _ (text : List ℕ) (m : Model) (says : TextSays text m) (h : ℕ) (a : P
               (at-most-before (at (between .runs) j) z r f (run-before T t ys r b))),
         )
 
+    tried : a .position .trials ≡ a .position .expanded * trialsAtState m
+    tried =
+        trials-is
+        ∙ trials-after T h y e
+        ∙ ap (λ (n : ℕ). stand .expanded * n) (moves-are T m agrees)
+        ∙ ap (λ (n : ℕ). n * trialsAtState m) (sym expanded-is)
+
     unbroken : (i : ℕ) → i < a .position .met → breaks m (getD (a .first) i 0) ≡ false
     unbroken i k =
         let q : i < length (x .queue) = omega (arith, k, met-is) in
@@ -191,21 +206,107 @@ module _ (text : List ℕ) (m : Model) (says : TextSays text m) (h : ℕ) (a : P
   went-broke (broke y) e b = (y, e)
   went-broke (through y) e b = absurd (true≢false (sym b ∙ broke-is ∙ ap brokeOff e))
 
-  broken : a .position .broke ≡ true → (1 ≤ a .position .met) × (breaks m (getD (a .first) (a .position .met - 1) 0) ≡ true)
-  broken b =
-      let (y, e) = went-broke (stand .went) refl b in
-      let E = ended-after T law h y e in
-      let f : x ≡ y = ap seenIn e in
-      let some : 1 ≤ length (x .queue) = subst (λ (z : Seen). 1 ≤ length (z .queue)) (sym f) (ended-some T y E) in
-      let l : length (x .queue) - 1 < length (x .queue) = omega arith in
-      let g : getD (x .queue) (length (x .queue) - 1) 0 ≡ final T (E .last) = ap (λ (z : Seen). getD (z .queue) (length (z .queue) - 1) 0) f ∙ queue-last T y E in (
-        omega (arith, some, met-is),
-        ap (λ (n : ℕ). breaks m (getD (a .first) (n - 1) 0)) met-is
-            ∙ ap (breaks m) (entry (length (x .queue) - 1) l)
-            ∙ sym (agrees .breaks (getD (x .queue) (length (x .queue) - 1) 0) (in-states (length (x .queue) - 1) l))
-            ∙ ap (T .breaks) g
-            ∙ E .first .breaking,
-      )
+  module _ (y : Seen) (e : stand .went ≡ broke y) where
+    E : Ended T y
+    E = ended-after T law h y e
+
+    -- The queue's runs, with the one that breaks at the end.
+    abbrev all : List Run
+    all = E .runs ++ E .last ∷ []
+
+    queue-at : (i : ℕ) → i < length (x .queue) → getD (a .first) i 0 ≡ final T (at all i)
+    queue-at i l =
+        entry i l
+        ∙ ap (λ (o : Progress). getD (seenIn o .queue) i 0) e
+        ∙ ap (λ (q : List ℕ). getD q i 0) (E .queue-is)
+        ∙ List·getD-map (final T) all i (startsAt 0)
+
+    long : length (x .queue) ≡ suc (length (E .runs))
+    long = ap (λ (o : Progress). length (seenIn o .queue)) e ∙ ap length (E .queue-is) ∙ length-map all (final T) ∙ length-snoc (E .runs) (E .last)
+
+    old-at : (i : ℕ) → i < length (E .runs) → getD (a .first) i 0 ≡ final T (at (E .runs) i)
+    old-at i l = queue-at i (omega (arith, l, long)) ∙ ap (final T) (at-old (E .runs) (E .last) i l)
+
+    last-at : (i : ℕ) → i ≡ length (E .runs) → getD (a .first) i 0 ≡ final T (E .last)
+    last-at i l = queue-at i (omega (arith, l, long)) ∙ ap (final T) (at-new (E .runs) (E .last) i l)
+
+    last-is : a .position .met - 1 ≡ length (E .runs)
+    last-is = omega (arith, met-is, long)
+
+    -- A run of the queue does not come after the one that breaks.
+    not-later : (r : Run) → AtMost r (E .last) → ¬ (RunBefore (startOf (E .last)) (stepsOf T (E .last)) (startOf r) (stepsOf T r))
+    not-later r p b =
+        before-irrefl r
+        (at-most-before r (E .last) r p
+        (subst (λ (q : Run). Before q r) (on-steps T (E .last)) (run-before T (startOf (E .last)) (stepsOf T (E .last)) r b)))
+
+    led : (r : Run) → Valid T r → AtMost r (E .last) → (t : ℕ) → final T r ≡ t → ReachesNoLater m (startOf (E .last)) (stepsOf T (E .last)) t
+    led r v p t f = (startOf r, stepsOf T r, subst (TraceTo m (startOf r) (stepsOf T r)) f (trace-to T m agrees r v), not-later r p)
+
+    met-led : (t : ℕ) → Among (a .position .met) (a .first) t → ReachesNoLater m (startOf (E .last)) (stepsOf T (E .last)) t
+    met-led t (i, k, f) =
+        ⊎-elim
+        (λ (l : i < length (E .runs)). led (at (E .runs) i) (E .good .valid i l) (inl (E .earlier i l)) t (sym (old-at i l) ∙ f))
+        (λ (l : length (E .runs) ≤ i).
+        let g : i ≡ length (E .runs) = omega (arith, k, met-is, long) in
+        led (E .last) (E .first .valid) (inr refl) t (sym (last-at i g) ∙ f))
+        (lt-or-ge i (length (E .runs)))
+
+    led-met : (t : ℕ) → (s : ℕ) (xs : List TraceStep) → TraceTo m s xs t → AtMost (onBy (startsAt s) xs) (E .last) → Among (a .position .met) (a .first) t
+    led-met t s xs W (inl b) =
+        let c = E .covered (onBy (startsAt s) xs) (to-valid T m agrees s xs t W) b in
+        (c .0, omega (arith, c .1, met-is, long), old-at (c .0) (c .1) ∙ c .2 ∙ to-final T m agrees s xs t W)
+    led-met t s xs W (inr f) =
+        (length (E .runs), omega (arith, met-is, long), last-at (length (E .runs)) refl ∙ ap (final T) (sym f) ∙ to-final T m agrees s xs t W)
+
+    -- A run to a state of the queue does not come before those that end in the states before it.
+    not-earlier : (i j : ℕ) → i < j → j < a .position .met → (l : i < length (E .runs)) → (z : Run) → Valid T z → final T z ≡ getD (a .first) j 0 → ¬ (Before z (at (E .runs) i))
+    not-earlier i j h k l z v f b =
+        let r = at (E .runs) i in
+        let d = before-trans z r (E .last) b (E .earlier i l) in
+        ⊎-elim
+        (λ (n : j < length (E .runs)).
+        let c = E .covered z v d in
+        let same = recorded-same T law (E .before) (E .runs) (E .good) (c .0) j (c .1) n (c .2 ∙ f ∙ old-at j n) in
+        before-irrefl r
+        (before-trans r (at (E .runs) j) r (E .good .sorted i j h n)
+        (at-most-before (at (E .runs) j) z r (subst (λ (q : Run). AtMost q z) same (c .3)) b)))
+        (λ (n : length (E .runs) ≤ j).
+        let g : j ≡ length (E .runs) = omega (arith, k, met-is, long) in
+        true≢false (sym (E .first .breaking) ∙ ap (T .breaks) (sym (last-at j g) ∙ sym f) ∙ E .first .first z v d))
+        (lt-or-ge j (length (E .runs)))
+
+    ordered-broken : (i j : ℕ) → i < j → j < a .position .met → Ordered i j
+    ordered-broken i j h k =
+        let l : i < length (E .runs) = omega (arith, h, k, met-is, long) in
+        let r = at (E .runs) i in (
+          startOf r,
+          stepsOf T r,
+          subst (TraceTo m (startOf r) (stepsOf T r)) (sym (old-at i l)) (trace-to T m agrees r (E .good .valid i l)),
+          λ t ys W b. not-earlier i j h k l (onBy (startsAt t) ys) (to-valid T m agrees t ys _ W) (to-final T m agrees t ys _ W) (run-before T t ys r b),
+        )
+
+    broken : Broken m a
+    broken =
+        let r = E .last in
+        let v = E .first .valid in
+        let l = trace-to T m agrees r v in
+        record {
+          some = omega (arith, met-is, long);
+          breaking =
+              ap (breaks m) (last-at (a .position .met - 1) last-is)
+              ∙ sym (agrees .breaks (final T r) (subst (λ (n : ℕ). final T r < n) (C.sized text m says) (final-below T law r v)))
+              ∙ E .first .breaking;
+          start = startOf r;
+          steps = stepsOf T r;
+          leads = subst (TraceTo m (startOf r) (stepsOf T r)) (sym (last-at (a .position .met - 1) last-is)) l;
+          firstOfAll = first-break T m agrees (all-regular text m says) r (E .first);
+          exactly = λ t k. (met-led t, λ (s, xs, W, n). led-met t s xs W (not-after m T r (final T r) l s xs t W n));
+        }
+
+  in-order : (o : Progress) → stand .went ≡ o → (i j : ℕ) → i < j → j < a .position .met → Ordered i j
+  in-order (broke y) e = ordered-broken y e
+  in-order (through y) e = ordered y e
 
   pub means : PauseMeans m a
   means =
@@ -213,11 +314,12 @@ module _ (text : List ℕ) (m : Model) (says : TextSays text m) (h : ℕ) (a : P
         room = S .room;
         fewExpanded = omega (arith, expanded-is, met-is, expanded-met T h);
         fewMet = subst (λ (n : ℕ). a .position .met ≤ n) (C.sized text m says) (omega (arith, met-is, met-few T law h));
+        tried = λ b. let (y, e) = went-through (stand .went) refl b in tried y e;
         reached = reached-by;
         exactly = λ b. let (y, e) = went-through (stand .went) refl b in exactly y e;
-        ordered = λ b. let (y, e) = went-through (stand .went) refl b in ordered y e;
+        ordered = in-order (stand .went) refl;
         unbroken = λ b. let (y, e) = went-through (stand .went) refl b in unbroken y e;
-        broken = broken;
+        broken = λ b. let (y, e) = went-broke (stand .went) refl b in broken y e;
       }
 
 pub pauses-tell : PausesTell

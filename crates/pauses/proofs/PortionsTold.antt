@@ -24,7 +24,7 @@ use Rattle.exploration.proofs.PortionEnds.{grown-further, most-further, least-f
 use Rattle.exploration.proofs.Portions.{further-further}
 use Rattle.questions.specs.Answers as Q
 use Rattle.questions.specs.declared.reply.Reply.the-variants.{Yes, No}
-use Rattle.pauses.specs.Promises.{Paused, HandsBack, PortionMeans, PortionsTell, MetMeans, MetTells, MetReaches, MetExactly, MetStays, metReply}
+use Rattle.pauses.specs.Promises.{Paused, HandsBack, PortionMeans, PortionsTell, MetMeans, MetTells, MetReaches, MetExactly, MetAtBreak, MetStays, metReply}
 use Rattle.pauses.specs.Promises as P
 use Rattle.pauses.specs.working.Pausing.{flatOf, portionOf}
 use Rattle.pauses.proofs.AnyCalls as C
@@ -197,6 +197,15 @@ met-exactly text m says a U b t l =
     let M = met-tells text m says a U t l .yes in
     let E = pauses-tell text m says a U .exactly b t l in
     (λ e. E .0 (M .0 e), λ s. M .1 (E .1 s))
+
+pub met-at-break : MetAtBreak
+met-at-break text m says a U b =
+    let E = pauses-tell text m says a U .broken b in (
+      E .start,
+      E .steps,
+      E .firstOfAll,
+      λ t l. let M = met-tells text m says a U t l .yes in (λ e. E .exactly t l .0 (M .0 e), λ s. M .1 (E .exactly t l .1 s)),
+    )
 
 pub met-stays : MetStays
 met-stays text m says a b U since t e =

@@ -17,7 +17,8 @@ use Rattle.meaning.specs.OneRow.{stateCount, wordCount, starts, breaks, next, T
 use Rattle.sheets.specs.Sheets.{systemOf, sheetRoom}
 use Rattle.exploration.specs.Pause.{Pause}
 use Rattle.exploration.specs.Order.{RunBefore}
-use Rattle.exploration.specs.Findings.{Reaches, TraceTo}
+use Rattle.exploration.specs.Findings.{Reaches, TraceTo, FirstBreak}
+use Rattle.exploration.specs.Trials.{trialsAtState}
 use Rattle.verdicts.specs.Answers as F
 use Rattle.verdicts.specs.Left.{Left, zeroed}
 use Rattle.verdicts.specs.Promises.{Room, answerOf, SearchRefused}
@@ -77,23 +78,39 @@ pub record StepFrom (m : Model) (n : ℕ) (l : List ℕ) (t : ℕ) : Type 0 wher
   pub wordFits : word < wordCount (commandAt m command)
   pub leads : next m (getD l place 0) command word ≡ t
 
+-- A run leads to the state numbered t that does not come after the run from s by xs.
+abbrev pub ReachesNoLater : Model → ℕ → List TraceStep → ℕ → Type 0
+ReachesNoLater m s xs t = (u : ℕ) × (ys : List TraceStep) × TraceTo m u ys t × ¬ (RunBefore s xs u ys)
+
+-- Where the last state met breaks: a run leads there that is the first of all breaking runs, and a state is met exactly if a run leads to it that does not come after that one.
+pub record Broken (m : Model) (a : Paused) : Type 0 where
+  pub some : 1 ≤ a .position .met
+  pub breaking : breaks m (getD (a .first) (a .position .met - 1) 0) ≡ true
+  pub start : ℕ
+  pub steps : List TraceStep
+  pub leads : TraceTo m start steps (getD (a .first) (a .position .met - 1) 0)
+  pub firstOfAll : FirstBreak m start steps
+  pub exactly : (t : ℕ) → t < stateCount m → Among (a .position .met) (a .first) t ↔ ReachesNoLater m start steps t
+
 -- What a pause tells: the first table begins with the states met, and these with the states expanded.
 pub record PauseMeans (m : Model) (a : Paused) : Type 0 where
   pub room : TableRoom m (a .first) (a .second)
   pub fewExpanded : a .position .expanded ≤ a .position .met
   pub fewMet : a .position .met ≤ stateCount m
+  -- as long as no state met breaks: every command was tried with every choice word at each state expanded
+  pub tried : a .position .broke ≡ false → a .position .trials ≡ a .position .expanded * trialsAtState m
   -- runs of the table of one row reach the states met
   pub reached : (i : ℕ) → i < a .position .met → Reaches m (getD (a .first) i 0)
   -- as long as no state met breaks: these are just the start states and the results of steps from the states expanded
   pub exactly : a .position .broke ≡ false → (t : ℕ) → t < stateCount m
       → Among (a .position .met) (a .first) t ↔ ((starts m t ≡ true) ⊎ StepFrom m (a .position .expanded) (a .first) t)
-  -- they stand in the order of their first runs: a run leads to the earlier of two that no run to the later one comes before
-  pub ordered : a .position .broke ≡ false → (i j : ℕ) → i < j → j < a .position .met
+  -- the states met stand in the order of their first runs: a run leads to the earlier of two that no run to the later one comes before
+  pub ordered : (i j : ℕ) → i < j → j < a .position .met
       → (s : ℕ) × (xs : List TraceStep) × TraceTo m s xs (getD (a .first) i 0)
       × ((t : ℕ) (ys : List TraceStep) → TraceTo m t ys (getD (a .first) j 0) → ¬ (RunBefore t ys s xs))
-  -- whether a state met breaks; one that does is the last
+  -- whether a state met breaks
   pub unbroken : a .position .broke ≡ false → (i : ℕ) → i < a .position .met → breaks m (getD (a .first) i 0) ≡ false
-  pub broken : a .position .broke ≡ true → (1 ≤ a .position .met) × (breaks m (getD (a .first) (a .position .met - 1) 0) ≡ true)
+  pub broken : a .position .broke ≡ true → Broken m a
 
 -- Of every pause that nobody altered.
 abbrev pub PausesTell : Type 0
@@ -253,6 +270,13 @@ abbrev pub MetExactly : Type 0
 MetExactly =
     (text : List ℕ) (m : Model) → TextSays text m → (a : Paused) → Unaltered text m a → a .position .broke ≡ false → (t : ℕ) → t < stateCount m
     → (metReply text t (a .first) (a .second) ≡ Q.yes) ↔ ((starts m t ≡ true) ⊎ StepFrom m (a .position .expanded) (a .first) t)
+
+-- Where the last state met breaks: yes exactly for a state that a run leads to which does not come after the first of all breaking runs.
+abbrev pub MetAtBreak : Type 0
+MetAtBreak =
+    (text : List ℕ) (m : Model) → TextSays text m → (a : Paused) → Unaltered text m a → a .position .broke ≡ true
+    → (s : ℕ) × (xs : List TraceStep) × FirstBreak m s xs
+    × ((t : ℕ) → t < stateCount m → (metReply text t (a .first) (a .second) ≡ Q.yes) ↔ ReachesNoLater m s xs t)
 
 -- Yes stays yes in every later pause of the same search.
 abbrev pub MetStays : Type 0
