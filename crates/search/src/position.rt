@@ -82,7 +82,7 @@ fn finish_text(
 
 impl Position {
     // Expands so many states more at most, in the order in which they were met; the next position.
-    // What is promised of it holds where position and tables are as a call for the same text left them (`Unaltered`); of others only what holds of all (`AnyPortion`).
+    // What is promised of it holds where position and tables are as a call for the same text left them (`Unaltered`); of others only what holds of all (`AnyHeld`).
     pub fn portion(
         self,
         states: usize,
@@ -109,7 +109,7 @@ impl Position {
     }
 
     // Finishes the search: expands what is left, writes the sheet, clears the tables.
-    // Of position and tables that are as a call for the same text left them it is promised that this is what a search in one go leaves (`PortionsAgree`); of others only what holds of all (`AnyFinish`).
+    // Of position and tables that are as a call for the same text left them it is promised that this is what a search in one go leaves (`PortionsAgree`); of others only what holds of all (`AnyLeft`).
     pub fn finish(
         self,
         text: &[u8],
