@@ -1,0 +1,76 @@
+-- The trace that the bytes of a sheet say: how many steps it has, and its state at each place, as the bytes have them.
+-- Assumes nothing.
+use mathlib.Core.Path.{_≡_, refl, sym, ap, _∙_, subst}
+use mathlib.Core.Bool.{true}
+use mathlib.Core.List.{List}
+use Prim.Native.Nat.{ℕ, zero, suc, _+_, _*_, _≤_}
+use native.Mathlib.Omega.{arith}
+use lib.ListN.{length, take}
+use Rattle.notation.specs.Model.{Model}
+use Rattle.notation.specs.Regular.{Regular}
+use Rattle.meaning.specs.OneRow.{TraceStep, lastOf}
+use Rattle.meaning.specs.Evidence.{trace}
+use Rattle.sheets.specs.Sheets.{systemOf}
+use Rattle.sheets.specs.SheetTexts.{twoAt, stepIn, AreBytes, SheetSays}
+use Rattle.sheets.specs.working.SheetReading.{stepsIn}
+use Rattle.sheets.proofs.SheetOpened.{trace-found}
+use Rattle.sheets.proofs.SheetSplit.{says-iff-reads}
+use Rattle.conditions.specs.working.Judging.{outcomeOf}
+use Rattle.acceptance.proofs.TestMeans.{numbers-fit}
+use Rattle.player.specs.Places.{stateAt, StandsOn}
+use Rattle.player.specs.declared.record.Player.{Player}
+use Rattle.player.specs.working.Playing.{tracePassed, lastPlace, recordAt}
+use Rattle.player.proofs.TracesPassed.{trace-there}
+
+-- As many steps as are read.
+steps-length : (b : List ℕ) (p n : ℕ) → length (stepsIn b p n) ≡ n
+unfolding stepsIn
+steps-length b p zero = refl
+steps-length b p (suc n) = ap suc (steps-length b (p + 10) n)
+
+-- A state stands in the two bytes at q, and steps follow: the state after k of them stands ten bytes further for each.
+steps-state : (b : List ℕ) (q n k : ℕ) → k ≤ n → lastOf (twoAt b q) (take k (stepsIn b (q + 2) n)) ≡ twoAt b (q + 10 * k)
+unfolding lastOf stepsIn stepIn
+steps-state b q n zero h = let e : q ≡ q + 10 * 0 = omega arith in ap (twoAt b) e
+steps-state b q zero (suc k) h = absurd (omega (arith, h))
+steps-state b q (suc n) (suc k) h =
+    let further : q + 2 + 6 + 2 ≡ q + 10 = omega arith in
+    let behind : q + 2 + 10 ≡ q + 10 + 2 = omega arith in
+    let end : q + 10 + 10 * k ≡ q + 10 * suc k = omega arith in
+    ap (λ (i : ℕ). lastOf (twoAt b i) (take k (stepsIn b (q + 2 + 10) n))) further
+    ∙ ap (λ (i : ℕ). lastOf (twoAt b (q + 10)) (take k (stepsIn b i n))) behind
+    ∙ steps-state b (q + 10) n k (omega (arith, h))
+    ∙ ap (twoAt b) end
+
+-- The trace as the bytes have it: start state and steps.
+pub record Contents (b : List ℕ) (s : ℕ) (xs : List TraceStep) : Type 0 where
+  pub start : s ≡ recordAt b 0 .state
+  pub steps : xs ≡ stepsIn b 17 (lastPlace b)
+
+module _ {b : List ℕ} {s : ℕ} {xs : List TraceStep} (C : Contents b s xs) where
+  pub contents-length : length xs ≡ lastPlace b
+  contents-length = ap length (C .steps) ∙ steps-length b 17 (lastPlace b)
+
+  pub contents-state : (k : ℕ) → k ≤ lastPlace b → stateAt s xs k ≡ recordAt b k .state
+  contents-state k h =
+      ap (λ (t : ℕ). lastOf t (take k xs)) (C .start)
+      ∙ ap (λ (ys : List TraceStep). lastOf (twoAt b 15) (take k ys)) (C .steps)
+      ∙ steps-state b 15 (lastPlace b) k h
+
+  -- A record stands on the trace where the bytes have its state at its place.
+  pub stands-here : (p : Player) → StandsOn s xs p → (p .place ≤ lastPlace b) × (p .state ≡ recordAt b (p .place) .state)
+  stands-here p S =
+      let h : p .place ≤ lastPlace b = subst (λ (n : ℕ). p .place ≤ n) contents-length (S .place) in
+      (h, S .state ∙ contents-state (p .place) h)
+
+  pub here-stands : (p : Player) → p .place ≤ lastPlace b → p .state ≡ recordAt b (p .place) .state → StandsOn s xs p
+  here-stands p h e =
+      record { place = subst (λ (n : ℕ). p .place ≤ n) (sym contents-length) h; state = e ∙ sym (contents-state (p .place) h) }
+
+-- What bytes say whose trace passes is what they have.
+pub contents-said : (m : Model) → Regular m → (b : List ℕ) → AreBytes b → tracePassed (outcomeOf (systemOf m) b) ≡ true
+    → (s : ℕ) (xs : List TraceStep) → SheetSays (systemOf m) b (trace s xs) → Contents b s xs
+contents-said m g b hb passed s xs w =
+    let i = says-iff-reads (systemOf m) (numbers-fit m g) b hb (trace s xs) .0 w in
+    let j = trace-found (systemOf m) b (trace-there (systemOf m) b passed) .reads in
+    record { start = cc; steps = cc }

@@ -1,0 +1,106 @@
+-- After any list of moves an opened player stands on its trace, at a state of the trace's run over every table.
+-- Assumes nothing.
+use mathlib.Core.Path.{_≡_, refl, sym, ap, _∙_, subst}
+use mathlib.Core.Logic.{_⊎_, inl, inr, ⊎-elim}
+use mathlib.Core.Bool.{true}
+use mathlib.Core.List.{List, [], _∷_, map}
+use mathlib.Core.Option.{Option, none, some}
+use Prim.Native.Nat.{ℕ, zero, suc, _≤_}
+use native.Mathlib.Omega.{arith}
+use lib.ListN.{length, take}
+use Rattle.notation.specs.Model.{Model}
+use Rattle.notation.specs.Texts.{TextSays}
+use Rattle.notation.specs.Case.{Recased}
+use Rattle.notation.specs.working.Machine as N
+use Rattle.notation.proofs.Texts.{answers-recased}
+use Rattle.meaning.specs.Meaning.{Row, State, Move, AreSteps, IsRun, last}
+use Rattle.meaning.specs.OneRow.{TraceStep, spread, spreadStep, lastOf}
+use Rattle.meaning.specs.Evidence.{TracePasses}
+use Rattle.meaning.proofs.Parametric.{traces-hold}
+use Rattle.sheets.specs.SheetTexts.{AreBytes}
+use Rattle.conditions.specs.declared.outcome.Outcome.{Outcome}
+use Rattle.acceptance.specs.Promises.{answerTo}
+use Rattle.acceptance.specs.working.Test.{testIn, testOf}
+use Rattle.player.specs.Places.{stateAt, StandsOn, leads}
+use Rattle.player.specs.Answers.{moved, atEnd, opened, unopened, openingFor, wordingOf}
+use Rattle.player.specs.Promises.{openingOf, answerOf, recordAfter, TracePassed, recordAfterAll, OnRun, Played, WalksTell, PlayedWithoutCase}
+use Rattle.player.specs.declared.record.Player.{Player}
+use Rattle.player.specs.declared.record.Direction.{Direction}
+use Rattle.player.specs.working.Playing.{tracePassed, recordAt, openAfter, openOf, moveAfter, moveOf}
+use Rattle.player.proofs.MoveLaws.{open-told, open-passed}
+use Rattle.player.proofs.Contents.{Contents, here-stands}
+use Rattle.player.proofs.MovesTold.{either-way, leads-within, told-nowhere, told-somewhere, test-passed, the-trace}
+
+-- The first moves of a run are a run.
+front-steps : {I : Type 0} (m : Model) (k : ℕ) (s : State I) (ys : List (Move I)) → AreSteps m s ys → AreSteps m s (take k ys)
+front-steps m zero s ys h = tt
+front-steps m (suc k) s [] h = tt
+front-steps m (suc k) s (y ∷ ys) h = (h .0, h .1, front-steps m k (y .after) ys (h .2))
+
+-- They lead to the copy of the state that as many steps of the trace give.
+front-last : (m : Model) (I : Type 0) (k s : ℕ) (xs : List TraceStep) → last (spread m I s) (take k (map (spreadStep m I) xs)) ≡ spread m I (lastOf s (take k xs))
+unfolding lastOf spreadStep
+front-last m I zero s xs = refl
+front-last m I (suc k) s [] = refl
+front-last m I (suc k) s (x ∷ xs) = front-last m I k (x .after) xs
+
+on-run : (m : Model) (s : ℕ) (xs : List TraceStep) → TracePasses m s xs → (p : Player) → StandsOn s xs p → (n : ℕ) → 1 ≤ n → OnRun m s xs p n
+on-run m s xs passes p S n h =
+    let T = traces-hold m s xs passes n h in
+    record {
+      run = record { start = T .run .start; steps = front-steps m (p .place) (spread m (Row n) s) (map (spreadStep m (Row n)) xs) (T .run .steps) };
+      state = front-last m (Row n) (p .place) s xs ∙ sym (ap (spread m (Row n)) (S .state));
+    }
+
+-- A record that stands on the trace stands there after a move, which goes or is at an end.
+module _ (text b : List ℕ) (passed : tracePassed (testOf text b) ≡ true) {s : ℕ} {xs : List TraceStep} (C : Contents b s xs) (d : Direction) (p : Player) (S : StandsOn s xs p) where
+  stands-at : (u : Option ℕ) → leads d (length xs) (p .place) ≡ u → StandsOn s xs (recordAfter d text b p)
+  stands-at none e = subst (StandsOn s xs) (sym (told-nowhere text b passed C d p S e .1)) S
+  stands-at (some k) e =
+      subst (StandsOn s xs) (sym (told-somewhere text b passed C d p S k e .1))
+      (record { place = leads-within d (length xs) (p .place) k (S .place) e; state = refl })
+
+  pub stands-after : StandsOn s xs (recordAfter d text b p)
+  stands-after = stands-at (leads d (length xs) (p .place)) refl
+
+  goes-at : (u : Option ℕ) → leads d (length xs) (p .place) ≡ u → (answerOf d text b p ≡ moved) ⊎ (answerOf d text b p ≡ atEnd)
+  goes-at none e = inr (told-nowhere text b passed C d p S e .0)
+  goes-at (some k) e = inl (told-somewhere text b passed C d p S k e .0)
+
+  pub goes-on : (answerOf d text b p ≡ moved) ⊎ (answerOf d text b p ≡ atEnd)
+  goes-on = goes-at (leads d (length xs) (p .place)) refl
+
+-- So it does after all moves of a list.
+stands-after-all : (text b : List ℕ) → tracePassed (testOf text b) ≡ true → {s : ℕ} {xs : List TraceStep} → Contents b s xs → (ds : List Direction) (p : Player)
+    → StandsOn s xs p → StandsOn s xs (recordAfterAll ds text b p)
+unfolding recordAfterAll
+stands-after-all text b passed C [] p S = S
+stands-after-all text b passed C (d ∷ ds) p S = stands-after-all text b passed C ds (recordAfter d text b p) (stands-after text b passed C d p S)
+
+-- Where a player was opened, the test says that the trace holds.
+opened-holds : (text b : List ℕ) (p : Player) → openingOf text b ≡ opened p → TracePassed (answerTo text b)
+unfolding openingFor
+opened-holds text b p e =
+    ⊎-elim (λ h. h) (λ f. let q = open-told text b f in let z : _≡_ {A = ℕ} 0 1 = cc in absurd (omega arith)) (either-way (testOf text b))
+
+-- And the record is the one at the beginning.
+opened-at : (text b : List ℕ) (p : Player) → openingOf text b ≡ opened p → tracePassed (testOf text b) ≡ true → p ≡ recordAt b 0
+unfolding openingFor
+opened-at text b p e passed = let q = open-passed text b passed in cc
+
+pub walks-tell : WalksTell
+walks-tell text m says b hb p e ds =
+    let holds = opened-holds text b p e in
+    let passed = test-passed text m says b hb holds in
+    let (s, xs, w, t) = the-trace text m says b hb holds in
+    let first : StandsOn s xs p = subst (StandsOn s xs) (sym (opened-at text b p e passed)) (here-stands (t .0) (recordAt b 0) (omega arith) refl) in
+    let S = stands-after-all text b passed (t .0) ds p first in
+    (s, xs, w, record { stands = S; overRows = on-run m s xs (t .1) (recordAfterAll ds text b p) S; goesOn = λ d. goes-on text b passed (t .0) d (recordAfterAll ds text b p) S })
+
+pub played-without-case : PlayedWithoutCase
+unfolding testOf openOf moveOf
+played-without-case text other r b =
+    let e : testOf text b ≡ testOf other b = ap (λ (o : N.Outcome). testIn o b) (answers-recased r) in (
+      ap (λ (o : Outcome). openingFor (openAfter o b)) e,
+      λ d p. (ap (λ (o : Outcome). wordingOf (moveAfter o d b p .answer)) e, ap (λ (o : Outcome). moveAfter o d b p .player) e),
+    )
