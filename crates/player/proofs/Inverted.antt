@@ -13,7 +13,7 @@ use Rattle.conditions.specs.declared.outcome.Outcome.{Outcome}
 use Rattle.acceptance.specs.working.Test.{testOf}
 use Rattle.player.specs.Places.{leads}
 use Rattle.player.specs.Answers.{moved, wordingOf}
-use Rattle.player.specs.Promises.{answerOf, EndsTell}
+use Rattle.player.specs.Promises.{answerOf, EndsTell, RecordsStay}
 use Rattle.player.specs.declared.record.Player.{Player}
 use Rattle.player.specs.declared.record.Direction.{Direction}
 use Rattle.player.specs.declared.record.Direction.the-variants.{Forward, Back, Beginning}
@@ -80,3 +80,20 @@ has-moved d text b p e =
     let t = by-tests b p (testOf text b) (tracePassed (testOf text b)) (leb (p .place) (lastPlace b)) (eqb (p .state) (recordAt b (p .place) .state))
     (leads d (lastPlace b) (p .place)) e in
     record { passed = t .0; place = leb-true _ _ (t .1); state = eqb-true _ _ (t .2); target = t .3 .0; leading = t .3 .1 }
+
+-- And where it did not, the record is what it was.
+stays-by-tests : (b : List ℕ) (p : Player) (o : Outcome) (t x y : Bool) (u : Option ℕ)
+    → ¬ (wordingOf (cond t (cond x (cond y (ledTo b p u) (stays p A.Foreign)) (stays p A.Foreign)) (stays p (A.Told o)) .answer) ≡ moved)
+    → cond t (cond x (cond y (ledTo b p u) (stays p A.Foreign)) (stays p A.Foreign)) (stays p (A.Told o)) .player ≡ p
+unfolding wordingOf ledTo
+stays-by-tests b p o true true true (some k) h = absurd (h refl)
+stays-by-tests b p o true true true none h = refl
+stays-by-tests b p o true true false u h = refl
+stays-by-tests b p o true false y u h = refl
+stays-by-tests b p o false x y u h = refl
+
+pub records-stay : RecordsStay
+unfolding moveOf moveAfter moveIn
+records-stay text b d p h =
+    stays-by-tests b p (testOf text b) (tracePassed (testOf text b)) (leb (p .place) (lastPlace b)) (eqb (p .state) (recordAt b (p .place) .state))
+    (leads d (lastPlace b) (p .place)) h

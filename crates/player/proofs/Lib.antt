@@ -8,3 +8,4 @@ pub mod Inverted
 pub mod Restored
 pub mod MovesTold
 pub mod Walks
+pub mod PlayerCases

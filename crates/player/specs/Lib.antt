@@ -3,3 +3,4 @@ pub mod Places
 pub mod Answers
 pub mod working
 pub mod Promises
+pub mod Cases

@@ -71,6 +71,10 @@ RefusalTells =
     → (openingOf text b ≡ unopened (O.returned n i))
     × ((d : Direction) (p : Player) → (answerOf d text b p ≡ told (O.returned n i)) × (recordAfter d text b p ≡ p))
 
+-- Only a move that moved changes the record, on every text, sheet and record.
+abbrev pub RecordsStay : Type 0
+RecordsStay = (text b : List ℕ) (d : Direction) (p : Player) → ¬ (answerOf d text b p ≡ moved) → recordAfter d text b p ≡ p
+
 -- A move leads nowhere exactly forward at the last place, or beyond it, and back at place 0.
 abbrev pub EndsTell : Type 0
 EndsTell = (d : Direction) (n k : ℕ) → (leads d n k ≡ none) ↔ (((d ≡ Forward) × (n ≤ k)) ⊎ ((d ≡ Back) × (k ≡ 0)))

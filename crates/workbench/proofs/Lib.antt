@@ -2,3 +2,4 @@
 pub mod Told
 pub mod PositionsTold
 pub mod NeedsTold
+pub mod PlayersTold

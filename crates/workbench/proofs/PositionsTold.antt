@@ -1,6 +1,7 @@
 -- The numbers that stand for positions and replies tell them, and fit.
 -- Assumes nothing.
 use mathlib.Core.Path.{_≡_, refl, sym, ap, _∙_, subst}
+use mathlib.Core.Logic.{inl, inr}
 use mathlib.Core.Bool.{Bool, true, false, cond, _||_}
 use mathlib.Core.List.{List, []}
 use Prim.Native.Nat.{ℕ, _+_, _*_, _/_, _%_, _<_, _≤_}
@@ -11,10 +12,9 @@ use Rattle.notation.specs.Bytes.{bytes}
 use Rattle.exploration.specs.Pause.{Pause}
 use Rattle.packing.specs.Packed.{packed, mostAbove}
 use Rattle.packing.proofs.Packed.{low-back, above-back}
-use Rattle.packing.proofs.OutcomesTold.{outcome-told}
+use Rattle.packing.proofs.OutcomesTold.{outcome-told, other-letter}
 use Rattle.packing.specs.Outcomes as T
 use Rattle.conditions.specs.declared.outcome.Outcome.{Outcome}
-use Rattle.conditions.specs.declared.outcome.Outcome.the-variants as O
 use Rattle.conditions.specs.Outcomes as W
 use Rattle.acceptance.specs.Promises as A
 use Rattle.pauses.specs.Answers.{Wording, paused, returned}
@@ -90,22 +90,7 @@ positions-tell text p k first second =
 
 -- No answer of the test has the letter of yes or no.
 outcome-other : (o : Outcome) → A.Bounded (W.wordingOf o) → replyFor (T.testNumber (W.wordingOf o)) ≡ Q.told (T.wordingFor (T.testNumber (W.wordingOf o)))
-unfolding W.wordingOf T.testNumber bytes
-outcome-other O.SafeHolds b = refl
-outcome-other O.Void b = refl
-outcome-other O.TraceHolds b = refl
-outcome-other O.FailsA b = refl
-outcome-other O.FailsB b = refl
-outcome-other O.FailsC b = refl
-outcome-other O.FailsD b = refl
-outcome-other O.FailsE b = refl
-outcome-other O.FailsF b = refl
-outcome-other (O.Refused n p) b =
-    let h = b .1 in
-    let l = low-back n p (omega arith) in
-    ap (λ (u : ℕ). cond (eqb u 121) Q.yes (cond (eqb u 110) Q.no (Q.told (T.wordingFor (packed n p))))) l
-    ∙ ap (λ (c : Bool). cond c Q.yes (cond (eqb n 110) Q.no (Q.told (T.wordingFor (packed n p))))) (ne-eqb n 121 (omega arith))
-    ∙ ap (λ (c : Bool). cond c Q.no (Q.told (T.wordingFor (packed n p)))) (ne-eqb n 110 (omega arith))
+outcome-other o b = rw (other-letter o b 121 (inr (omega arith)), other-letter o b 110 (inl (omega arith, omega arith)))
 
 reply-told : (r : Reply) → QP.Bounded (Q.wordingOf r) → replyFor (replyNumber (Q.wordingOf r)) ≡ Q.wordingOf r
 unfolding Q.wordingOf replyNumber bytes

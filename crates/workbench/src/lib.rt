@@ -1,4 +1,5 @@
-// The search, in one go and in portions, and its reservation for programs in C and Python: a slice is a pointer and a length there, and the answer is one number.
+// The search, in one go and in portions, its reservation, and players of traces for programs in C and Python: a slice is a pointer and a length there, and the answer is one number.
+mod players;
 mod portions;
 
 ghost use mathlib.Core.Path.{_≡_};

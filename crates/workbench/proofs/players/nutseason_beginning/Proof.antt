@@ -1,0 +1,70 @@
+-- `nutseason_beginning` meets its contract: what is told of the move of the record that the list has.
+-- Assumes nothing.
+use Rattle.workbench.proofs.PlayersTold.{opened-bounded, moved-bounded, short-move, whole-move}
+use borrow.Author.Needs.{needs}
+use Rattle.workbench.proofs.players.nutseason_beginning.Statement.{statement}
+use Rattle.workbench.proofs.players.nutseason_beginning.Tie as tie
+
+open-player-requires : tie.Need-open-player-requires
+open-player-requires c κs = search needs
+
+opened-number-requires : tie.Need-opened-number-requires
+opened-number-requires c κs =
+    let after-open-player : tie.After-open-player = search in
+    opened-bounded _ _ _ (after-open-player .open-player .ensures .0)
+
+same-length : tie.Need-same-length
+same-length c = search needs
+
+returns : tie.Need-returns
+returns c =
+    let then1 : tie.Then1 = search in
+    let after-open-player : tie.After-open-player = search in
+    let after-opened-number : tie.After-opened-number = search in
+    let opened = after-open-player .open-player .ensures in
+    let told = after-opened-number .opened-number .ensures in
+    let t = short-move _ _ _ _ _ _ (then1 .if1 .taken) _ (opened .0) (told .0) (told .1) in
+    (t .0, (t .1, opened .1))
+
+slice-read-t11 : tie.Need-slice-read-t11
+slice-read-t11 c = search needs
+
+slice-read-t13 : tie.Need-slice-read-t13
+slice-read-t13 c = search needs
+
+beginning-of-requires : tie.Need-beginning-of-requires
+beginning-of-requires c κs = search needs
+
+moved-number-requires : tie.Need-moved-number-requires
+moved-number-requires c κs =
+    let else1 : tie.Else1 = search in
+    let after-beginning-of : tie.After-beginning-of = search in
+    (else1 .if1 .left, moved-bounded _ _ _ _ _ (after-beginning-of .beginning-of .ensures .0))
+
+same-length-2 : tie.Need-same-length-2
+same-length-2 c = search needs
+
+returns-2 : tie.Need-returns-2
+returns-2 c =
+    let else1 : tie.Else1 = search in
+    let after-beginning-of : tie.After-beginning-of = search in
+    let after-moved-number : tie.After-moved-number = search in
+    let moved = after-beginning-of .beginning-of .ensures in
+    let told = after-moved-number .moved-number .ensures in
+    let t = whole-move _ _ _ _ _ _ (else1 .if1 .left) _ (moved .0) (told .0) (told .1) in
+    (t .0, (t .1, moved .1))
+
+pub nutseason-beginning-spec : {M : Type 1} → statement M
+nutseason-beginning-spec =
+    tie.close
+    (tie.spec
+    open-player-requires
+    opened-number-requires
+    same-length
+    returns
+    slice-read-t11
+    slice-read-t13
+    beginning-of-requires
+    moved-number-requires
+    same-length-2
+    returns-2)
