@@ -6,7 +6,7 @@ ghost use Rattle.sheets.specs.SheetTexts.{AreBytes};
 ghost use Rattle.player.specs.Places.{leads};
 ghost use Rattle.player.specs.declared.record.Answer.the-variants.{Moved};
 ghost use Rattle.player.specs.declared.record.Direction.the-variants.{Forward, Back, Beginning};
-ghost use Rattle.player.specs.working.Playing.{tracePassed, recordAt, ledTo, moveOf, openOf};
+ghost use Rattle.player.specs.working.Playing.{tracePassed, recordAt, stays, ledTo, moveOf, openOf};
 use crate::record::Answer;
 use crate::record::Direction;
 use crate::record::Move;
@@ -60,6 +60,16 @@ fn moved_to(sheet: &[u8], place: usize) -> Move
     }
 }
 
+// The record as it was, with the answer.
+fn kept(player: Player, answer: Answer) -> Move
+    ensures { λ r. ⌜ r ≡ stays player answer ⌝ }
+{
+    Move {
+        player: player,
+        answer: answer,
+    }
+}
+
 // A record that stands on the trace, whose last place is told, moved as far as the trace goes.
 fn lead(sheet: &[u8], player: Player, last: usize, direction: Direction) -> Move
     requires { ⌜ (17 + 10 * last ≤ length (now sheet)) × (length (now sheet) ≤ 65536) × (player .place ≤ last) ⌝ }
@@ -71,19 +81,15 @@ fn lead(sheet: &[u8], player: Player, last: usize, direction: Direction) -> Move
             if place < last {
                 return moved_to(sheet, place + 1);
             }
+            kept(player, Answer::AtEnd)
         }
         Direction::Back => {
             if 0 < place {
                 return moved_to(sheet, place - 1);
             }
+            kept(player, Answer::AtEnd)
         }
-        Direction::Beginning => {
-            return moved_to(sheet, 0);
-        }
-    }
-    Move {
-        player: player,
-        answer: Answer::AtEnd,
+        Direction::Beginning => moved_to(sheet, 0),
     }
 }
 
@@ -93,25 +99,16 @@ fn moved(text: &[u8], sheet: &[u8], player: Player, direction: Direction) -> Mov
 {
     let outcome = test(text, sheet);
     if !trace_passed(outcome) {
-        return Move {
-            player: player,
-            answer: Answer::Told(outcome),
-        };
+        return kept(player, Answer::Told(outcome));
     }
     let last = step_count(sheet, HEADER + 8);
     let place = player.place;
     if last < place {
-        return Move {
-            player: player,
-            answer: Answer::Foreign,
-        };
+        return kept(player, Answer::Foreign);
     }
     let there = record_at(sheet, place);
     if player.state != there.state {
-        return Move {
-            player: player,
-            answer: Answer::Foreign,
-        };
+        return kept(player, Answer::Foreign);
     }
     lead(sheet, player, last, direction)
 }
