@@ -5,6 +5,9 @@ use Rattle.streams.proofs.Reading.{came}
 use Rattle.admit.proofs.admit_into.Statement.{statement}
 use Rattle.admit.proofs.admit_into.Tie as tie
 
+slice-aggregate-read-argument : tie.Need-slice-aggregate-read-argument
+slice-aggregate-read-argument c = search needs
+
 read-argument-requires : tie.Need-read-argument-requires
 read-argument-requires c κs = search needs
 
@@ -19,6 +22,9 @@ same-length c = search needs
 
 returns : tie.Need-returns
 returns c = search needs
+
+slice-aggregate-read-argument-2 : tie.Need-slice-aggregate-read-argument-2
+slice-aggregate-read-argument-2 c = search needs
 
 read-argument-requires-2 : tie.Need-read-argument-requires-2
 read-argument-requires-2 c κs = search needs
@@ -43,21 +49,21 @@ slice-reshare-prefix-answer c =
     let after-first : tie.After-first = search in
     let after-read-argument : tie.After-read-argument = search in
     let r = after-read-argument .read-argument in
-    came (r .result) (r .last .1 .0) (after-first .first .given .0 .0) (r .ensures) (after-first .first .given .1) .0
+    came (r .result) (r .last .1 .1 .0) (after-first .first .given .0 .0) (r .ensures) (after-first .first .given .1) .0
 
 slice-aggregate-answer : tie.Need-slice-aggregate-answer
 slice-aggregate-answer c =
     let after-first : tie.After-first = search in
     let after-read-argument : tie.After-read-argument = search in
     let r = after-read-argument .read-argument in
-    came (r .result) (r .last .1 .0) (after-first .first .given .0 .0) (r .ensures) (after-first .first .given .1) .1
+    came (r .result) (r .last .1 .1 .0) (after-first .first .given .0 .0) (r .ensures) (after-first .first .given .1) .1
 
 slice-reshare-prefix-answer-2 : tie.Need-slice-reshare-prefix-answer-2
 slice-reshare-prefix-answer-2 c =
     let after-second : tie.After-second = search in
     let after-read-argument2 : tie.After-read-argument2 = search in
     let r = after-read-argument2 .read-argument2 in
-    came (r .result) (r .last .1 .0) (after-second .second .given .0 .0) (r .ensures)
+    came (r .result) (r .last .1 .1 .0) (after-second .second .given .0 .0) (r .ensures)
     (after-second .second .given .1) .0
 
 slice-aggregate-answer-2 : tie.Need-slice-aggregate-answer-2
@@ -65,7 +71,7 @@ slice-aggregate-answer-2 c =
     let after-second : tie.After-second = search in
     let after-read-argument2 : tie.After-read-argument2 = search in
     let r = after-read-argument2 .read-argument2 in
-    came (r .result) (r .last .1 .0) (after-second .second .given .0 .0) (r .ensures)
+    came (r .result) (r .last .1 .1 .0) (after-second .second .given .0 .0) (r .ensures)
     (after-second .second .given .1) .1
 
 answer-requires : tie.Need-answer-requires
@@ -84,11 +90,13 @@ pub admit-into-spec : {M : Type 1} → statement M
 admit-into-spec =
     tie.close
     (tie.spec
+    slice-aggregate-read-argument
     read-argument-requires
     enum-known-first
     enum-told
     same-length
     returns
+    slice-aggregate-read-argument-2
     read-argument-requires-2
     enum-known-second
     enum-told-2

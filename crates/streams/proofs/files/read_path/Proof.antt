@@ -1,9 +1,9 @@
 -- `read_path` meets its contract, by that of `read_file`.
 -- Assumes nothing.
 use borrow.Author.Needs.{needs}
 use Rattle.streams.proofs.Reading.{came}
-use Rattle.admit.proofs.read_path.Statement.{statement}
-use Rattle.admit.proofs.read_path.Tie as tie
+use Rattle.streams.proofs.files.read_path.Statement.{statement}
+use Rattle.streams.proofs.files.read_path.Tie as tie
 
 open-read-requires : tie.Need-open-read-requires
 open-read-requires c κs = search needs
