@@ -1,6 +1,6 @@
 /* Nutseason for programs in C: the reader and the acceptance test (libloader.a); and the search, in one go or in
- * portions, its reservations, and questions about states (libworkbench.a). They are installed as
- * libnutseason_loader.a and libnutseason_workbench.a; `pkg-config --libs nutseason` names both.
+ * portions, its reservations, questions about states, and a player that walks a trace (libworkbench.a). They are
+ * installed as libnutseason_loader.a and libnutseason_workbench.a; `pkg-config --libs nutseason` names both.
  *
  * Every function is proved: it ends on all inputs, touches nothing but what it is handed, keeps nothing between
  * calls, and needs no heap. It answers with one number. The low byte says which answer it is, and the rest,
@@ -24,6 +24,7 @@
  *    6  a star after `start` or `keep`                              the star
  *    7  one name, command, item, node, star or depth too many       the token that is too many
  *    8  a lent table, sheet buffer or list of needs is too short    0
+ *       or a player's record has fewer than two entries             0
  *    9  the sheet's records are not in form                         the record, or 65536 where the sheet is too long
  *   10  a number in the sheet does not fit the model                the record
  *       or a question is about a state that the model has not       0
@@ -174,6 +175,41 @@ uint64_t nutseason_finish(uint64_t position, const uint8_t *text, size_t text_le
  * says; then 10, with place 0, for a state from 2^k up. */
 uint64_t nutseason_reached(const uint8_t *text, size_t text_len, const uint8_t *sheet, size_t sheet_len,
                            uint64_t state);
+
+/* A player walks a trace forward and back: nutseason_player opens it, and the three functions behind it move it. All
+ * there is of it is its record, the first two entries of a lent list: record[0] is its place, how many steps of the
+ * trace are behind it, and record[1] the state there. At place 0 that is the start state, and at any other the state
+ * after the step with that number. Either, copied in every row, is a state of the trace's run over every table of one
+ * row or more.
+ *
+ * What is said, in this order: where the sheet is no trace that holds, the answer of nutseason_test: 1 to 7, 9, 10,
+ * 's', 'v', or 'A' to 'F', and so never 't'. Then 8, where the list has fewer than two entries. Then, of a move, 'f':
+ * the record is foreign, its place is beyond the trace's last step, or its state is not the one that the trace has
+ * there. Then 'e': it is at an end, and the move leads nowhere. Else 'o' after opening, and 'm' after a move. Only
+ * these two change the record, and what stands in the list beyond it always stays.
+ *
+ * The record may be copied, kept in a file, and handed back with the same text and sheet. Handed back with another
+ * sheet, or altered, it is told to be foreign, unless the sheet has just that state at that place: then nothing tells
+ * it from a record that was moved there. */
+
+/* Opens a player. 'o': opened; the record is place 0 and the start state, whatever the list held. */
+uint64_t nutseason_player(const uint8_t *text, size_t text_len, const uint8_t *sheet, size_t sheet_len,
+                          uint64_t *record, size_t record_len);
+
+/* One step forward. 'm': moved; the record is the next place, with the state there, and nutseason_back says 'm' of it
+ * and restores both entries. 'e': the record is at the last place. */
+uint64_t nutseason_forward(const uint8_t *text, size_t text_len, const uint8_t *sheet, size_t sheet_len,
+                           uint64_t *record, size_t record_len);
+
+/* One step back. 'm': moved; the record is the place before, with the state there, and nutseason_forward says 'm' of it
+ * and restores both entries. 'e': the record is at place 0. */
+uint64_t nutseason_back(const uint8_t *text, size_t text_len, const uint8_t *sheet, size_t sheet_len,
+                        uint64_t *record, size_t record_len);
+
+/* To the beginning. 'm': moved, which is said at place 0 too; the record is the one that nutseason_player gives. 'e' is
+ * never said. */
+uint64_t nutseason_beginning(const uint8_t *text, size_t text_len, const uint8_t *sheet, size_t sheet_len,
+                             uint64_t *record, size_t record_len);
 
 #ifdef __cplusplus
 }

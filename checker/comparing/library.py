@@ -5,8 +5,9 @@ import random
 from array import array
 
 from comparing.guarded import Guarded
-from comparing.told import (question_told, read_told, reserve_told,
-                            search_told, test_told)
+from comparing.told import (player_told, question_told, read_told,
+                            reserve_told, search_told, test_told)
+from evidence.calls_player import CALLS
 
 NUMBER = [ctypes.c_uint64]
 # A pointer, and how many entries there are.
@@ -33,6 +34,8 @@ class Library:
         self._met = typed(loaded.nutseason_met, NUMBER * 2 + LENT * 3)
         self._finish = typed(loaded.nutseason_finish, NUMBER + LENT * 4)
         self._reached = typed(loaded.nutseason_reached, LENT * 2 + NUMBER)
+        self._player = {call: typed(getattr(loaded, f"nutseason_{call}"),
+                                    LENT * 3) for call in CALLS}
         self._places = [Guarded() for _ in range(MOST_LENT)]
         self._rng = random.Random(0)
 
@@ -48,13 +51,10 @@ class Library:
                                       sheet))
 
     def reserve(self, text, memory, count):
-        """Whether it is reserved, with the rest of the answer, or a refusal.
-        Of the list `memory` the first entries are lent, so many, and hold
-        afterwards what the call left there."""
-        needs = array("Q", memory[:count])
-        said = reserve_told(self._lent(self._reserve, text, needs))
-        memory[:count] = needs
-        return said
+        """Whether it is reserved, with the rest of the answer, or a
+        refusal."""
+        return reserve_told(self._with_entries(self._reserve, memory, count,
+                                               text))
 
     def open(self, text, first, second):
         """A position or a refusal, as a number."""
@@ -86,6 +86,20 @@ class Library:
             lambda *handed: [question_told(self._reached(*handed, state))
                              for state in states],
             text, sheet)
+
+    def play(self, call, text, sheet, memory, count):
+        """What the player's function of that name answers."""
+        return player_told(self._with_entries(self._player[call], memory,
+                                              count, text, sheet))
+
+    def _with_entries(self, call, memory, count, *others):
+        """What a call answers that is handed these, and then the first
+        entries of a list of 64-bit numbers, so many. They hold afterwards
+        what the call left there."""
+        entries = array("Q", memory[:count])
+        said = self._lent(call, *others, entries)
+        memory[:count] = entries
+        return said
 
     def _lent(self, call, *buffers):
         """What a call answers that is handed these, each as a pointer and a

@@ -5,6 +5,7 @@ TEST = {"s": "safe holds", "v": "void", "t": "trace holds"}
 VERDICTS = {"s": "safe", "v": "void", "u": "unsafe"}
 POSITIONS = {"p": "paused", "e": "ended"}
 QUESTIONS = {"y": "yes", "n": "no"}
+PLAYER = {"o": "opened", "m": "moved", "e": "end", "f": "foreign"}
 
 
 def refusal(said):
@@ -26,12 +27,20 @@ def test_told(said):
     return TEST.get(low, low) + beyond(said >> 8)
 
 
-def question_told(said):
-    """An answer to a question, or the test's."""
+def told_by(letters, said):
+    """An answer by one of these letters, or the test's."""
     low = chr(said & 255)
-    if low not in QUESTIONS:
+    if low not in letters:
         return test_told(said)
-    return QUESTIONS[low] + beyond(said >> 8)
+    return letters[low] + beyond(said >> 8)
+
+
+def question_told(said):
+    return told_by(QUESTIONS, said)
+
+
+def player_told(said):
+    return told_by(PLAYER, said)
 
 
 def search_told(said):

@@ -47,7 +47,11 @@ def answer(text, sheet):
     model = read(text)
     if isinstance(model, Refusal):
         return f"refused {model.number} {model.place}"
-    table = OneRow(model)
+    return answer_in(OneRow(model), sheet)
+
+
+def answer_in(table, sheet):
+    """The same for the table of a text's model."""
     held = contents(sheet, table)
     if isinstance(held, Refusal):
         return f"refused {held.number} {held.place}"

@@ -65,7 +65,12 @@ def ranges(rng, table):
 
 
 def damaged(rng, table):
-    sheet = bytearray(rng.choice([found, some_map, walk])(rng, table))
+    return harmed(rng, rng.choice([found, some_map, walk])(rng, table))
+
+
+def harmed(rng, sheet):
+    """Cut, with more behind it, or with another bit."""
+    sheet = bytearray(sheet)
     kind = rng.randrange(4)
     if kind == 0:
         return bytes(sheet[:rng.randrange(len(sheet))])

@@ -4,29 +4,31 @@ as those of a built library are."""
 import ctypes
 from array import array
 
-from evidence.acceptance import HOLDS
+from comparing.library import Library
 from evidence.calls import found_in, reserve_leaves, search_leaves
+from evidence.calls_player import CALLS
 from evidence.reservations import reserved
 from reader.model import Refusal
 from reader.reading import read
+from tests.player_program import Player
 from tests.portion_program import Program, number_of, tested
 from tests.stand_ins import LETTERS, number, packed
 
 # Bytes, numbers of 16 bits and of 64, each a pointer and a length; a number.
-BYTES, TABLE, NEEDS, NUMBER = "B", "H", "Q", "number"
+BYTES, TABLE, ENTRIES, NUMBER = "B", "H", "Q", "number"
 
 # What each function is handed, and which of it may be written.
 HANDED = {
     "read": ((BYTES,), ()),
     "test": ((BYTES, BYTES), ()),
-    "reserve": ((BYTES, NEEDS), (1,)),
+    "reserve": ((BYTES, ENTRIES), (1,)),
     "search": ((BYTES, TABLE, TABLE, BYTES), (1, 2, 3)),
     "open": ((BYTES, TABLE, TABLE), (1, 2)),
     "portion": ((NUMBER, NUMBER, BYTES, TABLE, TABLE), (3, 4)),
     "met": ((NUMBER, NUMBER, BYTES, TABLE, TABLE), ()),
     "finish": ((NUMBER, BYTES, TABLE, TABLE, BYTES), (2, 3, 4)),
     "reached": ((BYTES, BYTES, NUMBER), ()),
-}
+} | {call: ((BYTES, BYTES, ENTRIES), (2,)) for call in CALLS}
 
 
 def fetched(code, address, count):
@@ -72,18 +74,24 @@ def for_c(call, kinds, written):
 
 
 class InMemory:
-    """To be loaded by a Library. The functions that have no portions are the
-    checker's own."""
+    """To be loaded by a Library. The functions that are neither those of
+    portions nor those of a player are the checker's own."""
 
-    def __init__(self, program=None, **others):
-        program = program or Program()
+    def __init__(self, program=None, player=None):
+        program, player = program or Program(), player or Player()
         calls = {"read": read_number, "test": test_number,
                  "reserve": reserve_number, "search": search_number,
                  "open": program.open, "portion": program.portion,
                  "met": program.asked, "finish": program.finished,
-                 "reached": program.asked_map} | others
+                 "reached": program.asked_map}
+        calls |= {call: getattr(player, call) for call in CALLS}
         for name, call in calls.items():
             setattr(self, f"nutseason_{name}", for_c(call, *HANDED[name]))
+
+
+def library_of(program=None, player=None):
+    loaded = InMemory(program, player)
+    return Library("", lambda path: loaded)
 
 
 def refusal_number(refusal):
@@ -100,9 +108,7 @@ def read_number(text):
 
 
 def test_number(text, sheet):
-    said = tested(text, sheet)
-    passed = {HOLDS["safe"]: ord("s"), HOLDS["void"]: ord("v")}
-    return passed[said] if said in passed else number_of(said)
+    return number_of(tested(text, sheet))
 
 
 def reserve_number(text, needs):

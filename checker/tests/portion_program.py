@@ -5,7 +5,7 @@ called as a library is. Any part of it may be exchanged for a wrong part."""
 from dataclasses import dataclass
 from functools import cache
 
-from comparing.told import question_told, search_told
+from comparing.told import TEST, question_told, search_told
 from evidence.acceptance import answer
 from evidence.one_row import OneRow
 from evidence.sheets import map_sheet, trace_sheet
@@ -241,8 +241,9 @@ class Program:
 
 
 def number_of(said):
-    """The number of what the test says of a sheet that is no passing map."""
+    """The number of what the test says."""
     words = said.split(" ")
-    if words[0] != "refused":
-        return ord("t" if said == "trace holds" else said)
-    return int(words[1]) + 256 * int(words[2])
+    if words[0] == "refused":
+        return int(words[1]) + 256 * int(words[2])
+    letters = {meant: letter for letter, meant in TEST.items()}
+    return ord(letters.get(said, said))

@@ -11,7 +11,8 @@ from tests.in_memory import InMemory
 from tests.portion_program import Program
 from comparing.guarded import PAGE, Guarded
 from comparing.library import Library
-from inputs.cases import H, map_for
+from evidence.calls_player import CALLS
+from inputs.cases import G, G_SHEET, H, map_for
 
 SIZES = 1, 2, 16, 87, PAGE - 1, PAGE, PAGE + 1, 2 * PAGE
 TRIES = 40
@@ -138,6 +139,10 @@ class Lent(unittest.TestCase):
              ((1, 1, False), (3, 2, True), (5, 2, True), (7, 1, True))),
             ("reached", lambda one: one.reached(self.text, sheet, [1]),
              ((0, 1, False), (2, 1, False))),
+            *((call, lambda one, call=call: one.play(
+                call, G.encode(), G_SHEET, [0, 1], 2),
+               ((0, 1, False), (2, 1, False), (4, 8, True)))
+              for call in CALLS),
         )
 
     def tried(self, loaded, call):

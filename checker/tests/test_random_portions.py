@@ -7,12 +7,11 @@ import unittest
 from contextlib import redirect_stdout
 
 from tests import wrong_altered
-from tests.in_memory import InMemory
+from tests.in_memory import library_of
 from tests.portion_cases import PROGRAMS, is_shown, random_cases
 from tests.portion_program import Program
 from comparing.altered import compare_altered
 from comparing.differences import Differences
-from comparing.library import Library
 from comparing.random_walks import compare_random_walk
 from comparing.reached import compare_reached
 from evidence.calls_portions import passing
@@ -107,19 +106,15 @@ class AtRandom(unittest.TestCase):
 class InProcess(unittest.TestCase):
     """The same through addresses, in guarded memory."""
 
-    def library(self, program=None):
-        loaded = InMemory(program)
-        return Library("", lambda path: loaded)
-
     def test_right_one_passes(self):
-        library = self.library()
+        library = library_of()
         for group in ("worked", "worked_breaks", "names", "refused", "maps",
                       "void_maps", "traces", "refused_sheets"):
             self.assertFalse(is_shown(library, group), group)
 
     def test_random_ones_pass(self):
         rng = random.Random(8)
-        library = self.library()
+        library = library_of()
         differences = Differences()
         for case in random_cases(40, 5):
             compare_random_walk(rng, library, case, differences)
@@ -132,8 +127,8 @@ class InProcess(unittest.TestCase):
                 ("YesToAll", "worked"), ("AnyMapAsked", "maps"),
                 ("BeyondCleared", "worked"),
                 ("HeaderThoughRefused", "worked")):
-            library = self.library(PROGRAMS[name]())
-            self.assertTrue(is_shown(library, group), name)
+            self.assertTrue(is_shown(library_of(PROGRAMS[name]()), group),
+                            name)
 
 
 if __name__ == "__main__":

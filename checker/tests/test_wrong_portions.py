@@ -5,6 +5,7 @@ import unittest
 
 from tests.portion_cases import PROGRAMS, RIGHT, groups, is_shown
 from tests.portion_program import Program
+from tests.showing import Told
 
 # Wrong programs, and groups each of which shows up each of them.
 SHOWN_BY = (
@@ -174,25 +175,14 @@ SHOWN_BY = (
 )
 
 
-class Wrong(unittest.TestCase):
-    def test_each_is_named(self):
-        named = [name for names, _ in SHOWN_BY for name in names.split()]
-        self.assertEqual(sorted(named), sorted(PROGRAMS.keys() - RIGHT))
-        self.assertGreaterEqual(len(named), 120)
+class Wrong(Told, unittest.TestCase):
+    right_one, right, least = Program, RIGHT, 120
+    programs, groups, shown_by = PROGRAMS, staticmethod(groups), SHOWN_BY
 
     def test_right_ones_pass(self):
-        for group in groups():
-            self.assertFalse(is_shown(Program(), group), group)
         for name in RIGHT:
             for group in ("worked", "worked_breaks", "led_to", "maps"):
                 self.assertFalse(is_shown(PROGRAMS[name](), group), name)
-
-    def test_wrong_ones_are_shown(self):
-        for names, shown_by in SHOWN_BY:
-            for name in names.split():
-                for group in shown_by.split():
-                    with self.subTest(program=name, group=group):
-                        self.assertTrue(is_shown(PROGRAMS[name](), group))
 
 
 if __name__ == "__main__":

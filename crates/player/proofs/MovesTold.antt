@@ -1,6 +1,6 @@
 -- What opening and moves answer to every text, all bytes and every record, in words.
 -- Assumes nothing.
-use mathlib.Core.Path.{_≡_, refl, sym, ap, _∙_, subst}
+use mathlib.Core.Path.{_≡_, refl, sym, ap, _∙_}
 use mathlib.Core.Logic.{_⊎_, inl, inr, ⊎-elim}
 use mathlib.Core.Bool.{Bool, true, false, cond}
 use mathlib.Core.List.{List}
@@ -11,7 +11,7 @@ use lib.Dec.{eqb, leb}
 use lib.ListN.{length}
 use borrow.Author.Tests.{eqb-true, leb-true}
 use Rattle.notation.specs.Model.{Model}
-use Rattle.notation.specs.Texts.{TextSays, TextRefused}
+use Rattle.notation.specs.Texts.{TextSays}
 use Rattle.notation.proofs.Regular.{all-regular}
 use Rattle.meaning.specs.OneRow.{TraceStep}
 use Rattle.meaning.specs.Evidence.{TracePasses}
@@ -27,14 +27,13 @@ use Rattle.acceptance.proofs.Claims as C
 use Rattle.acceptance.proofs.Places.{answers-bounded}
 use Rattle.acceptance.proofs.TestMeans.{all-given}
 use Rattle.player.specs.Places.{stateAt, StandsOn, leads}
-use Rattle.player.specs.Answers.{Wording, moved, atEnd, foreign, told, wordingOf, opened, unopened, openingFor}
-use Rattle.player.specs.Promises.{openingOf, answerOf, recordAfter, TracePassed, OpeningsTell, MoveOnTrace, MovesTell, RefusalTells, Bounded, BoundedOpening, PlayersBounded}
+use Rattle.player.specs.Answers.{Wording, moved, atEnd, foreign, told, wordingOf, unopened, openingFor}
+use Rattle.player.specs.Promises.{answerOf, recordAfter, TracePassed, OpeningsTell, MoveOnTrace, MovesTell, RefusalTells, Bounded, BoundedOpening, PlayersBounded}
 use Rattle.player.specs.declared.record.Player.{Player}
 use Rattle.player.specs.declared.record.Direction.{Direction}
 use Rattle.player.specs.declared.record.Direction.the-variants.{Forward, Back, Beginning}
 use Rattle.player.specs.declared.record.Answer.the-variants as A
 use Rattle.player.specs.declared.record.Move.{Move}
-use Rattle.player.specs.declared.record.Opened.{Opened}
 use Rattle.player.specs.declared.record.Opened.the-variants as O
 use Rattle.player.specs.working.Playing.{tracePassed, lastPlace, recordAt, stays, ledTo, moveIn, moveAfter, moveOf, openAfter, openOf}
 use Rattle.player.proofs.MoveLaws.{at-end, stands, move-told, move-passed, open-told, open-passed}

@@ -4,18 +4,18 @@ use mathlib.Core.Path.{_≡_, refl, sym, ap, _∙_}
 use mathlib.Core.Bool.{true}
 use mathlib.Core.List.{List}
 use mathlib.Core.Option.{some}
-use Prim.Native.Nat.{ℕ, _+_, _-_, _≤_, _<_}
+use Prim.Native.Nat.{ℕ, _+_, _-_, _≤_}
 use native.Mathlib.Omega.{arith}
 use Rattle.acceptance.specs.working.Test.{testOf}
 use Rattle.player.specs.Places.{leads}
 use Rattle.player.specs.Answers.{moved, wordingOf, opened, openingFor}
-use Rattle.player.specs.Promises.{openingOf, answerOf, recordAfter, Restored, MovesRestore, BeginningTells}
+use Rattle.player.specs.Promises.{answerOf, recordAfter, Restored, MovesRestore, BeginningTells}
 use Rattle.player.specs.declared.record.Player.{Player}
 use Rattle.player.specs.declared.record.Direction.{Direction}
 use Rattle.player.specs.declared.record.Direction.the-variants.{Forward, Back, Beginning}
 use Rattle.player.specs.declared.record.Answer.the-variants as A
 use Rattle.player.specs.declared.record.Move.{Move}
-use Rattle.player.specs.working.Playing.{tracePassed, lastPlace, recordAt, ledTo, moveOf}
+use Rattle.player.specs.working.Playing.{tracePassed, lastPlace, recordAt, moveOf}
 use Rattle.player.proofs.MoveLaws.{onward, backward, led, stands, move-passed, open-passed}
 use Rattle.player.proofs.Inverted.{forward-leads, back-leads, beginning-leads, HasMoved, has-moved}
 

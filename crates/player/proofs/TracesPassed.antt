@@ -11,7 +11,7 @@ use Rattle.notation.specs.working.Machine as N
 use Rattle.notation.specs.working.Answer.{answer}
 use Rattle.meaning.specs.working.Conditions.{testVoid, testA, testB, testC}
 use Rattle.sheets.specs.Sheets.{System, size, systemOf, headerLength, mapLength}
-use Rattle.sheets.specs.working.SheetReading.{sheetOf, stepCount, StepsStand, TraceStands}
+use Rattle.sheets.specs.working.SheetReading.{sheetOf, stepCount, StepsStand}
 use Rattle.sheets.specs.working.Shapes.{shapeOf}
 use Rattle.sheets.specs.declared.shapes.Shape.{Shape}
 use Rattle.sheets.specs.declared.shapes.Shape.the-variants.{Bad, Map, Trace}

@@ -5,25 +5,21 @@ use mathlib.Core.Logic.{_⊎_, inl, inr, ⊎-elim}
 use mathlib.Core.Bool.{true}
 use mathlib.Core.List.{List, [], _∷_, map}
 use mathlib.Core.Option.{Option, none, some}
-use Prim.Native.Nat.{ℕ, zero, suc, _≤_}
+use Prim.Native.Nat.{ℕ, zero, suc}
 use native.Mathlib.Omega.{arith}
 use lib.ListN.{length, take}
 use Rattle.notation.specs.Model.{Model}
-use Rattle.notation.specs.Texts.{TextSays}
-use Rattle.notation.specs.Case.{Recased}
 use Rattle.notation.specs.working.Machine as N
 use Rattle.notation.proofs.Texts.{answers-recased}
-use Rattle.meaning.specs.Meaning.{Row, State, Move, AreSteps, IsRun, last}
+use Rattle.meaning.specs.Meaning.{Row, State, Move, AreSteps, last}
 use Rattle.meaning.specs.OneRow.{TraceStep, spread, spreadStep, lastOf}
-use Rattle.meaning.specs.Evidence.{TracePasses}
 use Rattle.meaning.proofs.Parametric.{traces-hold}
-use Rattle.sheets.specs.SheetTexts.{AreBytes}
 use Rattle.conditions.specs.declared.outcome.Outcome.{Outcome}
 use Rattle.acceptance.specs.Promises.{answerTo}
 use Rattle.acceptance.specs.working.Test.{testIn, testOf}
-use Rattle.player.specs.Places.{stateAt, StandsOn, leads}
-use Rattle.player.specs.Answers.{moved, atEnd, opened, unopened, openingFor, wordingOf}
-use Rattle.player.specs.Promises.{openingOf, answerOf, recordAfter, TracePassed, recordAfterAll, OnRun, Played, WalksTell, PlayedWithoutCase}
+use Rattle.player.specs.Places.{StandsOn, leads}
+use Rattle.player.specs.Answers.{moved, atEnd, opened, openingFor, wordingOf}
+use Rattle.player.specs.Promises.{openingOf, answerOf, recordAfter, TracePassed, recordAfterAll, StandingTells, WalksTell, PlayedWithoutCase}
 use Rattle.player.specs.declared.record.Player.{Player}
 use Rattle.player.specs.declared.record.Direction.{Direction}
 use Rattle.player.specs.working.Playing.{tracePassed, recordAt, openAfter, openOf, moveAfter, moveOf}
@@ -44,8 +40,8 @@ front-last m I zero s xs = refl
 front-last m I (suc k) s [] = refl
 front-last m I (suc k) s (x ∷ xs) = front-last m I k (x .after) xs
 
-on-run : (m : Model) (s : ℕ) (xs : List TraceStep) → TracePasses m s xs → (p : Player) → StandsOn s xs p → (n : ℕ) → 1 ≤ n → OnRun m s xs p n
-on-run m s xs passes p S n h =
+pub standing-tells : StandingTells
+standing-tells m s xs passes p S n h =
     let T = traces-hold m s xs passes n h in
     record {
       run = record { start = T .run .start; steps = front-steps m (p .place) (spread m (Row n) s) (map (spreadStep m (Row n)) xs) (T .run .steps) };
@@ -95,7 +91,7 @@ walks-tell text m says b hb p e ds =
     let (s, xs, w, t) = the-trace text m says b hb holds in
     let first : StandsOn s xs p = subst (StandsOn s xs) (sym (opened-at text b p e passed)) (here-stands (t .0) (recordAt b 0) (omega arith) refl) in
     let S = stands-after-all text b passed (t .0) ds p first in
-    (s, xs, w, record { stands = S; overRows = on-run m s xs (t .1) (recordAfterAll ds text b p) S; goesOn = λ d. goes-on text b passed (t .0) d (recordAfterAll ds text b p) S })
+    (s, xs, w, record { stands = S; overRows = standing-tells m s xs (t .1) (recordAfterAll ds text b p) S; goesOn = λ d. goes-on text b passed (t .0) d (recordAfterAll ds text b p) S })
 
 pub played-without-case : PlayedWithoutCase
 unfolding testOf openOf moveOf

@@ -11,6 +11,7 @@ use Rattle.notation.specs.Texts.{TextSays, TextRefused}
 use Rattle.notation.specs.Case.{Recased}
 use Rattle.meaning.specs.Meaning.{Row, IsRun, last}
 use Rattle.meaning.specs.OneRow.{TraceStep, spread, spreadStep}
+use Rattle.meaning.specs.Evidence.{TracePasses}
 use Rattle.sheets.specs.SheetTexts.{AreBytes}
 use Rattle.conditions.specs.Outcomes as O
 use Rattle.acceptance.specs.Promises as T
@@ -103,13 +104,17 @@ pub record OnRun (m : Model) (s : ℕ) (xs : List TraceStep) (p : Player) (n : �
   pub run : IsRun m (spread m (Row n) s) (take (p .place) (map (spreadStep m (Row n)) xs))
   pub state : last (spread m (Row n) s) (take (p .place) (map (spreadStep m (Row n)) xs)) ≡ spread m (Row n) (p .state)
 
+-- So it is for every record that stands on a trace that passes, whoever made it.
+abbrev pub StandingTells : Type 0
+StandingTells = (m : Model) (s : ℕ) (xs : List TraceStep) → TracePasses m s xs → (p : Player) → StandsOn s xs p → (n : ℕ) → 1 ≤ n → OnRun m s xs p n
+
 -- A record in use: it stands on the trace, its state is one of the trace's run over every table of one row or more, and each further move goes or is at an end.
 pub record Played (m : Model) (s : ℕ) (xs : List TraceStep) (text b : List ℕ) (p : Player) : Type 0 where
   pub stands : StandsOn s xs p
   pub overRows : (n : ℕ) → 1 ≤ n → OnRun m s xs p n
   pub goesOn : (d : Direction) → (answerOf d text b p ≡ moved) ⊎ (answerOf d text b p ≡ atEnd)
 
--- So it is after every list of moves, on the text and the sheet that the player was opened on.
+-- And so it is after every list of moves, on the text and the sheet that the player was opened on.
 abbrev pub WalksTell : Type 0
 WalksTell =
     (text : List ℕ) (m : Model) → TextSays text m → (b : List ℕ) → AreBytes b → (p : Player) → openingOf text b ≡ opened p

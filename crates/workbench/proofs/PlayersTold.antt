@@ -1,13 +1,11 @@
 -- The numbers and lists that stand for what a player answers tell it, and what the code puts there.
 -- Assumes nothing.
 use mathlib.Core.Path.{_≡_, refl, sym, ap, _∙_, subst}
-use mathlib.Core.Logic.{inl, inr}
-use mathlib.Core.Bool.{Bool, true, false, cond}
+use mathlib.Core.Logic.{inl}
 use mathlib.Core.List.{List, [], _∷_}
 use Prim.Native.Nat.{ℕ, _≤_, _<_}
 use native.Mathlib.Omega.{arith}
-use lib.ListN.{length, getD}
-use lib.Seq.{sets}
+use lib.ListN.{length}
 use borrow.Author.Tests.{lt-ltb, le-ltb}
 use Rattle.notation.specs.Bytes.{bytes}
 use Rattle.conditions.specs.Outcomes as W
@@ -16,7 +14,7 @@ use Rattle.acceptance.specs.Promises as A
 use Rattle.packing.specs.Packed.{packed}
 use Rattle.packing.specs.Outcomes as T
 use Rattle.packing.proofs.OutcomesTold.{outcome-told, other-letter}
-use Rattle.player.specs.Answers.{Wording, moved, told, wordingOf, Opening, opened, unopened, openingFor}
+use Rattle.player.specs.Answers.{wordingOf, opened, openingFor}
 use Rattle.player.specs.Promises.{openingOf, answerOf, recordAfter, Bounded, BoundedOpening}
 use Rattle.player.specs.declared.record.Player.{Player}
 use Rattle.player.specs.declared.record.Direction.{Direction}

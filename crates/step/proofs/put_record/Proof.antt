@@ -1,7 +1,6 @@
 -- `put_record` meets its contract: there is room for a word and two numbers.
 -- Assumes nothing.
 use native.Mathlib.Omega.{arith}
-use borrow.Author.Needs.{needs}
 use Rattle.step.proofs.LinesPut.{numbers-fit, record-counts}
 use Rattle.step.proofs.put_record.Statement.{statement}
 use Rattle.step.proofs.put_record.Tie as tie
