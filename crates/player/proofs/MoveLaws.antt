@@ -113,3 +113,7 @@ module _ (text b : List ℕ) where
 
     pub opens : x ≡ true → (p : Player) → p ≡ recordAt b 0 → O.At p ≡ openOf text b
     opens e p f = ap O.At f ∙ sym (open-passed (judged-so true e))
+
+-- The move in a direction that is this one.
+pub move-in : (d known : Direction) → d ≡ known → (text b : List ℕ) (p : Player) (m : Move) → m ≡ moveOf known text b p → m ≡ moveOf d text b p
+move-in d known e text b p m f = f ∙ ap (λ (x : Direction). moveOf x text b p) (sym e)

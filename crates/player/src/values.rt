@@ -6,6 +6,7 @@ ghost use Rattle.player.specs.working.Playing.{moveOf};
 use crate::back;
 use crate::beginning;
 use crate::forward;
+use crate::record::Direction;
 use crate::record::Move;
 use crate::record::Player;
 
@@ -42,5 +43,16 @@ pub fn beginning_of(player: Player, text: &[u8], sheet: &[u8]) -> Move
     Move {
         player: lent,
         answer: answer,
+    }
+}
+
+// The move in a direction.
+pub fn move_of(direction: Direction, player: Player, text: &[u8], sheet: &[u8]) -> Move
+    ensures { λ r. ⌜ (r ≡ moveOf direction (now (text .entry)) (now (sheet .entry)) player) × AreBytes (now (sheet .entry)) ⌝ }
+{
+    match direction {
+        Direction::Forward => forward_of(player, text, sheet),
+        Direction::Back => back_of(player, text, sheet),
+        Direction::Beginning => beginning_of(player, text, sheet),
     }
 }

@@ -10,7 +10,6 @@ ghost use lib.Seq.{sets};
 ghost use Rattle.io.specs.Counts.{Counts};
 ghost use Rattle.lines.specs.Puts.{Puts};
 ghost use Rattle.player.specs.Answers.{wordingOf, openingFor};
-ghost use Rattle.player.specs.working.Playing.{moveOf};
 ghost use Rattle.step.specs.Keys.{askedBy, recordThen, GoesOn};
 ghost use Rattle.step.specs.Lines.{recordLine, lineOf, openingLine};
 use libc::STDERR_FILENO;
@@ -18,12 +17,9 @@ use lines::put_numbers_line;
 use player::moves::open_player;
 use player::record::Answer;
 use player::record::Direction;
-use player::record::Move;
 use player::record::Opened;
 use player::record::Player;
-use player::values::back_of;
-use player::values::beginning_of;
-use player::values::forward_of;
+use player::values::move_of;
 use streams::files::read_argument;
 use streams::input::Next;
 use streams::input::Rest;
@@ -64,17 +60,6 @@ fn asked_by(b: u8) -> Asked
         return Asked::To(Direction::Beginning);
     }
     Asked::Nothing
-}
-
-// The move in a direction.
-fn move_to(direction: Direction, player: Player, text: &[u8], sheet: &[u8]) -> Move
-    ensures { λ r. ⌜ r ≡ moveOf direction (now (text .entry)) (now (sheet .entry)) player ⌝ }
-{
-    match direction {
-        Direction::Forward => forward_of(player, text, sheet),
-        Direction::Back => back_of(player, text, sheet),
-        Direction::Beginning => beginning_of(player, text, sheet),
-    }
 }
 
 // A word of at most 7 bytes, a record's place and its state. Each number has at most 20 digits, so there is room.
@@ -134,7 +119,7 @@ fn answer_byte(b: u8, player: Player, text: &[u8], sheet: &[u8]) -> Turn
     let Asked::To(direction) = asked else {
         return Turn::On(player);
     };
-    let moved = move_to(direction, player, text, sheet);
+    let moved = move_of(direction, player, text, sheet);
     let answer = moved.answer;
     let after = moved.player;
     if !write_answer(answer, after) {

@@ -11,12 +11,11 @@ use packing::outcomes::outcome_number;
 use packing::pack;
 use player::moves::open_player;
 use player::record::Answer;
+use player::record::Direction;
 use player::record::Move;
 use player::record::Opened;
 use player::record::Player;
-use player::values::back_of;
-use player::values::beginning_of;
-use player::values::forward_of;
+use player::values::move_of;
 
 // Puts a record at the front of the list.
 fn put_player(entries: &mut [u64], player: Player)
@@ -79,11 +78,10 @@ pub extern "C" fn nutseason_player(text: &[u8], sheet: &[u8], entries: &mut [u64
     opened_number(open_player(text, sheet), entries)
 }
 
-// One step on.
-#[no_mangle]
-pub extern "C" fn nutseason_forward(text: &[u8], sheet: &[u8], entries: &mut [u64]) -> u64
-    ensures { λ r. ⌜ r ≡ moveTold Forward (now (text .entry)) (now (sheet .entry)) (now (entries .entry)) .number ⌝ }
-    ensures left { λ _. ⌜ now (entries .exit) ≡ moveTold Forward (now (text .entry)) (now (sheet .entry)) (now (entries .entry)) .entries ⌝ }
+// A move of the record that the list has.
+fn moved_in(direction: Direction, text: &[u8], sheet: &[u8], entries: &mut [u64]) -> u64
+    ensures { λ r. ⌜ r ≡ moveTold direction (now (text .entry)) (now (sheet .entry)) (now (entries .entry)) .number ⌝ }
+    ensures left { λ _. ⌜ now (entries .exit) ≡ moveTold direction (now (text .entry)) (now (sheet .entry)) (now (entries .entry)) .entries ⌝ }
     ensures bytes { λ _. ⌜ AreBytes (now (sheet .entry)) ⌝ }
 {
     if entries.len() < 2 {
@@ -93,7 +91,17 @@ pub extern "C" fn nutseason_forward(text: &[u8], sheet: &[u8], entries: &mut [u6
         place: entries[0] as usize,
         state: entries[1] as usize,
     };
-    moved_number(forward_of(player, text, sheet), entries)
+    moved_number(move_of(direction, player, text, sheet), entries)
+}
+
+// One step on.
+#[no_mangle]
+pub extern "C" fn nutseason_forward(text: &[u8], sheet: &[u8], entries: &mut [u64]) -> u64
+    ensures { λ r. ⌜ r ≡ moveTold Forward (now (text .entry)) (now (sheet .entry)) (now (entries .entry)) .number ⌝ }
+    ensures left { λ _. ⌜ now (entries .exit) ≡ moveTold Forward (now (text .entry)) (now (sheet .entry)) (now (entries .entry)) .entries ⌝ }
+    ensures bytes { λ _. ⌜ AreBytes (now (sheet .entry)) ⌝ }
+{
+    moved_in(Direction::Forward, text, sheet, entries)
 }
 
 // One step back.
@@ -103,14 +111,7 @@ pub extern "C" fn nutseason_back(text: &[u8], sheet: &[u8], entries: &mut [u64])
     ensures left { λ _. ⌜ now (entries .exit) ≡ moveTold Back (now (text .entry)) (now (sheet .entry)) (now (entries .entry)) .entries ⌝ }
     ensures bytes { λ _. ⌜ AreBytes (now (sheet .entry)) ⌝ }
 {
-    if entries.len() < 2 {
-        return opened_number(open_player(text, sheet), entries);
-    }
-    let player = Player {
-        place: entries[0] as usize,
-        state: entries[1] as usize,
-    };
-    moved_number(back_of(player, text, sheet), entries)
+    moved_in(Direction::Back, text, sheet, entries)
 }
 
 // To the beginning.
@@ -120,12 +121,5 @@ pub extern "C" fn nutseason_beginning(text: &[u8], sheet: &[u8], entries: &mut [
     ensures left { λ _. ⌜ now (entries .exit) ≡ moveTold Beginning (now (text .entry)) (now (sheet .entry)) (now (entries .entry)) .entries ⌝ }
     ensures bytes { λ _. ⌜ AreBytes (now (sheet .entry)) ⌝ }
 {
-    if entries.len() < 2 {
-        return opened_number(open_player(text, sheet), entries);
-    }
-    let player = Player {
-        place: entries[0] as usize,
-        state: entries[1] as usize,
-    };
-    moved_number(beginning_of(player, text, sheet), entries)
+    moved_in(Direction::Beginning, text, sheet, entries)
 }

@@ -20,8 +20,8 @@ returns c =
     let after-enum-told : tie.After-enum-told = search in
     stays-on _ _ _ _ _ (after-asked-by .asked-by .ensures) (after-enum-told .enum-told .given .1)
 
-move-to-requires : tie.Need-move-to-requires
-move-to-requires c κs = search needs
+move-of-requires : tie.Need-move-of-requires
+move-of-requires c κs = search needs
 
 write-answer-requires : tie.Need-write-answer-requires
 write-answer-requires c κs = search needs
@@ -33,8 +33,8 @@ returns-3 : tie.Need-returns-3
 returns-3 c =
     let after-asked-by : tie.After-asked-by = search in
     let after-asked : tie.After-asked = search in
-    let after-move-to : tie.After-move-to = search in
-    moves-on _ _ _ _ _ (after-asked-by .asked-by .ensures) _ (after-asked .asked .given .1) _ (after-move-to .move-to .ensures)
+    let after-move-of : tie.After-move-of = search in
+    moves-on _ _ _ _ _ (after-asked-by .asked-by .ensures) _ (after-asked .asked .given .1) _ (after-move-of .move-of .ensures .0)
 
 pub answer-byte-spec : {M : Type 1} → statement M
 answer-byte-spec =
@@ -44,7 +44,7 @@ answer-byte-spec =
     enum-known-asked
     enum-told
     returns
-    move-to-requires
+    move-of-requires
     write-answer-requires
     returns-2
     returns-3)
