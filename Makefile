@@ -9,11 +9,12 @@ completionsdir = $(prefix)/share/bash-completion/completions
 # The command's own folder, which `make uninstall` removes whole.
 home = $(libdir)/nutseason
 
-commands := report reserve sheet admit
+commands := report reserve sheet admit step
 programs := $(commands:%=target/bin/%)
 libraries := target/staticlib/libloader.a target/staticlib/libworkbench.a
 sources := crates.txt $(shell find crates -name '*.rt' -o -name '*.antt')
 explain := $(filter-out explain/test_% explain/stored.py,$(wildcard explain/*.*))
+step := $(filter-out step/test_%,$(wildcard step/*.py))
 
 # Two runs of rt at once would disturb each other's records.
 .NOTPARALLEL:
@@ -34,10 +35,11 @@ target/staticlib/lib%.a: $(sources)
 # The folder of an earlier installation goes, so that nothing of it is left. The command is found through a link.
 install: all
 	rm -rf "$(DESTDIR)$(home)"
-	install -d "$(DESTDIR)$(home)/bin" "$(DESTDIR)$(home)/explain" "$(DESTDIR)$(home)/help" "$(DESTDIR)$(bindir)"
+	install -d "$(DESTDIR)$(home)/bin" "$(DESTDIR)$(home)/explain" "$(DESTDIR)$(home)/step" "$(DESTDIR)$(home)/help" "$(DESTDIR)$(bindir)"
 	install $(programs) "$(DESTDIR)$(home)/bin"
 	install nutseason "$(DESTDIR)$(home)"
 	install -m 644 $(explain) "$(DESTDIR)$(home)/explain"
+	install -m 644 $(step) "$(DESTDIR)$(home)/step"
 	install -m 644 $(wildcard help/*) "$(DESTDIR)$(home)/help"
 	./nutseason version | sed '1s/^nutseason //' | install -m 644 /dev/stdin "$(DESTDIR)$(home)/VERSION"
 	ln -sfr "$(DESTDIR)$(home)/nutseason" "$(DESTDIR)$(bindir)/nutseason"

@@ -58,7 +58,7 @@ def unsafe(file, text, report, model, search):
     lines = lines_of(report, model)
     main = [player(text, lines, model), steps_section(lines, model),
             clause_section("What breaks", sentences.BREAKS, model.keep,
-                           judged(report, model), sentences.held,
+                           judged(lines[-1].after, model), sentences.held,
                            sentences.COPIES),
             search_section(search),
             f"<script>\n{part('page.js')}</script>"]

@@ -43,7 +43,7 @@ def unsafe(file, text, report, model, search):
             f"{sentences.unsafe(report.steps)}",
             "", *table(lines, model), *notes(text, lines, model),
             "", sentences.BREAKS,
-            *clause(model.keep, judged(report, model), sentences.held),
+            *kept(lines[-1].after, model),
             "", sentences.COPIES, "", sentences.search(search)]
 
 
@@ -121,6 +121,11 @@ def stars(text, lines, model):
                      position(text, star.place), star.within]
                     for command in model.commands if command.name in names
                     for star in command.stars])
+
+
+def kept(state, model):
+    """How `keep` and its parts stand in a state."""
+    return clause(model.keep, judged(state, model), sentences.held)
 
 
 def clause(said, parts, how):

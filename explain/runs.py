@@ -1,5 +1,5 @@
 """A breaking run for a person: each step with its choices and every name's
-value before and after it, and what its last state breaks."""
+value before and after it, and what a state breaks."""
 
 from dataclasses import dataclass
 
@@ -24,7 +24,7 @@ class Line:
 
 @dataclass(frozen=True)
 class Judged:
-    """One part of `keep` with its value in the last state."""
+    """One part of `keep` with its value in a state."""
 
     part: str
     quote: str
@@ -56,8 +56,9 @@ def choices(command, word):
                     for star in command.stars)
 
 
-def judged(report, model):
-    values = dict(zip(model.names, bits(report.states[-1], model)))
+def judged(state, model):
+    """Both parts of `keep` in a state, which is given by its bits."""
+    values = dict(zip(model.names, state))
     return [Judged(part, quoted(tokens), value(tokens, values) == 1,
                    used(tokens, values))
             for part, tokens in (("shared part", model.keep.shared),
