@@ -44,6 +44,7 @@ use Rattle.sheets.specs.SheetTexts.{AreBytes}
 use Rattle.player.specs.declared.record.Player.{Player}
 use Rattle.player.specs.declared.record.Answer.{Answer}
 use Rattle.player.specs.declared.record.Move.{Move}
+-- the three types: P is Player, S what is said, Answer, and N what is new, Move
 use Rattle.player.proofs.record.Player as P
 use Rattle.player.proofs.record.Player.Laws as P′
 use Rattle.player.proofs.record.Answer as S
@@ -76,8 +77,8 @@ abbrev stayed : Stays (f.ended .signature .params) (f.ended .kept)
 stayed = (stay-dropped (plain (λ _. P.the-row)) yes, (stay-dropped (shrSliceOf (0 ∷ []) tt (plain (λ _. u8))) yes, (stay-dropped (shrSliceOf (1 ∷ []) tt (plain (λ _. u8))) yes, tt)))
 
 -- the contract of the function by value
-abbrev pub Value : {M : Type 1} (𝓤 : URA M) (mv : Moves) → Clauses 𝓤 f.ended
-Value 𝓤 mv κs a = record { ghost = Unit {0}; requires = λ _. emp 𝓤; ensures = λ _ r _. fact 𝓤 ((r ≡ mv (now (a .1 .0)) (now (a .1 .1 .0)) (a .0)) × AreBytes (now (a .1 .1 .0))) }
+abbrev pub Value : {M : Type 1} (𝓤 : URA M) (moves : Moves) → Clauses 𝓤 f.ended
+Value 𝓤 moves κs a = record { ghost = Unit {0}; requires = λ _. emp 𝓤; ensures = λ _ r _. fact 𝓤 ((r ≡ moves (now (a .1 .0)) (now (a .1 .1 .0)) (a .0)) × AreBytes (now (a .1 .1 .0))) }
 
 -- a record in a local, as a lender has it, and back
 module _ {M : Type 1} (𝓤 : URA M) (H : Heap 𝓤) (A : Atoms 𝓤) (W : Given 𝓤 H A) (h : Player) (b : ℕ) where
@@ -93,7 +94,7 @@ module _ {M : Type 1} (𝓤 : URA M) (H : Heap 𝓤) (A : Atoms 𝓤) (W : Given
       qed W (‵ (mem P.the-row .lies h b 0) ∷ []) ∵ fpick ! (λ vs. fsplit ! $ spelt ! P.the-row (Is P.the-row) (shows 𝓤 H A P.the-row) (LL.vals P.the-type P′.the-laws) (LL.tells P.the-type P′.the-laws) fullShare h vs b 0 $
       use1 W (‵ (fat fullShare P′.mir b 0 (P′.lowered h))) (W .laws .raw-at fullShare P′.mir b 0 (P′.lowered h)) $ done !)
 
-module _ {M : Type 1} (𝓤 : URA M) (H : Heap 𝓤) (A : Atoms 𝓤) (W : Given 𝓤 H A) (mv : Moves) (κ₁ κ₂ : Lft) (q₁ q₂ : Share) (h : Player) (text sheet : RefT (List ℕ)) where
+module _ {M : Type 1} (𝓤 : URA M) (H : Heap 𝓤) (A : Atoms 𝓤) (W : Given 𝓤 H A) (moves : Moves) (κ₁ κ₂ : Lft) (q₁ q₂ : Share) (h : Player) (text sheet : RefT (List ℕ)) where
   abbrev s₁ : Val
   s₁ = sliceVal (text .ptr) (length (text .now))
 
@@ -107,7 +108,7 @@ module _ {M : Type 1} (𝓤 : URA M) (H : Heap 𝓤) (A : Atoms 𝓤) (W : Given
   at = (P′.lowered h ∷ [], (s₁ ∷ [], (s₂ ∷ [], tt)))
 
   abbrev m : Move
-  m = mv (text .now) (sheet .now) h
+  m = moves (text .now) (sheet .now) h
 
   abbrev Tokens : SProp 𝓤
   Tokens = alive 𝓤 H A f.signature (κ₁, (κ₂, tt)) (q₁, (q₂, tt))
@@ -116,21 +117,21 @@ module _ {M : Type 1} (𝓤 : URA M) (H : Heap 𝓤) (A : Atoms 𝓤) (W : Given
   mach = LL.val N.the-type N′.the-laws m
 
   abbrev Post : Val → SProp 𝓤
-  Post = walkOf 𝓤 H A f.ended stayed (Value 𝓤 mv) .post (((κ₁, (κ₂, tt)), (q₁, (q₂, tt)), tt, x, at), tt)
+  Post = walkOf 𝓤 H A f.ended stayed (Value 𝓤 moves) .post (((κ₁, (κ₂, tt)), (q₁, (q₂, tt)), tt, x, at), tt)
 
   exits : Is N.the-row m (mach ∷ []) → AreBytes (sheet .now) → ent 𝓤 (⋆ 𝓤 H A (raw Tokens ∷ [])) (Post mach)
   exits is are-bytes =
-      qed W (raw Tokens ∷ []) ∵ suffices ! _ (ends-at 𝓤 H A f.ended stayed (Value 𝓤 mv) W (((κ₁, (κ₂, tt)), (q₁, (q₂, tt)), tt, x, at), tt) mach m (tt, (tt, (tt, tt))) (tt, (tt, (tt, tt)))) $ says ! (refl, are-bytes) $
+      qed W (raw Tokens ∷ []) ∵ suffices ! _ (ends-at 𝓤 H A f.ended stayed (Value 𝓤 moves) W (((κ₁, (κ₂, tt)), (q₁, (q₂, tt)), tt, x, at), tt) mach m (tt, (tt, (tt, tt))) (tt, (tt, (tt, tt)))) $ says ! (refl, are-bytes) $
       frame ! $ nothing ! $ nothing ! $ fjoin ! $ nothing ! $ fjoin ! $ nothing ! $ fjoin ! $ frame ! $ owned ! N.the-row (Is N.the-row) (LL.makes N.the-type N′.the-plain 𝓤 H A) m _ is $ done !
 
   abbrev lent-at : ℕ → GName → RefT Player
   lent-at l δ = record { ptr = (l, 0); name = δ; now = h }
 
-  abbrev to : ℕ → ℕ → GName → OnOf 𝓤 H A mv .Ghost
+  abbrev to : ℕ → ℕ → GName → OnOf 𝓤 H A moves .Ghost
   to l ν δ = (((ν ∷ [], (κ₁, (κ₂, tt))), (fullShare, (q₁, (q₂, tt))), tt, (lent-at l δ, (text, (sheet, tt))), (vptr l 0 ∷ [], (s₁ ∷ [], (s₂ ∷ [], tt)))), tt)
 
   goes : (l ν : ℕ) (δ : GName) → ent 𝓤 (sep 𝓤 (sep 𝓤 (A .lft (ν ∷ []) fullShare) Tokens) (sep 𝓤 (sem 𝓤 H A (MutRef (named 0) (ν ∷ []) P.the-row .own (lent-at l δ) (vptr l 0 ∷ [])))
-      (sem 𝓤 H A (owns (ShrSlice (named 0) κ₁ u8 ∷ ShrSlice (named 1) κ₂ u8 ∷ []) (text, (sheet, tt)) (s₁ ∷ [], (s₂ ∷ [], tt)))))) (OnOf 𝓤 H A mv .pre (to l ν δ))
+      (sem 𝓤 H A (owns (ShrSlice (named 0) κ₁ u8 ∷ ShrSlice (named 1) κ₂ u8 ∷ []) (text, (sheet, tt)) (s₁ ∷ [], (s₂ ∷ [], tt)))))) (OnOf 𝓤 H A moves .pre (to l ν δ))
   goes l ν δ =
       qed W ((‵ (flft (ν ∷ []) fullShare) ⊛ raw Tokens) ∷ ‵ (MutRef (named 0) (ν ∷ []) P.the-row .own (lent-at l δ) (vptr l 0 ∷ [])) ∷ ‵ (owns (ShrSlice (named 0) κ₁ u8 ∷ ShrSlice (named 1) κ₂ u8 ∷ []) (text, (sheet, tt)) (s₁ ∷ [], (s₂ ∷ [], tt))) ∷ []) ∵
       move ! (1 ∷ 2 ∷ []) $ fjoin ! $ move ! (1 ∷ 0 ∷ []) $ join ! $ frame ! $ done !
@@ -138,7 +139,7 @@ module _ {M : Type 1} (𝓤 : URA M) (H : Heap 𝓤) (A : Atoms 𝓤) (W : Given
   made : Is P.the-row (m .player) (P′.lowered (m .player) ∷ []) → Is S.the-row (m .answer) (EL.vals S.the-type S′.the-laws (m .answer)) → Is N.the-row m (mach ∷ [])
   made is-p is-s = LL.owes N.the-type N′.the-laws m (is-p, (is-s, tt))
 
-  module _ (𝓣 : Tables 𝓤 H) (g : Name) (known : Triple 𝓤 (𝓣 .C g) (OnOf 𝓤 H A mv)) (is-h : Is P.the-row h (P′.lowered h ∷ [])) (is₁ : Is (ShrSlice (named 0) κ₁ u8) text (s₁ ∷ [])) (is₂ : Is (ShrSlice (named 1) κ₂ u8) sheet (s₂ ∷ [])) where
+  module _ (𝓣 : Tables 𝓤 H) (g : Name) (known : Triple 𝓤 (𝓣 .C g) (OnOf 𝓤 H A moves)) (is-h : Is P.the-row h (P′.lowered h ∷ [])) (is₁ : Is (ShrSlice (named 0) κ₁ u8) text (s₁ ∷ [])) (is₂ : Is (ShrSlice (named 1) κ₂ u8) sheet (s₂ ∷ [])) where
     walk : ent 𝓤 (onEntry 𝓤 H A f.signature (κ₁, (κ₂, tt)) (q₁, (q₂, tt)) x at) (WpFn 𝓤 H (𝓣 .C) (𝓣 .Λ) (codeOf g) (P′.lowered h ∷ s₁ ∷ s₂ ∷ []) Post)
     walk =
         qed W (raw Tokens ∷ ‵ (owns (P.the-row ∷ ShrSlice (named 0) κ₁ u8 ∷ ShrSlice (named 1) κ₂ u8 ∷ []) x at) ∷ []) ∵ enter ! (𝓣 .C) (𝓣 .Λ) (codeOf g) (P′.lowered h ∷ s₁ ∷ s₂ ∷ []) _ $
@@ -150,10 +151,10 @@ module _ {M : Type 1} (𝓤 : URA M) (H : Heap 𝓤) (A : Atoms 𝓤) (W : Given
         lft-new ! tt (λ ν. move ! (7 ∷ []) $ use1 W (‵ (mem P.the-row .lies h l₄ 0)) (lies-in 𝓤 H A W h l₄ is-h) $
         use1 W (later (some (λ (δ : GName). ‵ (MutRef (named 0) (ν ∷ []) P.the-row .own (lent-at l₄ δ) (vptr l₄ 0 ∷ [])) ⊛ ‵ (flent (ν ∷ []) (Body (mem P.the-row) l₄ 0 δ))))) (lends-ref 𝓤 H A W P.the-row (named 0) (ν ∷ []) h l₄ 0) $ await ! tt $ pick ! (λ δ. split ! $
         -- [the reference; the lender's part; ν's token; _7; …; _6; …; _5; …; that _4 dies; _3; …; _2; …; _1; …; room for _0; …; the tokens; what the parameters own]
-        move ! (19 ∷ []) $ fsplit ! $ drop ! $ move ! (3 ∷ 19 ∷ []) $ join ! $ move ! (0 ∷ 2 ∷ 1 ∷ []) $ use3 W (raw (OnOf 𝓤 H A mv .pre (to l₄ ν δ))) (goes l₄ ν δ) $
+        move ! (19 ∷ []) $ fsplit ! $ drop ! $ move ! (3 ∷ 19 ∷ []) $ join ! $ move ! (0 ∷ 2 ∷ 1 ∷ []) $ use3 W (raw (OnOf 𝓤 H A moves .pre (to l₄ ν δ))) (goes l₄ ν δ) $
         -- [what `forward` asks; the lender's part; _7; …; _6; …; _5; …; that _4 dies; _3; …; _2; …; _1; …; room for _0; …]
-        calls-at ! (fmOf 𝓤 H (W .laws) 𝓣) (OnOf 𝓤 H A mv) known (to l₄ ν δ) (and-then ! (load ! (from ! (stop !)) (look ! 4 refl)) (and-then ! (load ! (from ! (stop !)) (look ! 11 refl)) (and-then ! (load ! (from ! (stop !)) (look ! 9 refl)) (no-more !)))) (λ v.
-        use1 W (later (some (λ (r : Answer). ((‵ (flft (ν ∷ []) fullShare) ⊛ raw Tokens) ⊛ ‵ (S.the-row .own r (v ∷ []))) ⊛ raw (ensured 𝓤 H A on.ended (On 𝓤 mv) (ν ∷ [], (κ₁, (κ₂, tt))) (lent-at l₄ δ, (text, (sheet, tt))) tt r)))) (id⊢ 𝓤 _) $ await ! tt $ pick ! (λ r.
+        calls-at ! (fmOf 𝓤 H (W .laws) 𝓣) (OnOf 𝓤 H A moves) known (to l₄ ν δ) (and-then ! (load ! (from ! (stop !)) (look ! 4 refl)) (and-then ! (load ! (from ! (stop !)) (look ! 11 refl)) (and-then ! (load ! (from ! (stop !)) (look ! 9 refl)) (no-more !)))) (λ v.
+        use1 W (later (some (λ (r : Answer). ((‵ (flft (ν ∷ []) fullShare) ⊛ raw Tokens) ⊛ ‵ (S.the-row .own r (v ∷ []))) ⊛ raw (ensured 𝓤 H A on.ended (On 𝓤 moves) (ν ∷ [], (κ₁, (κ₂, tt))) (lent-at l₄ δ, (text, (sheet, tt))) tt r)))) (id⊢ 𝓤 _) $ await ! tt $ pick ! (λ r.
         split ! $ move ! (1 ∷ []) $ use1 W (some (λ (ws : Player × (Unit {0} × (Unit {0} × Unit {0}))). ‵ (lasts on.ended (ν ∷ [], (κ₁, (κ₂, tt))) (lent-at l₄ δ, (text, (sheet, tt))) ws) ⊛ raw (fact 𝓤 ((ws .0 ≡ m .player) × (r ≡ m .answer) × AreBytes (sheet .now))))) (id⊢ 𝓤 _) $ pick ! (λ ws.
         split ! $ move ! (1 ∷ []) $ heard ! ((ws .0 ≡ m .player) × (r ≡ m .answer) × AreBytes (sheet .now)) (λ e. fsplit ! $ rewrite ! 0 (λ (z : Player). ‵ (fres δ (P.the-row .coded .code z))) (e .0) refl $
         -- [what the record ended with; ..; the tokens and the result; the lender's part; the locals]
@@ -173,10 +174,10 @@ module _ {M : Type 1} (𝓤 : URA M) (H : Heap 𝓤) (A : Atoms 𝓤) (W : Given
         by ! (exits (made is-p (subst (Is S.the-row (m .answer)) (EL.tells S.the-type S′.the-laws (m .answer) _ is) is)) (e .2))))))))))))))))))
 
 -- the function by value meets its contract, where the one that it lends to meets its own
-pub by-value : {M : Type 1} (𝓤 : URA M) (H : Heap 𝓤) (A : Atoms 𝓤) (W : Given 𝓤 H A) (mv : Moves) (𝓣 : Tables 𝓤 H) (g : Name) → Triple 𝓤 (𝓣 .C g) (OnOf 𝓤 H A mv)
-    → Meets 𝓤 H A f.signature (WpFn 𝓤 H (𝓣 .C) (𝓣 .Λ) (codeOf g)) (closing 𝓤 H A f.ended (Value 𝓤 mv))
-by-value 𝓤 H A W mv 𝓣 g known =
+pub by-value : {M : Type 1} (𝓤 : URA M) (H : Heap 𝓤) (A : Atoms 𝓤) (W : Given 𝓤 H A) (moves : Moves) (𝓣 : Tables 𝓤 H) (g : Name) → Triple 𝓤 (𝓣 .C g) (OnOf 𝓤 H A moves)
+    → Meets 𝓤 H A f.signature (WpFn 𝓤 H (𝓣 .C) (𝓣 .Λ) (codeOf g)) (closing 𝓤 H A f.ended (Value 𝓤 moves))
+by-value 𝓤 H A W moves 𝓣 g known =
     walk-meets 𝓤 H A f.ended stayed W (goes-dropped 𝓤 H A W 2 (plain (λ _. P.the-row)) yes (λ κs x f. refl), (goes-dropped 𝓤 H A W 2 (shrSliceOf (0 ∷ []) tt (plain (λ _. u8))) yes (λ κs x f. refl), (goes-dropped 𝓤 H A W 2 (shrSliceOf (1 ∷ []) tt (plain (λ _. u8))) yes (λ κs x f. refl), tt)))
-    (Value 𝓤 mv) (WpFn 𝓤 H (𝓣 .C) (𝓣 .Λ) (codeOf g)) (WpFn-mono 𝓤 H (W .laws) 𝓣 (codeOf g))
-    (walked 𝓤 H A f.ended stayed (Value 𝓤 mv) (WpFn 𝓤 H (𝓣 .C) (𝓣 .Λ) (codeOf g)) (λ κs. (LL.vals P.the-type P′.the-laws, (slice-vals, (slice-vals, tt)))) (λ κs. (LL.tells P.the-type P′.the-laws, (shr-slice-tells (named 0) (κs .0) u8, (shr-slice-tells (named 1) (κs .1 .0) u8, tt))))
-    (λ κs qs bounds a _ are. via 𝓤 _ (fst∗ 𝓤 _ (emp 𝓤)) (walk 𝓤 H A W mv (κs .0) (κs .1 .0) (qs .0) (qs .1 .0) (a .0) (a .1 .0) (a .1 .1 .0) 𝓣 g known (are .0) (are .1 .0) (are .1 .1 .0))))
+    (Value 𝓤 moves) (WpFn 𝓤 H (𝓣 .C) (𝓣 .Λ) (codeOf g)) (WpFn-mono 𝓤 H (W .laws) 𝓣 (codeOf g))
+    (walked 𝓤 H A f.ended stayed (Value 𝓤 moves) (WpFn 𝓤 H (𝓣 .C) (𝓣 .Λ) (codeOf g)) (λ κs. (LL.vals P.the-type P′.the-laws, (slice-vals, (slice-vals, tt)))) (λ κs. (LL.tells P.the-type P′.the-laws, (shr-slice-tells (named 0) (κs .0) u8, (shr-slice-tells (named 1) (κs .1 .0) u8, tt))))
+    (λ κs qs bounds a _ are. via 𝓤 _ (fst∗ 𝓤 _ (emp 𝓤)) (walk 𝓤 H A W moves (κs .0) (κs .1 .0) (qs .0) (qs .1 .0) (a .0) (a .1 .0) (a .1 .1 .0) 𝓣 g known (are .0) (are .1 .0) (are .1 .1 .0))))
