@@ -19,7 +19,7 @@ use Rattle.conditions.specs.working.Judging.{outcomeOf}
 use Rattle.acceptance.proofs.TestMeans.{numbers-fit}
 use Rattle.player.specs.Places.{stateAt, StandsOn}
 use Rattle.player.specs.declared.record.Player.{Player}
-use Rattle.player.specs.working.Playing.{tracePassed, lastPlace, recordAt}
+use Rattle.player.specs.working.Playing.{tracePassed, lastPlace, header, recordAt}
 use Rattle.player.proofs.TracesPassed.{trace-there}
 
 -- As many steps as are read.
@@ -44,26 +44,26 @@ steps-state b q (suc n) (suc k) h =
 
 -- The trace as the bytes have it: start state and steps.
 pub record Contents (b : List ℕ) (s : ℕ) (xs : List TraceStep) : Type 0 where
-  pub start : s ≡ recordAt b 0 .state
-  pub steps : xs ≡ stepsIn b 17 (lastPlace b)
+  pub start : s ≡ recordAt header b 0 .state
+  pub steps : xs ≡ stepsIn b 17 (lastPlace header b)
 
 module _ {b : List ℕ} {s : ℕ} {xs : List TraceStep} (C : Contents b s xs) where
-  pub contents-length : length xs ≡ lastPlace b
-  contents-length = ap length (C .steps) ∙ steps-length b 17 (lastPlace b)
+  pub contents-length : length xs ≡ lastPlace header b
+  contents-length = ap length (C .steps) ∙ steps-length b 17 (lastPlace header b)
 
-  pub contents-state : (k : ℕ) → k ≤ lastPlace b → stateAt s xs k ≡ recordAt b k .state
+  pub contents-state : (k : ℕ) → k ≤ lastPlace header b → stateAt s xs k ≡ recordAt header b k .state
   contents-state k h =
       ap (λ (t : ℕ). lastOf t (take k xs)) (C .start)
       ∙ ap (λ (ys : List TraceStep). lastOf (twoAt b 15) (take k ys)) (C .steps)
-      ∙ steps-state b 15 (lastPlace b) k h
+      ∙ steps-state b 15 (lastPlace header b) k h
 
   -- A record stands on the trace where the bytes have its state at its place.
-  pub stands-here : (p : Player) → StandsOn s xs p → (p .place ≤ lastPlace b) × (p .state ≡ recordAt b (p .place) .state)
+  pub stands-here : (p : Player) → StandsOn s xs p → (p .place ≤ lastPlace header b) × (p .state ≡ recordAt header b (p .place) .state)
   stands-here p S =
-      let h : p .place ≤ lastPlace b = subst (λ (n : ℕ). p .place ≤ n) contents-length (S .place) in
+      let h : p .place ≤ lastPlace header b = subst (λ (n : ℕ). p .place ≤ n) contents-length (S .place) in
       (h, S .state ∙ contents-state (p .place) h)
 
-  pub here-stands : (p : Player) → p .place ≤ lastPlace b → p .state ≡ recordAt b (p .place) .state → StandsOn s xs p
+  pub here-stands : (p : Player) → p .place ≤ lastPlace header b → p .state ≡ recordAt header b (p .place) .state → StandsOn s xs p
   here-stands p h e =
       record { place = subst (λ (n : ℕ). p .place ≤ n) (sym contents-length) h; state = e ∙ sym (contents-state (p .place) h) }
 

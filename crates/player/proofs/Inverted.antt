@@ -1,6 +1,6 @@
 -- What is known where a move moved, and where it did not.
 -- Assumes nothing.
-use mathlib.Core.Path.{_≡_, refl}
+use mathlib.Core.Path.{_≡_, refl, sym, ap, _∙_}
 use mathlib.Core.Logic.{_⊎_, inl, inr}
 use mathlib.Core.Bool.{Bool, true, false, cond}
 use mathlib.Core.List.{List}
@@ -18,8 +18,9 @@ use Rattle.player.specs.declared.record.Player.{Player}
 use Rattle.player.specs.declared.record.Direction.{Direction}
 use Rattle.player.specs.declared.record.Direction.the-variants.{Forward, Back, Beginning}
 use Rattle.player.specs.declared.record.Answer.the-variants as A
-use Rattle.player.specs.working.Playing.{tracePassed, lastPlace, recordAt, stays, ledTo, moveIn, moveAfter, moveOf}
-use Rattle.player.proofs.MoveLaws.{first-place, last-place}
+use Rattle.player.specs.declared.record.Move.{Move}
+use Rattle.player.specs.working.Playing.{tracePassed, lastPlace, header, recordAt, stays, ledTo, moveIn, moveAfter}
+use Rattle.player.proofs.MoveLaws.{first-place, last-place, move-by-outcome}
 
 -- A step forward or back that leads somewhere.
 by-test : (x : Bool) (j k : ℕ) → cond x (some j) none ≡ some k → (x ≡ true) × (k ≡ j)
@@ -58,7 +59,7 @@ ends-tell d n k = (ends d n k, at-ends d n k)
 
 -- What was found where a move moved: each test that comes before it passed, and it leads to a place.
 by-tests : (b : List ℕ) (p : Player) (o : Outcome) (t x y : Bool) (u : Option ℕ)
-    → wordingOf (cond t (cond x (cond y (ledTo b p u) (stays p A.Foreign)) (stays p A.Foreign)) (stays p (A.Told o)) .answer) ≡ moved
+    → wordingOf (cond t (cond x (cond y (ledTo header b p u) (stays p A.Foreign)) (stays p A.Foreign)) (stays p (A.Told o)) .answer) ≡ moved
     → (t ≡ true) × (x ≡ true) × (y ≡ true) × ((k : ℕ) × (u ≡ some k))
 unfolding wordingOf ledTo
 by-tests b p o true true true (some k) e = (refl, refl, refl, (k, refl))
@@ -69,22 +70,23 @@ by-tests b p o false x y u e = let z : _≡_ {A = ℕ} 0 1 = cc in absurd (omega
 
 pub record HasMoved (d : Direction) (text b : List ℕ) (p : Player) : Type 0 where
   pub passed : tracePassed (testOf text b) ≡ true
-  pub place : p .place ≤ lastPlace b
-  pub state : p .state ≡ recordAt b (p .place) .state
+  pub place : p .place ≤ lastPlace header b
+  pub state : p .state ≡ recordAt header b (p .place) .state
   pub target : ℕ
-  pub leading : leads d (lastPlace b) (p .place) ≡ some target
+  pub leading : leads d (lastPlace header b) (p .place) ≡ some target
 
 pub has-moved : (d : Direction) (text b : List ℕ) (p : Player) → answerOf d text b p ≡ moved → HasMoved d text b p
-unfolding moveOf moveAfter moveIn
+unfolding moveAfter moveIn
 has-moved d text b p e =
-    let t = by-tests b p (testOf text b) (tracePassed (testOf text b)) (leb (p .place) (lastPlace b)) (eqb (p .state) (recordAt b (p .place) .state))
-    (leads d (lastPlace b) (p .place)) e in
+    let t =
+    by-tests b p (testOf text b) (tracePassed (testOf text b)) (leb (p .place) (lastPlace header b)) (eqb (p .state) (recordAt header b (p .place) .state))
+    (leads d (lastPlace header b) (p .place)) (sym (ap (λ (m : Move). wordingOf (m .answer)) (move-by-outcome text b d p)) ∙ e) in
     record { passed = t .0; place = leb-true _ _ (t .1); state = eqb-true _ _ (t .2); target = t .3 .0; leading = t .3 .1 }
 
 -- And where it did not, the record is what it was.
 stays-by-tests : (b : List ℕ) (p : Player) (o : Outcome) (t x y : Bool) (u : Option ℕ)
-    → ¬ (wordingOf (cond t (cond x (cond y (ledTo b p u) (stays p A.Foreign)) (stays p A.Foreign)) (stays p (A.Told o)) .answer) ≡ moved)
-    → cond t (cond x (cond y (ledTo b p u) (stays p A.Foreign)) (stays p A.Foreign)) (stays p (A.Told o)) .player ≡ p
+    → ¬ (wordingOf (cond t (cond x (cond y (ledTo header b p u) (stays p A.Foreign)) (stays p A.Foreign)) (stays p (A.Told o)) .answer) ≡ moved)
+    → cond t (cond x (cond y (ledTo header b p u) (stays p A.Foreign)) (stays p A.Foreign)) (stays p (A.Told o)) .player ≡ p
 unfolding wordingOf ledTo
 stays-by-tests b p o true true true (some k) h = absurd (h refl)
 stays-by-tests b p o true true true none h = refl
@@ -93,7 +95,9 @@ stays-by-tests b p o true false y u h = refl
 stays-by-tests b p o false x y u h = refl
 
 pub records-stay : RecordsStay
-unfolding moveOf moveAfter moveIn
+unfolding moveAfter moveIn
 records-stay text b d p h =
-    stays-by-tests b p (testOf text b) (tracePassed (testOf text b)) (leb (p .place) (lastPlace b)) (eqb (p .state) (recordAt b (p .place) .state))
-    (leads d (lastPlace b) (p .place)) h
+    let e = move-by-outcome text b d p in
+    ap (λ (m : Move). m .player) e
+    ∙ stays-by-tests b p (testOf text b) (tracePassed (testOf text b)) (leb (p .place) (lastPlace header b)) (eqb (p .state) (recordAt header b (p .place) .state))
+    (leads d (lastPlace header b) (p .place)) (λ f. h (ap (λ (m : Move). wordingOf (m .answer)) e ∙ f))

@@ -1,6 +1,6 @@
 -- What opening and moves answer to every text, all bytes and every record, in words.
 -- Assumes nothing.
-use mathlib.Core.Path.{_≡_, refl, sym, ap, _∙_}
+use mathlib.Core.Path.{_≡_, refl, sym, ap, _∙_, subst}
 use mathlib.Core.Logic.{_⊎_, inl, inr, ⊎-elim}
 use mathlib.Core.Bool.{Bool, true, false, cond}
 use mathlib.Core.List.{List}
@@ -34,9 +34,10 @@ use Rattle.player.specs.declared.record.Direction.{Direction}
 use Rattle.player.specs.declared.record.Direction.the-variants.{Forward, Back, Beginning}
 use Rattle.player.specs.declared.record.Answer.the-variants as A
 use Rattle.player.specs.declared.record.Move.{Move}
+use Rattle.player.specs.declared.record.Opened.{Opened}
 use Rattle.player.specs.declared.record.Opened.the-variants as O
-use Rattle.player.specs.working.Playing.{tracePassed, lastPlace, recordAt, stays, ledTo, moveIn, moveAfter, moveOf, openAfter, openOf}
-use Rattle.player.proofs.MoveLaws.{at-end, stands, move-told, move-passed, open-told, open-passed}
+use Rattle.player.specs.working.Playing.{tracePassed, lastPlace, header, recordAt, stays, ledTo, moveIn, moveAfter, moveOf, openAfter}
+use Rattle.player.proofs.MoveLaws.{at-end, stands, move-by-outcome, open-by-outcome, move-told, move-passed, open-told, open-passed}
 use Rattle.player.proofs.Contents.{Contents, contents-length, contents-state, stands-here, here-stands, contents-said}
 use Rattle.player.proofs.Inverted.{forward-leads, back-leads, beginning-leads}
 use Rattle.player.proofs.Restored.{arrived, goes-to}
@@ -64,10 +65,10 @@ fails-test true true m n h = absurd (h (refl, refl))
 fails-test true false m n h = refl
 fails-test false y m n h = refl
 
-stands-nowhere : (d : Direction) (b : List ℕ) (p : Player) → ¬ ((p .place ≤ lastPlace b) × (p .state ≡ recordAt b (p .place) .state)) → moveIn d b p ≡ stays p A.Foreign
+stands-nowhere : (d : Direction) (b : List ℕ) (p : Player) → ¬ ((p .place ≤ lastPlace header b) × (p .state ≡ recordAt header b (p .place) .state)) → moveIn header d b p ≡ stays p A.Foreign
 unfolding moveIn
 stands-nowhere d b p h =
-    fails-test (leb (p .place) (lastPlace b)) (eqb (p .state) (recordAt b (p .place) .state)) _ _ (λ t. h (leb-true _ _ (t .0), eqb-true _ _ (t .1)))
+    fails-test (leb (p .place) (lastPlace header b)) (eqb (p .state) (recordAt header b (p .place) .state)) _ _ (λ t. h (leb-true _ _ (t .0), eqb-true _ _ (t .1)))
 
 -- No move leads beyond the last place.
 pub leads-within : (d : Direction) (n k j : ℕ) → k ≤ n → leads d n k ≡ some j → j ≤ n
@@ -82,7 +83,7 @@ module _ (text b : List ℕ) (passed : tracePassed (testOf text b) ≡ true) {s 
   both-told m w e f = (ap (λ (n : Move). wordingOf (n .answer)) e ∙ f, ap (λ (n : Move). n .player) e)
 
   -- Where it leads, over the trace and over the bytes.
-  same-lead : leads d (length xs) (p .place) ≡ leads d (lastPlace b) (p .place)
+  same-lead : leads d (length xs) (p .place) ≡ leads d (lastPlace header b) (p .place)
   same-lead = ap (λ (n : ℕ). leads d n (p .place)) (contents-length C)
 
   pub told-elsewhere : ¬ (StandsOn s xs p) → (answerOf d text b p ≡ foreign) × (recordAfter d text b p ≡ p)
@@ -95,7 +96,7 @@ module _ (text b : List ℕ) (passed : tracePassed (testOf text b) ≡ true) {s 
   told-nowhere S l =
       let t = stands-here C p S in
       both-told (stays p A.AtEnd) atEnd
-      (move-passed text b passed d p ∙ stands d b p (t .0) (t .1) ∙ sym (at-end b p (leads d (lastPlace b) (p .place)) (sym same-lead ∙ l)))
+      (move-passed text b passed d p ∙ stands d b p (t .0) (t .1) ∙ sym (at-end b p (leads d (lastPlace header b) (p .place)) (sym same-lead ∙ l)))
       refl
 
   pub told-somewhere : StandsOn s xs p → (k : ℕ) → leads d (length xs) (p .place) ≡ some k
@@ -103,9 +104,9 @@ module _ (text b : List ℕ) (passed : tracePassed (testOf text b) ≡ true) {s 
   unfolding wordingOf
   told-somewhere S k l =
       let t = stands-here C p S in
-      let e : leads d (lastPlace b) (p .place) ≡ some k = sym same-lead ∙ l in
+      let e : leads d (lastPlace header b) (p .place) ≡ some k = sym same-lead ∙ l in
       let u = both-told (arrived b k) moved (goes-to d text b p passed (t .0) (t .1) k e) refl in
-      let f = contents-state C k (leads-within d (lastPlace b) (p .place) k (t .0) e) in
+      let f = contents-state C k (leads-within d (lastPlace header b) (p .place) k (t .0) e) in
       (u .0, u .1 ∙ ap (λ (r : ℕ). record { place = k; state = r }) (sym f))
 
   pub on-trace : MoveOnTrace s xs d p (answerOf d text b p) (recordAfter d text b p)
@@ -131,7 +132,7 @@ openings-tell text m says b hb =
     record {
       onTrace = λ holds.
           let (s, xs, w, t) = the-trace text m says b hb holds in
-          let e : O.At (recordAt b 0) ≡ O.At (record { place = 0; state = s }) = ap (λ (r : ℕ). O.At (record { place = 0; state = r })) (sym (t .0 .start)) in
+          let e : O.At (recordAt header b 0) ≡ O.At (record { place = 0; state = s }) = ap (λ (r : ℕ). O.At (record { place = 0; state = r })) (sym (t .0 .start)) in
           (s, xs, w, ap openingFor (open-passed text b (test-passed text m says b hb holds) ∙ e));
       noTrace = λ h. ap openingFor (open-told text b (not-passed text b h));
     }
@@ -157,13 +158,13 @@ refusal-tells text n i r b =
     )
 
 -- Only what is told of the test has numbers.
-opening-bounded : (o : Outcome) (b : List ℕ) (x : Bool) → BoundedOpening (unopened (W.wordingOf o)) → BoundedOpening (openingFor (cond x (O.At (recordAt b 0)) (O.Told o)))
+opening-bounded : (o : Outcome) (b : List ℕ) (x : Bool) → BoundedOpening (unopened (W.wordingOf o)) → BoundedOpening (openingFor (cond x (O.At (recordAt header b 0)) (O.Told o)))
 unfolding openingFor
 opening-bounded o b true h = tt
 opening-bounded o b false h = h
 
 move-bounded : (o : Outcome) (b : List ℕ) (p : Player) (t x y : Bool) (u : Option ℕ) → Bounded (told (W.wordingOf o))
-    → Bounded (wordingOf (cond t (cond x (cond y (ledTo b p u) (stays p A.Foreign)) (stays p A.Foreign)) (stays p (A.Told o)) .answer))
+    → Bounded (wordingOf (cond t (cond x (cond y (ledTo header b p u) (stays p A.Foreign)) (stays p A.Foreign)) (stays p (A.Told o)) .answer))
 unfolding wordingOf ledTo
 move-bounded o b p true true true (some k) h = tt
 move-bounded o b p true true true none h = tt
@@ -172,9 +173,11 @@ move-bounded o b p true false y u h = tt
 move-bounded o b p false x y u h = h
 
 pub players-bounded : PlayersBounded
-unfolding openOf openAfter moveOf moveAfter moveIn
+unfolding openAfter moveAfter moveIn
 players-bounded text b = (
-  opening-bounded (testOf text b) b (tracePassed (testOf text b)) (answers-bounded text b),
-  λ d p. move-bounded (testOf text b) b p (tracePassed (testOf text b)) (leb (p .place) (lastPlace b)) (eqb (p .state) (recordAt b (p .place) .state))
-      (leads d (lastPlace b) (p .place)) (answers-bounded text b),
+  subst (λ (o : Opened). BoundedOpening (openingFor o)) (sym (open-by-outcome text b))
+      (opening-bounded (testOf text b) b (tracePassed (testOf text b)) (answers-bounded text b)),
+  λ d p. subst (λ (m : Move). Bounded (wordingOf (m .answer))) (sym (move-by-outcome text b d p))
+      (move-bounded (testOf text b) b p (tracePassed (testOf text b)) (leb (p .place) (lastPlace header b)) (eqb (p .state) (recordAt header b (p .place) .state))
+      (leads d (lastPlace header b) (p .place)) (answers-bounded text b)),
 )

@@ -5,9 +5,9 @@ use Rattle.acceptance.proofs.TestCases.{answering}
 use Rattle.player.specs.Places.{leads}
 use Rattle.player.specs.Answers.{wordingOf, openingFor}
 use Rattle.player.specs.Cases.{cases, AllCases}
-use Rattle.player.specs.working.Playing.{ledTo, moveIn, moveAfter, moveOf, openAfter, openOf}
+use Rattle.player.specs.working.Playing.{ledTo, moveIn, moveAfter, moveFor, moveOf, openAfter, openFor, openOf}
 
 pub all-cases : AllCases
-unfolding answering leads wordingOf openingFor cases ledTo moveIn moveAfter moveOf openAfter openOf
+unfolding answering leads wordingOf openingFor cases ledTo moveIn moveAfter moveFor moveOf openAfter openFor openOf
 all-cases =
     (refl, ((refl, refl), ((refl, refl), ((refl, refl), ((refl, refl), ((refl, refl), ((refl, refl), ((refl, refl), ((refl, refl), ((refl, refl), ((refl, refl), ((refl, refl), ((refl, refl), ((refl, refl), ((refl, refl), ((refl, refl), ((refl, refl), (refl, ((refl, refl), ((refl, refl), ((refl, refl), (refl, (refl, (refl, ((refl, refl), ((refl, refl), ((refl, refl), (refl, ((refl, refl), (refl, ((refl, refl), tt)))))))))))))))))))))))))))))))

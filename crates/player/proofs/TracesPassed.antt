@@ -21,7 +21,7 @@ use Rattle.conditions.specs.declared.outcome.Outcome.the-variants.{SafeHolds, V
 use Rattle.conditions.specs.working.Judging.{passedAnswer, mapAnswer, outcomeOf}
 use Rattle.acceptance.specs.working.Test.{testIn, testOf}
 use Rattle.acceptance.proofs.TestWhole.{whole-refused, whole-map, trace-stands, trace-short}
-use Rattle.player.specs.working.Playing.{tracePassed, lastPlace}
+use Rattle.player.specs.working.Playing.{tracePassed, lastPlace, header}
 
 -- No outcome for a map is that of a trace.
 map-chain : (a b c v : Bool) → tracePassed (cond a (cond b (cond c (cond v Void SafeHolds) FailsC) FailsB) FailsA) ≡ false
@@ -61,7 +61,7 @@ steps-room states commands stars b p (suc n) h S =
 
 -- All steps of the trace end within the sheet, which is not too long.
 pub record HasTrace (b : List ℕ) : Type 0 where
-  pub room : 17 + 10 * lastPlace b ≤ length b
+  pub room : 17 + 10 * lastPlace header b ≤ length b
   pub short : length b ≤ 65536
 
 model-passed : (M : System) → headerLength M ≡ 9 → (b : List ℕ) → tracePassed (outcomeOf M b) ≡ true → HasTrace b

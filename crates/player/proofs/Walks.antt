@@ -16,13 +16,13 @@ use Rattle.meaning.specs.OneRow.{TraceStep, spread, spreadStep, lastOf}
 use Rattle.meaning.proofs.Parametric.{traces-hold}
 use Rattle.conditions.specs.declared.outcome.Outcome.{Outcome}
 use Rattle.acceptance.specs.Promises.{answerTo}
-use Rattle.acceptance.specs.working.Test.{testIn, testOf}
+use Rattle.acceptance.specs.working.Test.{testOf}
 use Rattle.player.specs.Places.{StandsOn, leads}
 use Rattle.player.specs.Answers.{moved, atEnd, opened, openingFor, wordingOf}
 use Rattle.player.specs.Promises.{openingOf, answerOf, recordAfter, TracePassed, recordAfterAll, StandingTells, WalksTell, PlayedWithoutCase}
 use Rattle.player.specs.declared.record.Player.{Player}
 use Rattle.player.specs.declared.record.Direction.{Direction}
-use Rattle.player.specs.working.Playing.{tracePassed, recordAt, openAfter, openOf, moveAfter, moveOf}
+use Rattle.player.specs.working.Playing.{tracePassed, header, recordAt, openFor, openOf, moveFor, moveOf}
 use Rattle.player.proofs.MoveLaws.{open-told, open-passed}
 use Rattle.player.proofs.Contents.{Contents, here-stands}
 use Rattle.player.proofs.MovesTold.{either-way, leads-within, told-nowhere, told-somewhere, test-passed, the-trace}
@@ -80,7 +80,7 @@ opened-holds text b p e =
     ⊎-elim (λ h. h) (λ f. let q = open-told text b f in let z : _≡_ {A = ℕ} 0 1 = cc in absurd (omega arith)) (either-way (testOf text b))
 
 -- And the record is the one at the beginning.
-opened-at : (text b : List ℕ) (p : Player) → openingOf text b ≡ opened p → tracePassed (testOf text b) ≡ true → p ≡ recordAt b 0
+opened-at : (text b : List ℕ) (p : Player) → openingOf text b ≡ opened p → tracePassed (testOf text b) ≡ true → p ≡ recordAt header b 0
 unfolding openingFor
 opened-at text b p e passed = let q = open-passed text b passed in cc
 
@@ -89,14 +89,14 @@ walks-tell text m says b hb p e ds =
     let holds = opened-holds text b p e in
     let passed = test-passed text m says b hb holds in
     let (s, xs, w, t) = the-trace text m says b hb holds in
-    let first : StandsOn s xs p = subst (StandsOn s xs) (sym (opened-at text b p e passed)) (here-stands (t .0) (recordAt b 0) (omega arith) refl) in
+    let first : StandsOn s xs p = subst (StandsOn s xs) (sym (opened-at text b p e passed)) (here-stands (t .0) (recordAt header b 0) (omega arith) refl) in
     let S = stands-after-all text b passed (t .0) ds p first in
     (s, xs, w, record { stands = S; overRows = standing-tells m s xs (t .1) (recordAfterAll ds text b p) S; goesOn = λ d. goes-on text b passed (t .0) d (recordAfterAll ds text b p) S })
 
 pub played-without-case : PlayedWithoutCase
-unfolding testOf openOf moveOf
+unfolding openOf moveOf
 played-without-case text other r b =
-    let e : testOf text b ≡ testOf other b = ap (λ (o : N.Outcome). testIn o b) (answers-recased r) in (
-      ap (λ (o : Outcome). openingFor (openAfter o b)) e,
-      λ d p. (ap (λ (o : Outcome). wordingOf (moveAfter o d b p .answer)) e, ap (λ (o : Outcome). moveAfter o d b p .player) e),
+    let e = answers-recased r in (
+      ap (λ (x : N.Outcome). openingFor (openFor x b)) e,
+      λ d p. (ap (λ (x : N.Outcome). wordingOf (moveFor x d b p .answer)) e, ap (λ (x : N.Outcome). moveFor x d b p .player) e),
     )

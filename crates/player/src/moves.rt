@@ -6,7 +6,7 @@ ghost use Rattle.sheets.specs.SheetTexts.{AreBytes};
 ghost use Rattle.player.specs.Places.{leads};
 ghost use Rattle.player.specs.declared.record.Answer.the-variants.{Moved};
 ghost use Rattle.player.specs.declared.record.Direction.the-variants.{Forward, Back, Beginning};
-ghost use Rattle.player.specs.working.Playing.{tracePassed, recordAt, stays, ledTo, moveOf, openOf};
+ghost use Rattle.player.specs.working.Playing.{tracePassed, header, recordAt, stays, ledTo, moveOf, openOf};
 use crate::record::Answer;
 use crate::record::Direction;
 use crate::record::Move;
@@ -39,7 +39,7 @@ fn trace_passed(outcome: Outcome) -> bool
 // The record at a place of the trace in a sheet. The start state ends ten bytes before the state after the first step, and so on from step to step.
 fn record_at(sheet: &[u8], place: usize) -> Player
     requires { ⌜ (17 + 10 * place ≤ length (now sheet)) × (length (now sheet) ≤ 65536) ⌝ }
-    ensures { λ r. ⌜ r ≡ recordAt (now (sheet .entry)) place ⌝ }
+    ensures { λ r. ⌜ r ≡ recordAt header (now (sheet .entry)) place ⌝ }
 {
     let state = two_at(sheet, HEADER + 6 + 10 * place);
     Player {
@@ -51,7 +51,7 @@ fn record_at(sheet: &[u8], place: usize) -> Player
 // The record moved to a place.
 fn moved_to(sheet: &[u8], place: usize) -> Move
     requires { ⌜ (17 + 10 * place ≤ length (now sheet)) × (length (now sheet) ≤ 65536) ⌝ }
-    ensures { λ r. ⌜ r ≡ record { player = recordAt (now (sheet .entry)) place; answer = Moved } ⌝ }
+    ensures { λ r. ⌜ r ≡ record { player = recordAt header (now (sheet .entry)) place; answer = Moved } ⌝ }
 {
     let player = record_at(sheet, place);
     Move {
@@ -73,7 +73,7 @@ fn kept(player: Player, answer: Answer) -> Move
 // A record that stands on the trace, whose last place is told, moved as far as the trace goes.
 fn lead(sheet: &[u8], player: Player, last: usize, direction: Direction) -> Move
     requires { ⌜ (17 + 10 * last ≤ length (now sheet)) × (length (now sheet) ≤ 65536) × (player .place ≤ last) ⌝ }
-    ensures { λ r. ⌜ r ≡ ledTo (now (sheet .entry)) player (leads direction last (player .place)) ⌝ }
+    ensures { λ r. ⌜ r ≡ ledTo header (now (sheet .entry)) player (leads direction last (player .place)) ⌝ }
 {
     let place = player.place;
     match direction {

@@ -5,11 +5,15 @@ use mathlib.Core.List.{List}
 use mathlib.Core.Option.{Option, none, some}
 use Prim.Native.Nat.{ℕ, _+_, _*_}
 use lib.Dec.{eqb, leb}
+use Rattle.notation.specs.Texts.{modelOf}
+use Rattle.notation.specs.working.Machine as N
+use Rattle.notation.specs.working.Answer.{answer}
+use Rattle.sheets.specs.Sheets.{systemOf, headerLength}
 use Rattle.sheets.specs.SheetTexts.{twoAt}
 use Rattle.sheets.specs.working.SheetReading.{stepCount}
 use Rattle.conditions.specs.declared.outcome.Outcome.{Outcome}
 use Rattle.conditions.specs.declared.outcome.Outcome.the-variants.{SafeHolds, Void, TraceHolds, FailsA, FailsB, FailsC, FailsD, FailsE, FailsF, Refused}
-use Rattle.acceptance.specs.working.Test.{testOf}
+use Rattle.conditions.specs.working.Judging.{outcomeOf}
 use Rattle.player.specs.Places.{leads}
 use Rattle.player.specs.declared.record.Player.{Player}
 use Rattle.player.specs.declared.record.Direction.{Direction}
@@ -32,41 +36,53 @@ tracePassed FailsE = false
 tracePassed FailsF = false
 tracePassed (Refused n p) = false
 
--- In a sheet with a trace, behind a header of nine bytes: the last place, and the record at a place.
-abbrev pub lastPlace : List ℕ → ℕ
-lastPlace b = stepCount b 17
+-- In a sheet with a trace, behind a header of h bytes: the last place, and the record at a place.
+abbrev pub lastPlace : ℕ → List ℕ → ℕ
+lastPlace h b = stepCount b (h + 8)
 
-abbrev pub recordAt : List ℕ → ℕ → Player
-recordAt b k = record { place = k; state = twoAt b (15 + 10 * k) }
+abbrev pub recordAt : ℕ → List ℕ → ℕ → Player
+recordAt h b k = record { place = k; state = twoAt b (h + 6 + 10 * k) }
+
+-- How many bytes a header has, as the code takes it; that of every model's system is as long.
+abbrev pub header : ℕ
+header = 9
 
 -- A record that stays, with the answer.
 abbrev pub stays : Player → Answer → Move
 stays p a = record { player = p; answer = a }
 
 -- A record that a move leads to a place, or to none.
-unfoldable pub ledTo : List ℕ → Player → Option ℕ → Move
-ledTo b p (some k) = record { player = recordAt b k; answer = A.Moved }
-ledTo b p none = stays p A.AtEnd
+unfoldable pub ledTo : ℕ → List ℕ → Player → Option ℕ → Move
+ledTo h b p (some k) = record { player = recordAt h b k; answer = A.Moved }
+ledTo h b p none = stays p A.AtEnd
 
 -- A move on a sheet with a trace that passes.
-unfoldable pub moveIn : Direction → List ℕ → Player → Move
-moveIn d b p =
-    cond (leb (p .place) (lastPlace b))
-    (cond (eqb (p .state) (recordAt b (p .place) .state)) (ledTo b p (leads d (lastPlace b) (p .place))) (stays p A.Foreign))
+unfoldable pub moveIn : ℕ → Direction → List ℕ → Player → Move
+moveIn h d b p =
+    cond (leb (p .place) (lastPlace h b))
+    (cond (eqb (p .state) (recordAt h b (p .place) .state)) (ledTo h b p (leads d (lastPlace h b) (p .place))) (stays p A.Foreign))
     (stays p A.Foreign)
 
--- A move where the test has this outcome.
-unfoldable pub moveAfter : Outcome → Direction → List ℕ → Player → Move
-moveAfter o d b p = cond (tracePassed o) (moveIn d b p) (stays p (A.Told o))
+-- A move where the test has this outcome, and opening.
+unfoldable pub moveAfter : Outcome → ℕ → Direction → List ℕ → Player → Move
+moveAfter o h d b p = cond (tracePassed o) (moveIn h d b p) (stays p (A.Told o))
 
--- A move on a text and a sheet. What it is on every input is said by `MovesTell` and `MoveRefusalTells`, which are proved of it.
+unfoldable pub openAfter : Outcome → ℕ → List ℕ → Opened
+openAfter o h b = cond (tracePassed o) (O.At (recordAt h b 0)) (O.Told o)
+
+-- Both for a text that was read or refused: over the system of its model.
+unfoldable pub moveFor : N.Outcome → Direction → List ℕ → Player → Move
+moveFor (N.read x) d b p = let M = systemOf (modelOf x) in moveAfter (outcomeOf M b) (headerLength M) d b p
+moveFor (N.refused n i) d b p = stays p (A.Told (Refused n i))
+
+unfoldable pub openFor : N.Outcome → List ℕ → Opened
+openFor (N.read x) b = let M = systemOf (modelOf x) in openAfter (outcomeOf M b) (headerLength M) b
+openFor (N.refused n i) b = O.Told (Refused n i)
+
+-- A move on a text and a sheet. What it is on every input is said by `MovesTell` and `RefusalTells`, which are proved of it.
 unfoldable pub moveOf : Direction → List ℕ → List ℕ → Player → Move
-moveOf d text b p = moveAfter (testOf text b) d b p
+moveOf d text b p = moveFor (answer text) d b p
 
--- Opening where the test has this outcome.
-unfoldable pub openAfter : Outcome → List ℕ → Opened
-openAfter o b = cond (tracePassed o) (O.At (recordAt b 0)) (O.Told o)
-
--- Opening on a text and a sheet, likewise.
+-- Opening on a text and a sheet, likewise by `OpeningsTell` and `RefusalTells`.
 unfoldable pub openOf : List ℕ → List ℕ → Opened
-openOf text b = openAfter (testOf text b) b
+openOf text b = openFor (answer text) b
