@@ -1,4 +1,4 @@
--- A record that is lent and moved where it is: one walk for every function `fn f(player: &mut Player, text: &[u8], sheet: &[u8]) -> Answer { let moved = g(text, sheet, *player); *player = moved.player; moved.answer }`.
+-- A lent record that a move changes in place: one walk for every function `fn f(player: &mut Player, text: &[u8], sheet: &[u8]) -> Answer { let moved = g(text, sheet, *player); *player = moved.player; moved.answer }`.
 -- The walk knows of g only that it meets `From move`: its result is `move text sheet player`. So it holds of any key g and any `move`; a function's own proof is `lent` at its own two.
 -- Assumes nothing.
 use mathlib.Core.Path.{_≡_, refl, ap}

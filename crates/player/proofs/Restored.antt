@@ -1,4 +1,4 @@
--- Back after a move forward, and forward after a move back, restore the record; a move to the beginning gives the record that opening gives.
+-- Steps on and back undo each other; a move to the beginning gives the record that opening gives.
 -- Assumes nothing.
 use mathlib.Core.Path.{_≡_, refl, sym, ap, _∙_}
 use mathlib.Core.Bool.{true}

@@ -80,7 +80,7 @@ RecordsStay = (text b : List ℕ) (d : Direction) (p : Player) → ¬ (answerOf 
 abbrev pub EndsTell : Type 0
 EndsTell = (d : Direction) (n k : ℕ) → (leads d n k ≡ none) ↔ (((d ≡ Forward) × (n ≤ k)) ⊎ ((d ≡ Back) × (k ≡ 0)))
 
--- Back after a move forward, and forward after a move back, move too and restore place and state, on every text, sheet and record.
+-- Steps on and back undo each other: where the first moved, the second moves too, and the record is what it was, on every text, sheet and record.
 pub record Restored (there again : Direction) (text b : List ℕ) (p : Player) : Type 0 where
   pub moves : answerOf there text b p ≡ moved → answerOf again text b (recordAfter there text b p) ≡ moved
   pub restores : answerOf there text b p ≡ moved → recordAfter again text b (recordAfter there text b p) ≡ p

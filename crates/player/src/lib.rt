@@ -1,4 +1,4 @@
-// A player that walks a trace forward and back: its record is lent, and moved where it is.
+// A player that walks a trace forward and back. Whoever plays it lends its record, and a move changes it in place.
 pub mod moves;
 pub mod record;
 pub mod values;
