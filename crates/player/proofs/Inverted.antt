@@ -19,7 +19,8 @@ use Rattle.player.specs.declared.record.Direction.{Direction}
 use Rattle.player.specs.declared.record.Direction.the-variants.{Forward, Back, Beginning}
 use Rattle.player.specs.declared.record.Answer.the-variants as A
 use Rattle.player.specs.declared.record.Move.{Move}
-use Rattle.player.specs.working.Playing.{tracePassed, lastPlace, header, recordAt, stays, ledTo, moveIn, moveAfter}
+use Rattle.traces.specs.working.Passing.{tracePassed, lastPlace, header}
+use Rattle.player.specs.working.Playing.{recordAt, stays, ledTo, moveIn, moveAfter}
 use Rattle.player.proofs.MoveLaws.{first-place, last-place, move-by-outcome}
 
 -- A step forward or back that leads somewhere.

@@ -1,9 +1,8 @@
 -- Laws of players, by subject.
-pub mod TracesPassed
 pub mod MoveLaws
 pub mod Lent
 pub mod ByValue
-pub mod Contents
+pub mod StatesAt
 pub mod Inverted
 pub mod Restored
 pub mod MovesTold

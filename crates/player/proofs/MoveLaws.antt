@@ -17,7 +17,9 @@ use Rattle.player.specs.declared.record.Direction.the-variants.{Forward,
 use Rattle.player.specs.declared.record.Answer.the-variants as A
 use Rattle.player.specs.declared.record.Move.{Move}
 use Rattle.player.specs.declared.record.Opened.the-variants as O
-use Rattle.player.specs.working.Playing.{tracePassed, lastPlace, header, recordAt, stays, ledTo, moveIn, moveAfter, moveFor, moveOf, openAfter, openFor, openOf}
+use Rattle.traces.proofs.TracesPassed.{judged-so}
+use Rattle.traces.specs.working.Passing.{tracePassed, lastPlace, header}
+use Rattle.player.specs.working.Playing.{recordAt, stays, ledTo, moveIn, moveAfter, moveFor, moveOf, openAfter, openFor, openOf}
 
 -- Where a move leads.
 module _ (d : Direction) (n k : ℕ) where
@@ -103,19 +105,16 @@ module _ (text b : List ℕ) where
 
   -- The outcome as the code has it.
   module _ (o : Outcome) (tested : o ≡ testOf text b) (x : Bool) (judged : x ≡ tracePassed o) where
-    pub judged-so : (y : Bool) → x ≡ y → tracePassed (testOf text b) ≡ y
-    judged-so y e = ap tracePassed (sym tested) ∙ sym judged ∙ e
-
     pub tells-move : x ≡ false → (d : Direction) (p : Player) → stays p (A.Told o) ≡ moveOf d text b p
-    tells-move e d p = ap (λ (u : Outcome). stays p (A.Told u)) tested ∙ sym (move-told (judged-so false e) d p)
+    tells-move e d p = ap (λ (u : Outcome). stays p (A.Told u)) tested ∙ sym (move-told (judged-so text b o tested x judged false e) d p)
 
     pub tells-open : x ≡ false → O.Told o ≡ openOf text b
-    tells-open e = ap O.Told tested ∙ sym (open-told (judged-so false e))
+    tells-open e = ap O.Told tested ∙ sym (open-told (judged-so text b o tested x judged false e))
 
     -- Where the trace passes, the record is held against it; the code knows the last place, and the record at the player's.
     module _ (passed : x ≡ true) (d : Direction) (p : Player) (last : ℕ) (counted : last ≡ lastPlace header b) where
       pub place-beyond : last < p .place → stays p A.Foreign ≡ moveOf d text b p
-      place-beyond h = sym (move-passed (judged-so true passed) d p ∙ beyond d b p (subst (λ (n : ℕ). n < p .place) counted h))
+      place-beyond h = sym (move-passed (judged-so text b o tested x judged true passed) d p ∙ beyond d b p (subst (λ (n : ℕ). n < p .place) counted h))
 
       module _ (there : Player) (found : there ≡ recordAt header b (p .place)) (h : p .place ≤ last) where
         within : p .place ≤ lastPlace header b
@@ -123,16 +122,16 @@ module _ (text b : List ℕ) where
 
         pub state-elsewhere : (p .state ≡ there .state → ⊥) → stays p A.Foreign ≡ moveOf d text b p
         state-elsewhere f =
-            sym (move-passed (judged-so true passed) d p ∙ elsewhere d b p within (λ e. f (e ∙ sym (ap (λ (q : Player). q .state) found))))
+            sym (move-passed (judged-so text b o tested x judged true passed) d p ∙ elsewhere d b p within (λ e. f (e ∙ sym (ap (λ (q : Player). q .state) found))))
 
         pub leads-on : p .state ≡ there .state → (m : Move) → m ≡ ledTo header b p (leads d last (p .place)) → m ≡ moveOf d text b p
         leads-on f m e =
             e
             ∙ ap (λ (n : ℕ). ledTo header b p (leads d n (p .place))) counted
-            ∙ sym (move-passed (judged-so true passed) d p ∙ stands d b p within (f ∙ ap (λ (q : Player). q .state) found))
+            ∙ sym (move-passed (judged-so text b o tested x judged true passed) d p ∙ stands d b p within (f ∙ ap (λ (q : Player). q .state) found))
 
     pub opens : x ≡ true → (p : Player) → p ≡ recordAt header b 0 → O.At p ≡ openOf text b
-    opens e p f = ap O.At f ∙ sym (open-passed (judged-so true e))
+    opens e p f = ap O.At f ∙ sym (open-passed (judged-so text b o tested x judged true e))
 
 -- The move in a direction that is this one.
 pub move-in : (d known : Direction) → d ≡ known → (text b : List ℕ) (p : Player) (m : Move) → m ≡ moveOf known text b p → m ≡ moveOf d text b p

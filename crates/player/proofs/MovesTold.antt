@@ -1,7 +1,6 @@
 -- What opening and moves answer to every text, all bytes and every record, in words.
 -- Assumes nothing.
 use mathlib.Core.Path.{_≡_, refl, sym, ap, _∙_, subst}
-use mathlib.Core.Logic.{_⊎_, inl, inr, ⊎-elim}
 use mathlib.Core.Bool.{Bool, true, false, cond}
 use mathlib.Core.List.{List}
 use mathlib.Core.Option.{Option, none, some}
@@ -10,25 +9,16 @@ use native.Mathlib.Omega.{arith}
 use lib.Dec.{eqb, leb}
 use lib.ListN.{length}
 use borrow.Author.Tests.{eqb-true, leb-true}
-use Rattle.notation.specs.Model.{Model}
-use Rattle.notation.specs.Texts.{TextSays}
-use Rattle.notation.proofs.Regular.{all-regular}
 use Rattle.meaning.specs.OneRow.{TraceStep}
-use Rattle.meaning.specs.Evidence.{TracePasses}
-use Rattle.sheets.specs.Sheets.{systemOf}
-use Rattle.sheets.specs.SheetTexts.{AreBytes}
 use Rattle.conditions.specs.Outcomes as W
 use Rattle.conditions.specs.declared.outcome.Outcome.{Outcome}
-use Rattle.conditions.specs.declared.outcome.Outcome.the-variants.{SafeHolds, Void, TraceHolds, FailsA, FailsB, FailsC, FailsD, FailsE, FailsF, Refused}
-use Rattle.conditions.specs.working.Judging.{outcomeOf}
-use Rattle.acceptance.specs.Promises.{answerTo, TraceThat}
+use Rattle.acceptance.specs.Promises.{answerTo}
 use Rattle.acceptance.specs.working.Test.{testOf}
 use Rattle.acceptance.proofs.Claims as C
 use Rattle.acceptance.proofs.Places.{answers-bounded}
-use Rattle.acceptance.proofs.TestMeans.{all-given}
 use Rattle.player.specs.Places.{stateAt, StandsOn, leads}
 use Rattle.player.specs.Answers.{Wording, moved, atEnd, foreign, told, wordingOf, unopened, openingFor}
-use Rattle.player.specs.Promises.{answerOf, recordAfter, TracePassed, OpeningsTell, MoveOnTrace, MovesTell, RefusalTells, Bounded, BoundedOpening, PlayersBounded}
+use Rattle.player.specs.Promises.{answerOf, recordAfter, OpeningsTell, MoveOnTrace, MovesTell, RefusalTells, Bounded, BoundedOpening, PlayersBounded}
 use Rattle.player.specs.declared.record.Player.{Player}
 use Rattle.player.specs.declared.record.Direction.{Direction}
 use Rattle.player.specs.declared.record.Direction.the-variants.{Forward, Back, Beginning}
@@ -36,28 +26,14 @@ use Rattle.player.specs.declared.record.Answer.the-variants as A
 use Rattle.player.specs.declared.record.Move.{Move}
 use Rattle.player.specs.declared.record.Opened.{Opened}
 use Rattle.player.specs.declared.record.Opened.the-variants as O
-use Rattle.player.specs.working.Playing.{tracePassed, lastPlace, header, recordAt, stays, ledTo, moveIn, moveAfter, moveOf, openAfter}
+use Rattle.traces.specs.working.Passing.{tracePassed, lastPlace, header}
+use Rattle.player.specs.working.Playing.{recordAt, stays, ledTo, moveIn, moveAfter, moveOf, openAfter}
 use Rattle.player.proofs.MoveLaws.{at-end, stands, move-by-outcome, open-by-outcome, move-told, move-passed, open-told, open-passed}
-use Rattle.player.proofs.Contents.{Contents, contents-length, contents-state, stands-here, here-stands, contents-said}
+use Rattle.traces.proofs.Contents.{Contents, contents-length}
+use Rattle.traces.proofs.PassedTold.{not-passed, test-passed, the-trace}
+use Rattle.player.proofs.StatesAt.{contents-state, stands-here, here-stands}
 use Rattle.player.proofs.Inverted.{forward-leads, back-leads, beginning-leads}
 use Rattle.player.proofs.Restored.{arrived, goes-to}
-
--- An outcome is in words that of a trace that passes, or it is none.
-pub either-way : (o : Outcome) → TracePassed (W.wordingOf o) ⊎ (tracePassed o ≡ false)
-unfolding W.wordingOf
-either-way SafeHolds = inr refl
-either-way Void = inr refl
-either-way TraceHolds = inl refl
-either-way FailsA = inr refl
-either-way FailsB = inr refl
-either-way FailsC = inr refl
-either-way FailsD = inr refl
-either-way FailsE = inr refl
-either-way FailsF = inr refl
-either-way (Refused n p) = inr refl
-
-pub not-passed : (text b : List ℕ) → ¬ (TracePassed (answerTo text b)) → tracePassed (testOf text b) ≡ false
-not-passed text b h = ⊎-elim (λ e. absurd (h e)) (λ e. e) (either-way (testOf text b))
 
 -- A record that fails one of the two tests is foreign.
 fails-test : (x y : Bool) (m n : Move) → ¬ ((x ≡ true) × (y ≡ true)) → cond x (cond y m n) n ≡ n
@@ -111,20 +87,6 @@ module _ (text b : List ℕ) (passed : tracePassed (testOf text b) ≡ true) {s 
 
   pub on-trace : MoveOnTrace s xs d p (answerOf d text b p) (recordAfter d text b p)
   on-trace = record { elsewhere = told-elsewhere; nowhere = told-nowhere; somewhere = told-somewhere }
-
--- What the test's answer tells of a text that says a model: whether its trace passes, and that the bytes have what they say.
-module _ (text : List ℕ) (m : Model) (says : TextSays text m) (b : List ℕ) (hb : AreBytes b) (holds : TracePassed (answerTo text b)) where
-  outcome-passed : tracePassed (outcomeOf (systemOf m) b) ≡ true
-  outcome-passed = ap tracePassed (all-given m (all-regular text m says) b hb .traceHolds .1 (C.test-tells text m says b hb .traceHolds .0 holds))
-
-  pub test-passed : tracePassed (testOf text b) ≡ true
-  test-passed = ap tracePassed (sym (C.said text m says b)) ∙ outcome-passed
-
-  -- The trace, with what the bytes have, and that it passes.
-  pub the-trace : TraceThat m b λ s xs. Contents b s xs × TracePasses m s xs
-  the-trace =
-      let (s, xs, w, p) = C.pass-tells text m says b hb .traceSheet .0 holds in
-      (s, xs, w, (contents-said m (all-regular text m says) b hb outcome-passed s xs w, p))
 
 pub openings-tell : OpeningsTell
 unfolding openingFor

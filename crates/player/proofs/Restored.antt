@@ -15,7 +15,8 @@ use Rattle.player.specs.declared.record.Direction.{Direction}
 use Rattle.player.specs.declared.record.Direction.the-variants.{Forward, Back, Beginning}
 use Rattle.player.specs.declared.record.Answer.the-variants as A
 use Rattle.player.specs.declared.record.Move.{Move}
-use Rattle.player.specs.working.Playing.{tracePassed, lastPlace, header, recordAt, moveOf}
+use Rattle.traces.specs.working.Passing.{tracePassed, lastPlace, header}
+use Rattle.player.specs.working.Playing.{recordAt, moveOf}
 use Rattle.player.proofs.MoveLaws.{onward, backward, led, stands, move-passed, open-passed}
 use Rattle.player.proofs.Inverted.{forward-leads, back-leads, beginning-leads, HasMoved, has-moved}
 

@@ -19,13 +19,17 @@ use Rattle.acceptance.specs.Promises.{answerTo}
 use Rattle.acceptance.specs.working.Test.{testOf}
 use Rattle.player.specs.Places.{StandsOn, leads}
 use Rattle.player.specs.Answers.{moved, atEnd, opened, openingFor, wordingOf}
-use Rattle.player.specs.Promises.{openingOf, answerOf, recordAfter, TracePassed, recordAfterAll, StandingTells, WalksTell, PlayedWithoutCase}
+use Rattle.player.specs.Promises.{openingOf, answerOf, recordAfter, recordAfterAll, StandingTells, WalksTell, PlayedWithoutCase}
 use Rattle.player.specs.declared.record.Player.{Player}
 use Rattle.player.specs.declared.record.Direction.{Direction}
-use Rattle.player.specs.working.Playing.{tracePassed, header, recordAt, openFor, openOf, moveFor, moveOf}
+use Rattle.traces.specs.Passed.{TracePassed}
+use Rattle.traces.specs.working.Passing.{tracePassed, header}
+use Rattle.player.specs.working.Playing.{recordAt, openFor, openOf, moveFor, moveOf}
 use Rattle.player.proofs.MoveLaws.{open-told, open-passed}
-use Rattle.player.proofs.Contents.{Contents, here-stands}
-use Rattle.player.proofs.MovesTold.{either-way, leads-within, told-nowhere, told-somewhere, test-passed, the-trace}
+use Rattle.traces.proofs.Contents.{Contents}
+use Rattle.traces.proofs.PassedTold.{either-way, test-passed, the-trace}
+use Rattle.player.proofs.StatesAt.{here-stands}
+use Rattle.player.proofs.MovesTold.{leads-within, told-nowhere, told-somewhere}
 
 -- The first moves of a run are a run.
 front-steps : {I : Type 0} (m : Model) (k : ℕ) (s : State I) (ys : List (Move I)) → AreSteps m s ys → AreSteps m s (take k ys)

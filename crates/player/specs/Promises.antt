@@ -16,6 +16,7 @@ use Rattle.sheets.specs.SheetTexts.{AreBytes}
 use Rattle.conditions.specs.Outcomes as O
 use Rattle.acceptance.specs.Promises as T
 use Rattle.acceptance.specs.Promises.{answerTo, TraceThat}
+use Rattle.traces.specs.Passed.{TracePassed}
 use Rattle.player.specs.Places.{stateAt, StandsOn, leads}
 use Rattle.player.specs.Answers.{Wording, moved, atEnd, foreign, told, wordingOf, Opening, opened, unopened, openingFor}
 use Rattle.player.specs.working.Playing.{moveOf, openOf}
@@ -33,10 +34,6 @@ answerOf d text b p = wordingOf (moveOf d text b p .answer)
 
 abbrev pub recordAfter : Direction → List ℕ → List ℕ → Player → Player
 recordAfter d text b p = moveOf d text b p .player
-
--- The test says that the sheet is a trace that passes.
-abbrev pub TracePassed : O.Wording → Type 0
-TracePassed tested = tested ≡ O.words "trace holds"
 
 -- Opening after the test's answer: on a trace that passes a record at its beginning, with the start state; else that answer.
 pub record OpeningMeans (m : Model) (b : List ℕ) (tested : O.Wording) (opening : Opening) : Type 0 where

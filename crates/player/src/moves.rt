@@ -6,35 +6,18 @@ ghost use Rattle.sheets.specs.SheetTexts.{AreBytes};
 ghost use Rattle.player.specs.Places.{leads};
 ghost use Rattle.player.specs.declared.record.Answer.the-variants.{Moved};
 ghost use Rattle.player.specs.declared.record.Direction.the-variants.{Forward, Back, Beginning};
-ghost use Rattle.player.specs.working.Playing.{tracePassed, header, recordAt, stays, ledTo, moveOf, openOf};
+ghost use Rattle.traces.specs.working.Passing.{header};
+ghost use Rattle.player.specs.working.Playing.{recordAt, stays, ledTo, moveOf, openOf};
 use crate::record::Answer;
 use crate::record::Direction;
 use crate::record::Move;
 use crate::record::Opened;
 use crate::record::Player;
 use acceptance::test;
-use conditions::outcome::Outcome;
 use sheets::fields::HEADER;
 use sheets::fields::step_count;
 use sheets::fields::two_at;
-
-// Whether an outcome is that of a trace that passes.
-fn trace_passed(outcome: Outcome) -> bool
-    ensures { λ r. ⌜ r ≡ tracePassed outcome ⌝ }
-{
-    match outcome {
-        Outcome::SafeHolds => false,
-        Outcome::Void => false,
-        Outcome::TraceHolds => true,
-        Outcome::FailsA => false,
-        Outcome::FailsB => false,
-        Outcome::FailsC => false,
-        Outcome::FailsD => false,
-        Outcome::FailsE => false,
-        Outcome::FailsF => false,
-        Outcome::Refused(n, p) => false,
-    }
-}
+use traces::trace_passed;
 
 // The record at a place of the trace in a sheet. The start state ends ten bytes before the state after the first step, and so on from step to step.
 fn record_at(sheet: &[u8], place: usize) -> Player

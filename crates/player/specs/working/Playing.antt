@@ -1,6 +1,6 @@
 -- What opening and moves answer to a text, the bytes of a sheet and a record, and the record afterwards.
 -- Assumes nothing.
-use mathlib.Core.Bool.{Bool, true, false, cond}
+use mathlib.Core.Bool.{cond}
 use mathlib.Core.List.{List}
 use mathlib.Core.Option.{Option, none, some}
 use Prim.Native.Nat.{ℕ, _+_, _*_}
@@ -10,10 +10,10 @@ use Rattle.notation.specs.working.Machine as N
 use Rattle.notation.specs.working.Answer.{answer}
 use Rattle.sheets.specs.Sheets.{systemOf, headerLength}
 use Rattle.sheets.specs.SheetTexts.{twoAt}
-use Rattle.sheets.specs.working.SheetReading.{stepCount}
 use Rattle.conditions.specs.declared.outcome.Outcome.{Outcome}
-use Rattle.conditions.specs.declared.outcome.Outcome.the-variants.{SafeHolds, Void, TraceHolds, FailsA, FailsB, FailsC, FailsD, FailsE, FailsF, Refused}
+use Rattle.conditions.specs.declared.outcome.Outcome.the-variants.{Refused}
 use Rattle.conditions.specs.working.Judging.{outcomeOf}
+use Rattle.traces.specs.working.Passing.{tracePassed, lastPlace}
 use Rattle.player.specs.Places.{leads}
 use Rattle.player.specs.declared.record.Player.{Player}
 use Rattle.player.specs.declared.record.Direction.{Direction}
@@ -23,29 +23,9 @@ use Rattle.player.specs.declared.record.Move.{Move}
 use Rattle.player.specs.declared.record.Opened.{Opened}
 use Rattle.player.specs.declared.record.Opened.the-variants as O
 
--- Whether an outcome is that of a trace that passes.
-abbrev pub tracePassed : Outcome → Bool
-tracePassed SafeHolds = false
-tracePassed Void = false
-tracePassed TraceHolds = true
-tracePassed FailsA = false
-tracePassed FailsB = false
-tracePassed FailsC = false
-tracePassed FailsD = false
-tracePassed FailsE = false
-tracePassed FailsF = false
-tracePassed (Refused n p) = false
-
--- In a sheet with a trace, behind a header of h bytes: the last place, and the record at a place.
-abbrev pub lastPlace : ℕ → List ℕ → ℕ
-lastPlace h b = stepCount b (h + 8)
-
+-- In a sheet with a trace, behind a header of h bytes: the record at a place.
 abbrev pub recordAt : ℕ → List ℕ → ℕ → Player
 recordAt h b k = record { place = k; state = twoAt b (h + 6 + 10 * k) }
-
--- How many bytes a header has, as the code takes it; that of every model's system is as long.
-abbrev pub header : ℕ
-header = 9
 
 -- A record that stays, with the answer.
 abbrev pub stays : Player → Answer → Move

@@ -5,8 +5,8 @@ use mathlib.Core.Bool.{true}
 use native.Mathlib.Omega.{arith}
 use borrow.Author.Needs.{needs}
 use borrow.Author.Tests.{not-true, not-false}
-use Rattle.player.proofs.TracesPassed.{HasTrace, text-passed}
-use Rattle.player.proofs.MoveLaws.{judged-so, tells-move, place-beyond, state-elsewhere, leads-on}
+use Rattle.traces.proofs.TracesPassed.{HasTrace, text-passed, judged-so}
+use Rattle.player.proofs.MoveLaws.{tells-move, place-beyond, state-elsewhere, leads-on}
 use Rattle.player.proofs.moves.moved.Statement.{statement}
 use Rattle.player.proofs.moves.moved.Tie as tie
 

@@ -4,8 +4,8 @@ use mathlib.Core.Bool.{true}
 use native.Mathlib.Omega.{arith}
 use borrow.Author.Needs.{needs}
 use borrow.Author.Tests.{not-true, not-false}
-use Rattle.player.proofs.TracesPassed.{HasTrace, text-passed}
-use Rattle.player.proofs.MoveLaws.{judged-so, tells-open, opens}
+use Rattle.traces.proofs.TracesPassed.{HasTrace, text-passed, judged-so}
+use Rattle.player.proofs.MoveLaws.{tells-open, opens}
 use Rattle.player.proofs.moves.open_player.Statement.{statement}
 use Rattle.player.proofs.moves.open_player.Tie as tie
 

@@ -21,7 +21,7 @@ use Rattle.conditions.specs.declared.outcome.Outcome.the-variants.{SafeHolds, V
 use Rattle.conditions.specs.working.Judging.{passedAnswer, mapAnswer, outcomeOf}
 use Rattle.acceptance.specs.working.Test.{testIn, testOf}
 use Rattle.acceptance.proofs.TestWhole.{whole-refused, whole-map, trace-stands, trace-short}
-use Rattle.player.specs.working.Playing.{tracePassed, lastPlace, header}
+use Rattle.traces.specs.working.Passing.{tracePassed, lastPlace, header}
 
 -- No outcome for a map is that of a trace.
 map-chain : (a b c v : Bool) → tracePassed (cond a (cond b (cond c (cond v Void SafeHolds) FailsC) FailsB) FailsA) ≡ false
@@ -83,3 +83,8 @@ answer-passed b (N.refused n p) e = absurd (true≢false (sym e))
 pub text-passed : (text b : List ℕ) → tracePassed (testOf text b) ≡ true → HasTrace b
 unfolding testOf
 text-passed text b e = answer-passed b (answer text) e
+
+-- The outcome as the code has it, and whether it is that of a trace.
+module _ (text b : List ℕ) (o : Outcome) (tested : o ≡ testOf text b) (x : Bool) (judged : x ≡ tracePassed o) where
+  pub judged-so : (y : Bool) → x ≡ y → tracePassed (testOf text b) ≡ y
+  judged-so y e = ap tracePassed (sym tested) ∙ sym judged ∙ e

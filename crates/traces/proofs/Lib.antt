@@ -1,0 +1,4 @@
+-- Laws of traces that pass, by subject.
+pub mod TracesPassed
+pub mod Contents
+pub mod PassedTold

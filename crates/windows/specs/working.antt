@@ -1,0 +1,3 @@
+-- Definitions that only describe how a program goes about it. Nothing here has to be believed: theorems tie it to the definitions beside this folder.
+pub mod Sliding
+pub mod Surveying
