@@ -10,25 +10,15 @@ use borrow.Author.Tests.{ne-eqb}
 use Rattle.notation.specs.Bytes.{bytes}
 use Rattle.conditions.specs.declared.outcome.Outcome.{Outcome}
 use Rattle.conditions.specs.declared.outcome.Outcome.the-variants as O
-use Rattle.conditions.specs.Outcomes.{wordingOf}
+use Rattle.conditions.specs.Outcomes.{returned, wordingOf}
 use Rattle.acceptance.specs.Promises.{Bounded}
-use Rattle.packing.specs.Packed.{mostAbove}
+use Rattle.packing.specs.Packed.{packed, mostAbove}
 use Rattle.packing.specs.Outcomes.{testNumber, wordingFor}
 use Rattle.packing.proofs.Packed.{low-back, above-back}
 
-pub outcome-told : (o : Outcome) → Bounded (wordingOf o) → wordingFor (testNumber (wordingOf o)) ≡ wordingOf o
-unfolding wordingOf testNumber bytes
-outcome-told O.SafeHolds b = refl
-outcome-told O.Void b = refl
-outcome-told O.TraceHolds b = refl
-outcome-told O.FailsA b = refl
-outcome-told O.FailsB b = refl
-outcome-told O.FailsC b = refl
-outcome-told O.FailsD b = refl
-outcome-told O.FailsE b = refl
-outcome-told O.FailsF b = refl
-outcome-told (O.Refused n p) b =
-    let h = b .1 in
+-- A number below all letters is that of a refusal.
+pub refusal-told : (n p : ℕ) → n < 65 → wordingFor (packed n p) ≡ returned n p
+refusal-told n p h =
     rw (
       low-back n p (omega arith),
       above-back n p (omega arith),
@@ -42,6 +32,19 @@ outcome-told (O.Refused n p) b =
       ne-eqb n 69 (omega arith),
       ne-eqb n 70 (omega arith),
     )
+
+pub outcome-told : (o : Outcome) → Bounded (wordingOf o) → wordingFor (testNumber (wordingOf o)) ≡ wordingOf o
+unfolding wordingOf testNumber bytes
+outcome-told O.SafeHolds b = refl
+outcome-told O.Void b = refl
+outcome-told O.TraceHolds b = refl
+outcome-told O.FailsA b = refl
+outcome-told O.FailsB b = refl
+outcome-told O.FailsC b = refl
+outcome-told O.FailsD b = refl
+outcome-told O.FailsE b = refl
+outcome-told O.FailsF b = refl
+outcome-told (O.Refused n p) b = let h = b .1 in refusal-told n p (omega arith)
 
 -- The lowest byte of an answer's number is a refusal's number, a capital or one of the letters from s to v.
 lowest : (o : Outcome) → Bounded (wordingOf o) → (testNumber (wordingOf o) % 256 ≤ 70) ⊎ ((115 ≤ testNumber (wordingOf o) % 256) × (testNumber (wordingOf o) % 256 ≤ 118))

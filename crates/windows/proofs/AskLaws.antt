@@ -16,7 +16,8 @@ use Rattle.acceptance.specs.working.Test.{testIn, testOf}
 use Rattle.traces.specs.working.Passing.{tracePassed, lastPlace, header}
 use Rattle.traces.proofs.TracesPassed.{HasTrace, text-passed, judged-so}
 use Rattle.traces.proofs.Contents.{commands-counted}
-use Rattle.windows.specs.Bursts.{countsOf}
+use Rattle.meaning.proofs.Number.{first-length}
+use Rattle.windows.specs.Bursts.{occurs, countsOf}
 use Rattle.windows.specs.Questions.{faultOf, refusalOf}
 use Rattle.windows.specs.working.Sliding.{tallyOf, fresh, leavingOf, isOne, nextOf, slidOf}
 use Rattle.windows.specs.working.Surveying.{commandsAt, stopped, going, beginIn, beginAfter, beginFor, beginOf, answeredBy}
@@ -238,3 +239,25 @@ counting-known q text b places = by-outcome (tracePassed (testOf text b)) refl
     by-outcome : (t : Bool) → tracePassed (testOf text b) ≡ t → Counting b places (beginOf q text b places)
     by-outcome true e = subst (Counting b places) (sym (begin-passed q text b places e)) (passed e)
     by-outcome false e = subst (Counting b places) (sym (begin-told q text b places e)) (counting-stopped b places (A.Told (testOf text b)))
+
+-- Whatever comes of a question, there are sixteen counts.
+long-in : (q : Question) (n r : ℕ) (l : List ℕ) → length l ≡ 16 → (t : Bool) → length (cond t (going q n l) (stopped (A.Refused r)) .counts) ≡ 16
+unfolding going
+long-in Q.Steps n r l e true = e
+long-in (Q.Counts room) n r l e true = e
+long-in (Q.Burst k w) n r l e true = e
+long-in q n r l e false = refl
+
+long-begin : (q : Question) (commands : ℕ) (b : List ℕ) (places : ℕ) → length (beginIn header q commands b places .counts) ≡ 16
+unfolding beginIn countsOf
+long-begin q commands b places =
+    let n = lastPlace header b in
+    let r = refusalOf q commands places n in
+    long-in q n r (countsOf (commandsAt header b n)) (first-length 16 (λ k. occurs k (commandsAt header b n))) (eqb r 0)
+
+pub counts-long : (q : Question) (text b : List ℕ) (places : ℕ) → length (beginOf q text b places .counts) ≡ 16
+counts-long q text b places = by-outcome (tracePassed (testOf text b)) refl
+  where
+    by-outcome : (t : Bool) → tracePassed (testOf text b) ≡ t → length (beginOf q text b places .counts) ≡ 16
+    by-outcome true e = ap (λ (x : Begun). length (x .counts)) (begin-passed q text b places e) ∙ long-begin q (getD b 8 0) b places
+    by-outcome false e = ap (λ (x : Begun). length (x .counts)) (begin-told q text b places e)

@@ -13,4 +13,5 @@ pub mod StepRecords
 pub mod SurveysTold
 pub mod SurveyNumbers
 pub mod CountsTold
+pub mod CountsRoom
 pub mod SurveyCases

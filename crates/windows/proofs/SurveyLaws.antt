@@ -11,6 +11,7 @@ use Rattle.windows.specs.working.Surveying.{Survey, stepAt, filled, begi
 use Rattle.windows.specs.declared.record.Step.{Step}
 use Rattle.windows.specs.declared.record.Question.{Question}
 use Rattle.windows.proofs.Filled.{length-filled}
+use Rattle.windows.proofs.AskLaws.{counts-long}
 
 survey-for : (q : Question) (b : List ℕ) (list : List Step) (x : N.Outcome) → surveyIn header (beginFor x q b (length list)) b list ≡ surveyIn (headerOf x) (beginFor x q b (length list)) b list
 unfolding beginFor filled
@@ -31,3 +32,6 @@ module _ (q : Question) (text b : List ℕ) (list : List Step) where
   -- The list is as long as before.
   pub survey-length : length (surveyOf q text b list .list) ≡ length list
   survey-length = ap length (sym survey-list) ∙ length-filled (stepAt header b) list (beginOf q text b (length list) .steps)
+
+  pub survey-counts : length (surveyOf q text b list .reply .counts) ≡ 16
+  survey-counts = ap (λ (s : Survey). length (s .reply .counts)) (sym survey-by) ∙ counts-long q text b (length list)

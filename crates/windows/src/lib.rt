@@ -3,6 +3,7 @@ pub mod asking;
 pub mod commands;
 pub mod counting;
 pub mod record;
+pub mod values;
 
 ghost use mathlib.Core.Path.{_≡_};
 ghost use mathlib.Core.List.{[]};

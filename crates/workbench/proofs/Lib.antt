@@ -3,3 +3,4 @@ pub mod Told
 pub mod PositionsTold
 pub mod NeedsTold
 pub mod PlayersTold
+pub mod BurstsTold

@@ -1,4 +1,5 @@
-// The search, in one go and in portions, its reservation, and players of traces for programs in C and Python: a slice is a pointer and a length there, and the answer is one number.
+// The search, in one go and in portions, its reservation, players of traces and bursts in them for programs in C and Python: a slice is a pointer and a length there, and the answer is one number.
+mod bursts;
 mod players;
 mod portions;
 

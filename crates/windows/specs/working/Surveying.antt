@@ -100,3 +100,10 @@ headerOf (N.refused n i) = 0
 -- A question on a text and a sheet. What comes of it on every input is said by `SurveysTell` and `RefusalTells`, which are proved of it.
 unfoldable pub surveyOf : Question → List ℕ → List ℕ → List Step → Survey
 surveyOf q text b list = surveyIn (headerOf (answer text)) (beginOf q text b (length list)) b list
+
+-- A list with a place for every step that a sheet can have, as a caller has it that lends none.
+abbrev pub blank : Step
+blank = record { command = 0; word = 0; after = 0 }
+
+unfoldable pub blanks : List Step
+blanks = replicate 6551 blank
