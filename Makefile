@@ -9,7 +9,7 @@ completionsdir = $(prefix)/share/bash-completion/completions
 # The command's own folder, which `make uninstall` removes whole.
 home = $(libdir)/nutseason
 
-commands := report reserve sheet admit step
+commands := report reserve sheet admit step bursts
 programs := $(commands:%=target/bin/%)
 libraries := target/staticlib/libloader.a target/staticlib/libworkbench.a
 sources := crates.txt $(shell find crates -name '*.rt' -o -name '*.antt')

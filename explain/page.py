@@ -11,6 +11,7 @@ from refusals import explained
 from runs import judged, lines_of
 from settings import setting_lines
 from starts import tried
+from strip import has_strip, lanes, scale
 from tokens import quoted
 
 FOLDER = Path(__file__).resolve().parent
@@ -60,20 +61,24 @@ def unsafe(file, text, report, model, search):
             clause_section("What breaks", sentences.BREAKS, model.keep,
                            judged(lines[-1].after, model), sentences.held,
                            sentences.COPIES),
-            search_section(search),
-            f"<script>\n{part('page.js')}</script>"]
+            search_section(search)]
+    script, style = part("page.js"), ""
+    if has_strip(lines):
+        main.insert(1, strip_section(lines, model))
+        script, style = script + part("strip.js"), part("strip.css")
+    main.append(f"<script>\n{script}</script>")
     return whole(sentences.verdict(file, "unsafe", report.counts),
-                 sentences.unsafe(report.steps), "\n".join(main))
+                 sentences.unsafe(report.steps), "\n".join(main), style)
 
 
 def part(name):
     return (FOLDER / name).read_text(encoding="utf-8")
 
 
-def whole(title, summary, main):
+def whole(title, summary, main, more_style=""):
     return Template(part("page.html")).substitute(
-        title=escape(title), style=part("page.css"), summary=coded(summary),
-        main=main)
+        title=escape(title), style=part("page.css") + more_style,
+        summary=coded(summary), main=main)
 
 
 def coded(sentence):
@@ -112,6 +117,13 @@ def setting_row(line):
             f'<td>{line.states:,}</td><td>{escape(line.share)}</td><td>'
             f'<svg aria-hidden="true"><rect width="{line.bar}%" height="100%"/>'
             '</svg></td></tr>')
+
+
+def strip_section(lines, model):
+    last = len(lines) - 1
+    return Template(part("strip.html")).substitute(
+        last=last, steps=sentences.counted(last, "step"), scale=scale(last),
+        rows="\n".join(lanes(lines, model)))
 
 
 def steps_section(lines, model):

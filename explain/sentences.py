@@ -49,6 +49,16 @@ def unsafe(steps):
             "no shorter run does.")
 
 
+def lane(name, numbers):
+    """Where the steps of a command are in a run."""
+    if not numbers:
+        return f"{name}: no step"
+    if len(numbers) == 1:
+        return f"{name}: 1 step, which is step {numbers[0]:,}"
+    return (f"{name}: {counted(len(numbers), 'step')}, from step "
+            f"{numbers[0]:,} to step {numbers[-1]:,}")
+
+
 def reached(report):
     """How much of a table of one row is reached where the model is safe."""
     shared, row, _ = report.counts

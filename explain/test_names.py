@@ -62,7 +62,7 @@ class Uses(unittest.TestCase):
         found = [(case, uses_turned(case.text)) for case in cases()
                  if not case.report.startswith(b"refused")]
         found = [(case, text) for case, text in found if text != case.text]
-        self.assertEqual(len(found), 13)
+        self.assertEqual(len(found), 14)
         return found
 
     def test_plain(self):

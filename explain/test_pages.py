@@ -144,7 +144,7 @@ class Pages(unittest.TestCase):
 
     def test_steps(self):
         runs = [case.said for case in cases() if b"unsafe" in case.report]
-        self.assertEqual(len(runs), 4)
+        self.assertEqual(len(runs), 5)
         for said in [*runs, counter()]:
             heads, names, *rows = Page(page_of(*said)).rows
             self.assertEqual(heads[:3], ["step", "command", "choices"])
@@ -175,13 +175,14 @@ class Pages(unittest.TestCase):
                               in report_of(report).settings])
 
     def test_bars(self):
-        """One in each row, in percent of the longest, for eyes alone."""
+        """One in each row, in percent of the longest, for eyes alone. A strip
+        has pictures too, which have a role."""
         for said in [*(case.said for case in cases()), all_settings()]:
             found, meant = Page(page_of(*said)), report_of(said[1])
             counts = ([setting.states for setting in meant.settings]
                       if isinstance(meant, Safe) else [])
             charts = [attributes for tag, attributes in found.tags
-                      if tag == "svg"]
+                      if tag == "svg" and "role" not in attributes]
             self.assertEqual(charts, [{"aria-hidden": "true"}] * len(counts))
             bars = [attributes for tag, attributes in found.tags
                     if tag == "rect"]

@@ -1,11 +1,12 @@
 /* Nutseason for programs in C: the reader and the acceptance test (libloader.a); and the search, in one go or in
- * portions, its reservations, questions about states, and a player that walks a trace (libworkbench.a). They are
- * installed as libnutseason_loader.a and libnutseason_workbench.a; `pkg-config --libs nutseason` names both.
+ * portions, its reservations, questions about states, a player that walks a trace, and bursts in a trace
+ * (libworkbench.a). They are installed as libnutseason_loader.a and libnutseason_workbench.a;
+ * `pkg-config --libs nutseason` names both.
  *
  * Every function is proved: it ends on all inputs, touches nothing but what it is handed, keeps nothing between
  * calls, and needs no heap. It answers with one number. The low byte says which answer it is, and the rest,
- * number / 256, is a place, three counts, a length with a number of trials, or where a search stands; it is 0 where
- * there is nothing to say.
+ * number / 256, is a place, three counts, a length with a number of trials, where a search stands, a number of steps,
+ * or how often a command occurs with a place; it is 0 where there is nothing to say.
  *
  * What a caller owes: a pointer with its length is memory that the call may read, and write where it is not const;
  * a table or list is aligned as its type asks; no two of the arguments overlap where one of them is written; and
@@ -25,9 +26,12 @@
  *    7  one name, command, item, node, star or depth too many       the token that is too many
  *    8  a lent table, sheet buffer or list of needs is too short    0
  *       or a player's record has fewer than two entries             0
+ *       or a list of steps or of counts has too few places          0
  *    9  the sheet's records are not in form                         the record, or 65536 where the sheet is too long
  *   10  a number in the sheet does not fit the model                the record
  *       or a question is about a state that the model has not       0
+ *       or about a command that the model has not                   0
+ *   16  a stretch is to have no steps, or more than 4,095           0
  */
 #ifndef NUTSEASON_H
 #define NUTSEASON_H
@@ -40,12 +44,16 @@ extern "C" {
 #endif
 
 /* The largest that can be asked for: a longer text or sheet is refused by its length alone, and no search needs more
- * room. What a search of one text needs, nutseason_reserve tells. */
+ * room. What a search of one text needs, nutseason_reserve tells. In a sheet a step takes ten bytes behind the first
+ * seventeen, so no trace has more steps than these. */
 enum {
     NUTSEASON_LONGEST_TEXT = 16384,
     NUTSEASON_LONGEST_SHEET = 65536,
     NUTSEASON_MOST_STATES = 4096,
-    NUTSEASON_SHEET_ROOM = 7 + 10 * NUTSEASON_MOST_STATES
+    NUTSEASON_SHEET_ROOM = 7 + 10 * NUTSEASON_MOST_STATES,
+    NUTSEASON_MOST_STEPS = (NUTSEASON_LONGEST_SHEET - 17) / 10,
+    NUTSEASON_MOST_COMMANDS = 16,
+    NUTSEASON_GREATEST_WIDTH = 4095
 };
 
 /* Which answer it is: a letter, or the number of a refusal. */
@@ -54,8 +62,8 @@ static inline unsigned nutseason_answer(uint64_t said)
     return (unsigned)(said & 255);
 }
 
-/* The place or the counts that come with it. What comes with the verdict of a search, the next two tell; where a search
- * stands that is not finished, the four behind them. */
+/* The place, the counts or the number of steps that come with it. What comes with the verdict of a search, the next two
+ * tell; where a search stands that is not finished, the four behind them; and what comes with a burst, the last two. */
 static inline uint64_t nutseason_rest(uint64_t said)
 {
     return said >> 8;
@@ -95,6 +103,18 @@ static inline unsigned nutseason_states_expanded(uint64_t position)
 static inline unsigned nutseason_states_met(uint64_t position)
 {
     return (unsigned)(position >> 22 & 8191);
+}
+
+/* After 'b' of nutseason_burst: how often at most the command occurs in a stretch. */
+static inline unsigned nutseason_most(uint64_t said)
+{
+    return (unsigned)(said >> 8 & 65535);
+}
+
+/* And the place where the first such stretch starts. */
+static inline unsigned nutseason_first_place(uint64_t said)
+{
+    return (unsigned)(said >> 24 & 65535);
 }
 
 /* Reads a text. 'm': it says a model, and the next three bytes of the answer are its counts of shared names
@@ -210,6 +230,40 @@ uint64_t nutseason_back(const uint8_t *text, size_t text_len, const uint8_t *she
  * never said. */
 uint64_t nutseason_beginning(const uint8_t *text, size_t text_len, const uint8_t *sheet, size_t sheet_len,
                              uint64_t *record, size_t record_len);
+
+/* Bursts in a trace: where commands occur most densely. The place of a step is its number, from 1. A stretch is as many
+ * consecutive steps as its width says, and its place is that of its first step; a trace that is not longer than the
+ * width is one stretch as a whole, from place 1, even without a step.
+ *
+ * What is said, in this order: where the sheet is no trace that holds, the answer of nutseason_test: 1 to 7, 9, 10,
+ * 's', 'v', or 'A' to 'F', and so never 't'. Then 8, where the list has fewer places than the trace has steps, or the
+ * list of counts fewer than 16. Then, of nutseason_burst, 10 for a command that the model has not, and 16 for a width
+ * of 0 or over 4,095. These three have place 0. Else 'n' or 'b': the list begins with the steps of the trace, in their
+ * order, whatever it held, and what stands behind the last step stays. With every other answer all of the list stays,
+ * and so do all counts. A list of NUTSEASON_MOST_STEPS places is never too short. */
+
+/* A step: its command, counted from 0 in the order of the text, its choice word, and the state after it. */
+struct nutseason_step {
+    uint8_t command;
+    uint8_t word;
+    uint16_t after;
+};
+
+/* Lists the steps. 'n': nutseason_rest(said) is how many there are. */
+uint64_t nutseason_steps(const uint8_t *text, size_t text_len, const uint8_t *sheet, size_t sheet_len,
+                         struct nutseason_step *list, size_t list_len);
+
+/* Lists the steps, and looks for the stretch of this width in which a command occurs most often. 'b': it occurs
+ * nutseason_most(said) times in the stretch from nutseason_first_place(said) on, less often in each that starts before,
+ * and in none more often. A command that does not occur has 0 times, from place 1. */
+uint64_t nutseason_burst(const uint8_t *text, size_t text_len, const uint8_t *sheet, size_t sheet_len,
+                         struct nutseason_step *list, size_t list_len, uint64_t command, uint64_t width);
+
+/* Lists the steps, and counts them by command. 'n': nutseason_rest(said) is how many there are, and counts[0] to
+ * counts[15] are how many of each command, 0 for those beyond the model's; together they are all steps. What stands in
+ * the counts beyond the sixteenth stays. */
+uint64_t nutseason_counts(const uint8_t *text, size_t text_len, const uint8_t *sheet, size_t sheet_len,
+                          struct nutseason_step *list, size_t list_len, uint16_t *counts, size_t counts_len);
 
 #ifdef __cplusplus
 }

@@ -1,9 +1,11 @@
 """Entries of the corpora, each compared with what its label says."""
 
-from comparing import player, walks
+from comparing import bursts, player, walks
 from comparing.portions import Case
 from comparing.reached import compare_reached
-from corpora import player_labels, portions, portions_labels, reached
+from corpora import (bursts_labels, player_labels, portions, portions_labels,
+                     reached)
+from corpora.bursts import due as steps_due
 from reader.model import Refusal
 
 
@@ -29,3 +31,11 @@ def compare_player(rng, library, label, text, sheet, given, calls,
     assert calls == tuple(step.call for step in steps), label
     player.compare_walk(rng, library, label, text, sheet, given, steps,
                         differences)
+
+
+def compare_bursts(rng, library, label, text, sheet, call, numbers,
+                   differences):
+    said, _, *counted = bursts.compare_call(
+        rng, library, label, text, sheet, steps_due(text, sheet), call,
+        numbers, differences)
+    assert bursts_labels.is_meant(label, said, *counted), label

@@ -3,16 +3,20 @@
 import ctypes
 import random
 from array import array
+from itertools import starmap
+from struct import Struct
 
 from comparing.guarded import Guarded
 from comparing.told import (player_told, question_told, read_told,
-                            reserve_told, search_told, test_told)
+                            reserve_told, search_told, steps_told, test_told)
 from evidence.calls_player import CALLS
 
 NUMBER = [ctypes.c_uint64]
 # A pointer, and how many entries there are.
 LENT = [ctypes.c_void_p, ctypes.c_size_t]
 MOST_LENT = 4
+# A place of a list of steps: command, choice word, state after.
+STEP = Struct("<BBH")
 
 
 class Library:
@@ -36,6 +40,9 @@ class Library:
         self._reached = typed(loaded.nutseason_reached, LENT * 2 + NUMBER)
         self._player = {call: typed(getattr(loaded, f"nutseason_{call}"),
                                     LENT * 3) for call in CALLS}
+        self._steps = typed(loaded.nutseason_steps, LENT * 3)
+        self._burst = typed(loaded.nutseason_burst, LENT * 3 + NUMBER * 2)
+        self._counts = typed(loaded.nutseason_counts, LENT * 4)
         self._places = [Guarded() for _ in range(MOST_LENT)]
         self._rng = random.Random(0)
 
@@ -91,6 +98,29 @@ class Library:
         """What the player's function of that name answers."""
         return player_told(self._with_entries(self._player[call], memory,
                                               count, text, sheet))
+
+    def steps(self, text, sheet, places):
+        """How many steps there are. The places hold afterwards what the call
+        left there."""
+        return self._with_places(self._steps, text, sheet, places)
+
+    def burst(self, text, sheet, places, command, width):
+        """The most times, and the place."""
+        return self._with_places(
+            lambda *handed: self._burst(*handed, command, width), text, sheet,
+            places)
+
+    def counts(self, text, sheet, places, entries):
+        """As `steps`; the counts are in the entries afterwards."""
+        return self._with_places(self._counts, text, sheet, places, entries)
+
+    def _with_places(self, call, text, sheet, places, *others):
+        """What a call answers that is handed a list of steps."""
+        lent = array("I")
+        lent.frombytes(b"".join(starmap(STEP.pack, places)))
+        said = self._lent(call, text, sheet, lent, *others)
+        places[:] = STEP.iter_unpack(lent.tobytes())
+        return steps_told(said)
 
     def _with_entries(self, call, memory, count, *others):
         """What a call answers that is handed these, and then the first

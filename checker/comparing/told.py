@@ -43,6 +43,17 @@ def player_told(said):
     return told_by(PLAYER, said)
 
 
+def steps_told(said):
+    """The rest of the answer is the number of steps, or the most times that a
+    command occurs, and 65,536 times the place."""
+    low = chr(said & 255)
+    if low == "n":
+        return f"steps {said >> 8}"
+    if low == "b":
+        return f"burst {said >> 8 & 65535} {said >> 24}"
+    return test_told(said)
+
+
 def search_told(said):
     """The rest of the answer is the length, and 65,536 times the trials."""
     low = chr(said & 255)

@@ -7,12 +7,7 @@ place. A player has nothing but its record: the place, and the state there.
 from itertools import accumulate
 from typing import NamedTuple
 
-from evidence.acceptance import HOLDS, answer_in
-from evidence.calls import refused
-from evidence.one_row import OneRow
-from evidence.sheets import contents
-from reader.model import Refusal
-from reader.reading import read
+from evidence.traces import for_text, passing_in
 
 
 class Record(NamedTuple):
@@ -23,18 +18,14 @@ class Record(NamedTuple):
 def played(text, sheet):
     """The states of a trace that passes, place by place; or what the test
     says of any other sheet."""
-    model = read(text)
-    return (refused(model) if isinstance(model, Refusal)
-            else played_in(OneRow(model), sheet))
+    return for_text(played_in, text, sheet)
 
 
 def played_in(table, sheet):
     """The same for the table of a text's model."""
-    said = answer_in(table, sheet)
-    if said != HOLDS["unsafe"]:
-        return said
-    trace = contents(sheet, table)
-    return states_of(table, trace.start, trace.steps)
+    trace = passing_in(table, sheet)
+    return (trace if isinstance(trace, str)
+            else states_of(table, trace.start, trace.steps))
 
 
 def states_of(table, start, steps):

@@ -10,12 +10,14 @@ from evidence.calls_player import CALLS
 from evidence.reservations import reserved
 from reader.model import Refusal
 from reader.reading import read
+from tests.burst_program import Bursts
 from tests.player_program import Player
 from tests.portion_program import Program, number_of, tested
 from tests.stand_ins import LETTERS, number, packed
 
-# Bytes, numbers of 16 bits and of 64, each a pointer and a length; a number.
-BYTES, TABLE, ENTRIES, NUMBER = "B", "H", "Q", "number"
+# Bytes, numbers of 16 bits and of 64, and steps of four bytes, each a pointer
+# and a length; a number.
+BYTES, TABLE, ENTRIES, STEPS, NUMBER = "B", "H", "Q", "I", "number"
 
 # What each function is handed, and which of it may be written.
 HANDED = {
@@ -28,6 +30,9 @@ HANDED = {
     "met": ((NUMBER, NUMBER, BYTES, TABLE, TABLE), ()),
     "finish": ((NUMBER, BYTES, TABLE, TABLE, BYTES), (2, 3, 4)),
     "reached": ((BYTES, BYTES, NUMBER), ()),
+    "steps": ((BYTES, BYTES, STEPS), (2,)),
+    "burst": ((BYTES, BYTES, STEPS, NUMBER, NUMBER), (2,)),
+    "counts": ((BYTES, BYTES, STEPS, TABLE), (2, 3)),
 } | {call: ((BYTES, BYTES, ENTRIES), (2,)) for call in CALLS}
 
 
@@ -36,10 +41,15 @@ def fetched(code, address, count):
     there = array(code)
     if count:
         there.frombytes(ctypes.string_at(address, count * there.itemsize))
+    if code == STEPS:
+        return [(step & 255, step >> 8 & 255, step >> 16) for step in there]
     return bytes(there) if code == BYTES else list(there)
 
 
 def put_back(code, address, numbers):
+    if code == STEPS:
+        numbers = [command + 256 * word + 65536 * after
+                   for command, word, after in numbers]
     data = array(code, numbers).tobytes()
     if data:
         ctypes.memmove(address, data, len(data))
@@ -74,23 +84,25 @@ def for_c(call, kinds, written):
 
 
 class InMemory:
-    """To be loaded by a Library. The functions that are neither those of
-    portions nor those of a player are the checker's own."""
+    """To be loaded by a Library. The functions that are not those of
+    portions, of a player or of bursts are the checker's own."""
 
-    def __init__(self, program=None, player=None):
+    def __init__(self, program=None, player=None, bursts=None):
         program, player = program or Program(), player or Player()
+        bursts = bursts or Bursts()
         calls = {"read": read_number, "test": test_number,
                  "reserve": reserve_number, "search": search_number,
                  "open": program.open, "portion": program.portion,
                  "met": program.asked, "finish": program.finished,
-                 "reached": program.asked_map}
+                 "reached": program.asked_map, "steps": bursts.list_steps,
+                 "burst": bursts.find_burst, "counts": bursts.count_steps}
         calls |= {call: getattr(player, call) for call in CALLS}
         for name, call in calls.items():
             setattr(self, f"nutseason_{name}", for_c(call, *HANDED[name]))
 
 
-def library_of(program=None, player=None):
-    loaded = InMemory(program, player)
+def library_of(program=None, player=None, bursts=None):
+    loaded = InMemory(program, player, bursts)
     return Library("", lambda path: loaded)
 
 

@@ -139,6 +139,15 @@ class Lent(unittest.TestCase):
              ((1, 1, False), (3, 2, True), (5, 2, True), (7, 1, True))),
             ("reached", lambda one: one.reached(self.text, sheet, [1]),
              ((0, 1, False), (2, 1, False))),
+            ("steps", lambda one: one.steps(G.encode(), G_SHEET,
+                                            [(0, 0, 0)]),
+             ((0, 1, False), (2, 1, False), (4, 4, True))),
+            ("burst", lambda one: one.burst(G.encode(), G_SHEET,
+                                            [(0, 0, 0)], 0, 1),
+             ((0, 1, False), (2, 1, False), (4, 4, True))),
+            ("counts", lambda one: one.counts(G.encode(), G_SHEET,
+                                              [(0, 0, 0)], [0] * 16),
+             ((0, 1, False), (2, 1, False), (4, 4, True), (6, 2, True))),
             *((call, lambda one, call=call: one.play(
                 call, G.encode(), G_SHEET, [0, 1], 2),
                ((0, 1, False), (2, 1, False), (4, 8, True)))

@@ -20,8 +20,8 @@ from evidence.player import MOVES, Record, is_foreign, played, standing
 from evidence.searching import search
 from evidence.sheets import contents
 from inputs.cases import G, G_CASES, G_SHEET, G_VOID, H, map_for, trace_for
-from inputs.random_player import passing_traces
 from inputs.random_searches import random_models
+from inputs.random_traces import passing_traces
 from reader.model import Refusal
 
 LARGEST = (1 << 64) - 1

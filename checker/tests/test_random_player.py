@@ -13,10 +13,12 @@ from tests.player_cases import KEEPING, PLAYERS, RIGHT, is_shown
 from tests.player_program import Player
 from tests.portion_cases import found
 from comparing.differences import Differences
-from comparing.random_player import compare_random_player, random_pairs
+from comparing.random_pairs import random_pairs
+from comparing.random_player import compare_random_player
 from evidence.acceptance import answer
 from evidence.calls_player import CALLS
 from evidence.one_row import OneRow
+from evidence.player import played_in
 from evidence.searching import search
 from inputs.random_searches import random_models
 from reader.model import Refusal
@@ -98,7 +100,7 @@ class AtRandom(unittest.TestCase):
         rng = random.Random(4)
         met = Counter()
         for text in self.texts[:40]:
-            pairs = random_pairs(rng, text)
+            pairs = random_pairs(rng, text, played_in)
             for pair in pairs:
                 passes = isinstance(pair.due, list)
                 self.assertEqual(passes, answer(pair.text, pair.sheet)

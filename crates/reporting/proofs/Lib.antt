@@ -1,7 +1,6 @@
 -- Laws that the proofs of the functions cite, and what is promised of reports.
 pub mod Parts
 pub mod StepsLeft
-pub mod NameArrays
 pub mod ReportTells
 pub mod TextReports
 pub mod Reported

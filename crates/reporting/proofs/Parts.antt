@@ -2,22 +2,15 @@
 -- Assumes nothing.
 use mathlib.Core.Path.{_≡_, sym, ap, _∙_, subst}
 use mathlib.Core.List.{List, _++_}
-use Prim.Native.Nat.{ℕ, _+_, _-_}
-use native.Mathlib.Omega.{arith}
-use lib.ListN.{getD, take, drop}
+use Prim.Native.Nat.{ℕ, _+_}
+use lib.ListN.{getD}
 use Rattle.reader.specs.declared.Code.{Code}
 use Rattle.sheets.specs.SheetTexts.{twoAt, stepIn}
 use Rattle.lines.specs.Puts.{Fits, Puts}
 use Rattle.lines.proofs.Stores.{behind, first-fits, rest-fits}
+use Rattle.names.specs.working.Arrays.{nameIn, Named}
 use Rattle.reporting.specs.Reports.{unsafeLine, startLine, stepLine}
-use Rattle.reporting.specs.working.Writing.{nameIn, Named, recordLine, startIn, stepsOf, stepsShown, runLines, counts}
-
--- The bytes of a name, from its place and its length.
-pub name-part : (text names : List ℕ) (i from long : ℕ) → from ≡ getD names i 0 → long ≡ getD names (28 + i) 0
-    → take (from + long - from) (drop from text) ≡ nameIn text names i
-name-part text names i from long e f =
-    let z : from + long - from ≡ long = omega arith in
-    ap (λ k. take k (drop from text)) (z ∙ f) ∙ ap (λ k. take (getD names (28 + i) 0) (drop k text)) e
+use Rattle.reporting.specs.working.Writing.{recordLine, startIn, stepsOf, stepsShown, runLines, counts}
 
 -- A step's line, from the numbers that were read.
 module _ (text names : List ℕ) (base : ℕ) (sheet : List ℕ) (p : ℕ) where

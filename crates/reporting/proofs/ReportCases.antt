@@ -8,7 +8,8 @@ use Rattle.meaning.specs.Bits.{bit}
 use Rattle.meaning.specs.Evidence.{inMap}
 use Rattle.exploration.specs.Members.{below}
 use Rattle.counting.specs.CountLines.{settingLines, countLines}
-use Rattle.reporting.specs.Reports.{stepLines, commandName, verdictLines, reportLines}
+use Rattle.names.specs.Names.{commandName}
+use Rattle.reporting.specs.Reports.{stepLines, verdictLines, reportLines}
 use Rattle.reporting.specs.Cases.{written, cases, AllCases}
 use Rattle.reporting.specs.working.Reporting.{reportIn}
 

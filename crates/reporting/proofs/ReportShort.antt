@@ -29,10 +29,11 @@ use Rattle.lines.proofs.LineLengths.{one-word, two-words, four-words, five-word
 use Rattle.counting.specs.Counts.{settingCount}
 use Rattle.counting.specs.CountLines.{countLines}
 use Rattle.counting.proofs.LinesShort.{count-lines-short}
-use Rattle.reporting.specs.Reports.{countsLine, safeLine, voidLine, unsafeLine, startLine, stepLine, stepLines, commandName, verdictLines, reportLines, longestReport}
+use Rattle.names.specs.Names.{commandName}
+use Rattle.names.proofs.NameArrays.{told}
+use Rattle.reporting.specs.Reports.{countsLine, safeLine, voidLine, unsafeLine, startLine, stepLine, stepLines, verdictLines, reportLines, longestReport}
 use Rattle.reporting.specs.Promises.{ReportsFit}
 use Rattle.reporting.specs.working.Reporting.{foundFor, reportOf}
-use Rattle.reporting.proofs.NameArrays.{told}
 use Rattle.reporting.proofs.ReportTells.{found-lines, refused-lines}
 use Rattle.reporting.proofs.TextReports.{sheet-length, regular, few, passes, sheet-short}
 

@@ -11,8 +11,9 @@ use Rattle.sheets.specs.SheetTexts.{stepIn}
 use Rattle.sheets.specs.working.SheetReading.{stepsIn}
 use Rattle.lines.specs.Puts.{Fits, Puts}
 use Rattle.lines.proofs.Stores.{none, behind, keeps, first-fits, rest-fits}
+use Rattle.names.specs.working.Arrays.{nameIn, Named}
 use Rattle.reporting.specs.Reports.{stepLines}
-use Rattle.reporting.specs.working.Writing.{nameIn, Named, recordLine}
+use Rattle.reporting.specs.working.Writing.{recordLine}
 
 -- The lines of n steps, whose records begin at `from`; those before step i are written.
 module _ (text names : List ℕ) (base : ℕ) (sheet : List ℕ) (from n : ℕ) where

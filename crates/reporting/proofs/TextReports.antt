@@ -32,10 +32,12 @@ use Rattle.exploration.proofs.FoundShort.{trace-sheet-length}
 use Rattle.verdicts.proofs.SearchTells as Left
 use Rattle.counting.specs.Counts.{settingCount}
 use Rattle.counting.specs.CountLines.{countLines}
-use Rattle.reporting.specs.Reports.{countsLine, safeLine, unsafeLine, startLine, stepLine, stepLines, commandName, verdictLines, reportLines}
+use Rattle.names.specs.Names.{commandName}
+use Rattle.names.specs.working.Arrays.{nameIn, Named}
+use Rattle.names.proofs.NameArrays.{told}
+use Rattle.reporting.specs.Reports.{countsLine, safeLine, unsafeLine, startLine, stepLine, stepLines, verdictLines, reportLines}
 use Rattle.reporting.specs.working.Reporting.{foundFor, reportOf}
-use Rattle.reporting.specs.working.Writing.{nameIn, Named, headerEnd, startIn, stepsOf, traceSteps, payloadStart, payloadLength, safeReport, voidReport, traceReport, MapShown, Printable}
-use Rattle.reporting.proofs.NameArrays.{told}
+use Rattle.reporting.specs.working.Writing.{headerEnd, startIn, stepsOf, traceSteps, payloadStart, payloadLength, safeReport, voidReport, traceReport, MapShown, Printable}
 use Rattle.reporting.proofs.ReportTells.{found-lines}
 
 -- The bytes of a trace say its start state and its steps.

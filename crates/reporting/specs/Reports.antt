@@ -1,17 +1,17 @@
 -- The lines of a report: the counts of a model, the verdict, and how many states its map has or its first breaking run.
 -- Assumes nothing.
-use mathlib.Core.List.{List, [], _∷_, _++_, map}
+use mathlib.Core.List.{List, [], _∷_, _++_}
 use Prim.Native.Nat.{ℕ, _+_}
-use lib.ListN.{length, getD}
+use lib.ListN.{length}
 use Rattle.notation.specs.Bytes.{bytes}
 use Rattle.notation.specs.Tokens.{Word}
-use Rattle.notation.specs.Notation.{Tree, tree′}
+use Rattle.notation.specs.Notation.{Tree}
 use Rattle.notation.specs.Model.{Model}
-use Rattle.notation.specs.Texts.{modelOf, titleOf}
-use Rattle.notation.specs.Case.{spelling}
+use Rattle.notation.specs.Texts.{modelOf}
 use Rattle.meaning.specs.OneRow.{stateCount, TraceStep}
 use Rattle.meaning.specs.Evidence.{Verdict, safeBy, voidBy, unsafeBy}
 use Rattle.lines.specs.Lines.{decimalOf, line}
+use Rattle.names.specs.Names.{commandName}
 use Rattle.counting.specs.Counts.{settingCount}
 use Rattle.counting.specs.CountLines.{countLines}
 
@@ -43,10 +43,6 @@ stepLine number called chosen after = line (bytes "step" ∷ decimalOf number �
 unfoldable pub stepLines : (ℕ → Word) → ℕ → List TraceStep → List ℕ
 stepLines called number [] = []
 stepLines called number (x ∷ xs) = stepLine number (called (x .command)) (x .word) (x .after) ++ stepLines called (number + 1) xs
-
--- The name of command i of a tree, as its declaration in the text spells it.
-unfoldable pub commandName : List ℕ → Tree → ℕ → Word
-commandName text (tree′ ws vs s k cs) i = getD (map (spelling text) (map titleOf cs)) i []
 
 -- The lines of a verdict on a model: after `safe` follow the counts of the map, after `unsafe` the run, its steps numbered from 1.
 unfoldable pub verdictLines : Model → (ℕ → Word) → Verdict → List ℕ

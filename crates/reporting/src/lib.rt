@@ -1,5 +1,4 @@
 // The report of a text: its counts, the verdict with the counts of the map or the first breaking run, or its refusal.
-mod names;
 mod run;
 
 ghost use mathlib.Core.Path.{_≡_};

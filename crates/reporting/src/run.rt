@@ -1,13 +1,14 @@
 // The run that a trace says: the verdict, the start state, and a line for each step.
 ghost use Rattle.sheets.specs.SheetTexts.{stepIn};
 ghost use Rattle.lines.specs.Puts.{Fits, Puts};
+ghost use Rattle.names.specs.working.Arrays.{nameIn, Named};
 ghost use Rattle.reporting.specs.Reports.{stepLine};
-ghost use Rattle.reporting.specs.working.Writing.{nameIn, Named, recordLine, runLines, StepShown, Shown};
-use crate::names::Names;
-use crate::names::put_name;
+ghost use Rattle.reporting.specs.working.Writing.{recordLine, runLines, StepShown, Shown};
 use lines::put;
 use lines::put_number;
 use lines::put_number_line;
+use names::Names;
+use names::put_name;
 use sheets::fields::HEADER;
 use sheets::fields::two_at;
 use sheets::fields::wide;

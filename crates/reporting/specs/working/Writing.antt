@@ -1,26 +1,17 @@
 -- The report over the flat form of a model and the bytes of a sheet, as the code writes it.
 -- Assumes nothing.
 use mathlib.Core.List.{List, _++_}
-use Prim.Native.Nat.{ℕ, _+_, _-_, _/_, _^_, _<_, _≤_}
-use lib.ListN.{length, getD, take, drop}
-use Rattle.notation.specs.Tokens.{Word}
+use Prim.Native.Nat.{ℕ, _+_, _-_, _/_, _^_, _≤_}
+use lib.ListN.{length}
 use Rattle.notation.specs.Regular.{Every}
 use Rattle.meaning.specs.OneRow.{TraceStep}
 use Rattle.reader.specs.declared.Code.{Code}
 use Rattle.sheets.specs.SheetTexts.{twoAt, stepIn}
 use Rattle.sheets.specs.working.SheetReading.{mapIn, stepsIn}
+use Rattle.names.specs.working.Arrays.{nameIn, Named}
 use Rattle.counting.specs.CountLines.{countLines}
 use Rattle.counting.specs.working.Counting.{Countable}
 use Rattle.reporting.specs.Reports.{countsLine, safeLine, voidLine, unsafeLine, startLine, stepLine, stepLines}
-
--- The bytes of name i in the text.
-abbrev pub nameIn : List ℕ → List ℕ → ℕ → Word
-nameIn text names i = take (getD names (28 + i) 0) (drop (getD names i 0) text)
-
--- There is a name i, and it lies in the text.
-pub record Named (text names : List ℕ) (i : ℕ) : Type 0 where
-  pub index : i < 28
-  pub inside : getD names i 0 + getD names (28 + i) 0 ≤ length text
 
 -- The line of a step, where the commands' names begin with name `base`.
 abbrev pub recordLine : List ℕ → List ℕ → ℕ → ℕ → TraceStep → List ℕ

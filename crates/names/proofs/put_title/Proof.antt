@@ -1,12 +1,11 @@
--- `put_name` meets its contract: the part of the text from the name's place on, as long as the name, is its bytes.
+-- `put_title` meets its contract: the part of the text from the name's place on, as long as the name, is its bytes.
 -- Assumes nothing.
 use mathlib.Core.Path.{sym, subst}
 use borrow.Author.Needs.{needs}
 use Rattle.lines.specs.Puts.{Fits, Puts}
-use Rattle.lines.specs.Lines.{word}
-use Rattle.reporting.proofs.Parts.{name-part}
-use Rattle.reporting.proofs.names.put_name.Statement.{statement}
-use Rattle.reporting.proofs.names.put_name.Tie as tie
+use Rattle.names.proofs.NameParts.{name-part}
+use Rattle.names.proofs.put_title.Statement.{statement}
+use Rattle.names.proofs.put_title.Tie as tie
 
 mul-count : tie.Need-mul-count
 mul-count c = search needs
@@ -32,22 +31,22 @@ count-requires-2 c κs = search needs
 add-to : tie.Need-add-to
 add-to c = search needs
 
-sub-put-word : tie.Need-sub-put-word
-sub-put-word c = search needs
+sub-put : tie.Need-sub-put
+sub-put c = search needs
 
-part-put-word-start : tie.Need-part-put-word-start
-part-put-word-start c = search needs
+part-put-start : tie.Need-part-put-start
+part-put-start c = search needs
 
-part-put-word-end : tie.Need-part-put-word-end
-part-put-word-end c = search needs
+part-put-end : tie.Need-part-put-end
+part-put-end c = search needs
 
-put-word-requires : tie.Need-put-word-requires
-put-word-requires c κs =
+put-requires : tie.Need-put-requires
+put-requires c κs =
     let after-count2 : tie.After-count2 = search in
     let after-count : tie.After-count = search in
     let start : tie.Start = search in
     let a = start .args in
-    subst (λ v. Fits (a .out .now) (a .at) (word v))
+    subst (λ v. Fits (a .out .now) (a .at) v)
     (sym
     (name-part (a .text .now) (a .names .now) (a .i) (after-count .count .result) (after-count2 .count2 .result)
     (after-count .count .ensures) (after-count2 .count2 .ensures)))
@@ -58,19 +57,19 @@ same-length c = search needs
 
 returns : tie.Need-returns
 returns c =
-    let after-put-word : tie.After-put-word = search in
+    let after-put : tie.After-put = search in
     let after-count2 : tie.After-count2 = search in
     let after-count : tie.After-count = search in
     let start : tie.Start = search in
     let a = start .args in
-    let p = after-put-word .put-word in
-    subst (λ v. Puts (a .out .now) (a .at) (word v) (p .last .0) (p .result))
+    let p = after-put .put in
+    subst (λ v. Puts (a .out .now) (a .at) v (p .last .0) (p .result))
     (name-part (a .text .now) (a .names .now) (a .i) (after-count .count .result) (after-count2 .count2 .result)
     (after-count .count .ensures) (after-count2 .count2 .ensures))
     (p .ensures)
 
-pub put-name-spec : {M : Type 1} → statement M
-put-name-spec =
+pub put-title-spec : {M : Type 1} → statement M
+put-title-spec =
     tie.close
     (tie.spec
     mul-count
@@ -81,9 +80,9 @@ put-name-spec =
     element-copy-out-count-2
     count-requires-2
     add-to
-    sub-put-word
-    part-put-word-start
-    part-put-word-end
-    put-word-requires
+    sub-put
+    part-put-start
+    part-put-end
+    put-requires
     same-length
     returns)

@@ -15,8 +15,8 @@ use Rattle.meaning.proofs.Lists.{every-at}
 use Rattle.notation.proofs.Case.{lower-length}
 use Rattle.notation.proofs.NamesStand.{Stands, names-stand}
 use Rattle.reader.specs.Read.{placed, nameArray}
-use Rattle.reporting.specs.Reports.{commandName}
-use Rattle.reporting.specs.working.Writing.{nameIn, Named}
+use Rattle.names.specs.Names.{commandName}
+use Rattle.names.specs.working.Arrays.{nameIn, Named}
 
 -- The name n stored at number i.
 abbrev with : List ℕ → ℕ → Name → List ℕ

@@ -1,0 +1,2 @@
+-- Definitions that only describe how the code goes about its work.
+pub mod Tables

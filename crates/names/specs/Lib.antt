@@ -1,0 +1,3 @@
+-- Names as they stand in a text, and in `working` where the reader's array has them.
+pub mod Names
+pub mod working
