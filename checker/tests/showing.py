@@ -38,6 +38,33 @@ def shows(group, program):
     return False
 
 
+def compared_at_random(compare, program, texts):
+    """What is met and what differs, no further than to the first
+    difference."""
+    rng = random.Random(3)
+    differences = Differences()
+    with redirect_stdout(io.StringIO()):
+        for text in texts:
+            compare(rng, program, text, differences)
+            if differences.count:
+                break
+    return differences
+
+
+class AllDiffer:
+    """Tests of a corpus whose entries begin with a label, to be mixed into a
+    class of tests; `entries` gives them, and `corpus` makes them anew."""
+
+    def test_all_differ(self):
+        self.assertEqual(len({entry[0] for entry in self.entries()}),
+                         len(self.entries()))
+        self.assertEqual(len({entry[1:] for entry in self.entries()}),
+                         len(self.entries()))
+
+    def test_same_again(self):
+        self.assertEqual(self.corpus(), self.entries())
+
+
 class Told:
     """Tests of wrong programs, each named with groups that tell it from the
     right one; to be mixed into a class of tests. `programs` has all by their

@@ -8,6 +8,7 @@ from collections import Counter
 from tests.burst_cases import entries
 from tests.burst_program import Bursts
 from tests.portion_program import table_of
+from tests.showing import AllDiffer
 from comparing.bursts import compare_call, handed
 from comparing.differences import Differences
 from comparing.lending import counts_unlike, places_unlike
@@ -146,18 +147,12 @@ class ByHand(unittest.TestCase):
                                      word + 256 * command)
 
 
-class Corpus(unittest.TestCase):
+class Corpus(AllDiffer, unittest.TestCase):
+    entries = staticmethod(entries)
+    corpus = staticmethod(bursts.corpus)
+
     def test_size(self):
         self.assertGreaterEqual(len(entries()), 8000)
-
-    def test_all_differ(self):
-        self.assertEqual(len({entry[0] for entry in entries()}),
-                         len(entries()))
-        self.assertEqual(len({entry[1:] for entry in entries()}),
-                         len(entries()))
-
-    def test_same_again(self):
-        self.assertEqual(bursts.corpus(), entries())
 
     def test_answers(self):
         """Each answer to each call; most stand in the labels."""

@@ -9,6 +9,7 @@ from functools import cache
 from tests.player_cases import entries
 from tests.player_program import Player
 from tests.portion_program import table_of
+from tests.showing import AllDiffer
 from comparing.lending import memory
 from comparing.player import compare_walk
 from comparing.differences import Differences
@@ -92,20 +93,14 @@ class ByHand(unittest.TestCase):
             self.assertEqual(played(text.encode(), sheet), due)
 
 
-class Corpus(unittest.TestCase):
+class Corpus(AllDiffer, unittest.TestCase):
+    entries = staticmethod(entries)
+    corpus = staticmethod(player.corpus)
+
     def test_size(self):
         self.assertGreaterEqual(len(entries()), 2300)
         self.assertGreaterEqual(sum(len(calls) for *_, calls in entries()),
                                 10_000)
-
-    def test_all_differ(self):
-        self.assertEqual(len({entry[0] for entry in entries()}),
-                         len(entries()))
-        self.assertEqual(len({entry[1:] for entry in entries()}),
-                         len(entries()))
-
-    def test_same_again(self):
-        self.assertEqual(player.corpus(), entries())
 
     def test_answers(self):
         """Each answer to each call, at each number of entries."""

@@ -2,16 +2,14 @@
 what is met there is varied, and that wrong ones are shown up; and the same
 through addresses, in guarded memory."""
 
-import io
 import random
 import unittest
 from collections import Counter
-from contextlib import redirect_stdout
 
 from tests.burst_cases import PROGRAMS, is_shown
 from tests.burst_program import Bursts
 from tests.in_memory import library_of
-from comparing.differences import Differences
+from tests.showing import compared_at_random
 from comparing.random_bursts import compare_random_bursts
 from evidence.bursts import called, listed
 from inputs.random_bursts import (bursting, some_command, some_entries,
@@ -42,15 +40,7 @@ SHOWN_AT_RANDOM = """
 
 
 def compared(program, texts):
-    """No further than to the first difference."""
-    rng = random.Random(3)
-    differences = Differences()
-    with redirect_stdout(io.StringIO()):
-        for text in texts:
-            compare_random_bursts(rng, program, text, differences)
-            if differences.count:
-                break
-    return differences
+    return compared_at_random(compare_random_bursts, program, texts)
 
 
 class AtRandom(unittest.TestCase):

@@ -2,17 +2,15 @@
 there is varied, and that wrong ones are shown up; and the same through
 addresses, in guarded memory."""
 
-import io
 import random
 import unittest
 from collections import Counter
-from contextlib import redirect_stdout
 
 from tests.in_memory import library_of
 from tests.player_cases import KEEPING, PLAYERS, RIGHT, is_shown
 from tests.player_program import Player
 from tests.portion_cases import found
-from comparing.differences import Differences
+from tests.showing import compared_at_random
 from comparing.random_pairs import random_pairs
 from comparing.random_player import compare_random_player
 from evidence.acceptance import answer
@@ -46,15 +44,7 @@ def breaks(text):
 
 
 def compared(player, texts):
-    """No further than to the first difference."""
-    rng = random.Random(3)
-    differences = Differences()
-    with redirect_stdout(io.StringIO()):
-        for text in texts:
-            compare_random_player(rng, player, text, differences)
-            if differences.count:
-                break
-    return differences
+    return compared_at_random(compare_random_player, player, texts)
 
 
 class AtRandom(unittest.TestCase):

@@ -22,13 +22,15 @@ use Rattle.windows.specs.working.Surveying.{surveyOf}
 use Rattle.windows.specs.declared.record.Step.{Step}
 use Rattle.windows.specs.declared.record.Question.{Question}
 
--- What is answered to a question about a text and a sheet with a list lent, how often each command occurs, and the list afterwards.
+-- What is answered to a question about a text and a sheet, with a list lent.
 abbrev pub answerOf : Question → List ℕ → List ℕ → List Step → Wording
 answerOf q text b list = wordingOf (surveyOf q text b list .reply .answer)
 
+-- How often each command occurs, by the reply.
 abbrev pub countsAfter : Question → List ℕ → List ℕ → List Step → List ℕ
 countsAfter q text b list = surveyOf q text b list .reply .counts
 
+-- What the list holds afterwards.
 abbrev pub listAfter : Question → List ℕ → List ℕ → List Step → List Step
 listAfter q text b list = surveyOf q text b list .list
 

@@ -15,10 +15,11 @@ use Rattle.windows.specs.declared.record.Question.the-variants as Q
 use Rattle.windows.specs.declared.record.Answer.{Answer}
 use Rattle.windows.specs.declared.record.Answer.the-variants as A
 
--- A list with a trace's steps at its front, all else as before.
+-- A step of a trace as a record of the list.
 abbrev pub recordOf : TraceStep → Step
 recordOf x = record { command = x .command; word = x .word; after = x .after }
 
+-- A list with a trace's steps at its front, all else as before.
 abbrev pub withSteps : List Step → List TraceStep → List Step
 withSteps list xs = sets list 0 (map recordOf xs)
 

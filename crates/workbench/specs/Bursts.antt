@@ -23,11 +23,12 @@ surveyNumber (burst most place) = packed (initial "burst") (most + 65536 * place
 surveyNumber (refused n) = packed n 0
 surveyNumber (told w) = T.testNumber w
 
--- The number, and what the lent list of counts holds afterwards: the counts at its front after an answer with the number of steps, and else what it held.
+-- The number, and what the lent list of counts holds afterwards.
 pub record Told : Type 0 where
   pub number : ℕ
   pub entries : List ℕ
 
+-- After an answer with the number of steps the list has the counts at its front, but where it has no room for them; after every other it is as before.
 unfoldable pub countsTold : Wording → List ℕ → List ℕ → Told
 countsTold (steps n) counts entries =
     cond (ltb (length entries) 16) (record { number = packed 8 0; entries = entries }) (record { number = surveyNumber (steps n); entries = sets entries 0 counts })
@@ -39,13 +40,14 @@ countsTold (told w) counts entries = record { number = surveyNumber (told w); en
 abbrev pub countsOn : List ℕ → List ℕ → List Step → List ℕ → Told
 countsOn text b list entries = let q = Q.Counts (length entries) in countsTold (answerOf q text b list) (countsAfter q text b list) entries
 
--- The answer that a number stands for. A refusal of a question has the number that the test's refusal with the same number and place 0 has: the two are told alike.
+-- What can be told of an answer. A refusal of a question has the number that the test's refusal with the same number and place 0 has: the two are told alike.
 abbrev pub asTold : Wording → Wording
 asTold (steps n) = steps n
 asTold (burst most place) = burst most place
 asTold (refused n) = told (O.returned n 0)
 asTold (told w) = told w
 
+-- The answer that a number stands for.
 abbrev pub answerIn : ℕ → Wording
 answerIn x =
     let rest = x / 256 in
