@@ -39,9 +39,10 @@ use Rattle.windows.proofs.SurveysTold as S
 use Rattle.lines.specs.Lines.{refusalLine}
 use Rattle.wording.specs.Lines.{spelt}
 use Rattle.names.specs.Names.{commandName}
-use Rattle.bursts.specs.Lines.{lineFor, linesFrom, commandLine, withWidth, afterTest, calledIn, commandsIn, tableOf, burstsOf}
+use Rattle.bursts.specs.Lines.{commandLine, linesFrom}
 use Rattle.bursts.specs.Widths.{capped}
-use Rattle.bursts.specs.Promises.{lineIn, BurstsTell, RefusalTells, CappedAlike}
+use Rattle.bursts.specs.working.Writing.{lineFor, answerLine, calledIn, commandsIn, tableOf, withWidth, afterTest, burstsOf}
+use Rattle.bursts.specs.Promises.{BurstsTell, RefusalTells, CappedAlike}
 use Rattle.bursts.proofs.LinesLeft.{same-lines}
 use Rattle.bursts.proofs.LinesPut.{no-width, too-wide, in-range}
 
@@ -117,7 +118,7 @@ module _ (text : List ℕ) (x : Tree) (says : TextSaysTree text x) (b : List ℕ
           rw (le-ltb (length blanks) (length xs) (omega (arith, few, blanks-length)), lt-leb commands k h, ne-eqb w 0 (λ e. omega (arith, e, low)), le-ltb 4095 w high) refl
 
       -- The line of command k.
-      line-told : (k : ℕ) → k < commands → commandLine (commandName text x) (countsAfter Steps text b blanks) text b w k ≡ lineIn text x w (commandsOf xs) k
+      line-told : (k : ℕ) → k < commands → answerLine (commandName text x) (countsAfter Steps text b blanks) text b w k ≡ commandLine text x w (commandsOf xs) k
       unfolding lineFor answerFor countsOf
       line-told k h =
           let c : getD (countsAfter Steps text b blanks) k 0 ≡ occurs k (commandsOf xs) =
@@ -125,13 +126,13 @@ module _ (text : List ℕ) (x : Tree) (says : TextSaysTree text x) (b : List ℕ
           ap (λ n. lineFor (commandName text x k) n (answerOf (Burst k w) text b blanks)) c
           ∙ ap (lineFor (commandName text x k) (occurs k (commandsOf xs))) (on (Burst k w) blanks .answered (not-refused k h) .0)
 
-      table-told : tableOf text b w ≡ linesFrom (lineIn text x w (commandsOf xs)) 0 commands
+      table-told : tableOf text b w ≡ linesFrom (commandLine text x w (commandsOf xs)) 0 commands
       unfolding calledIn commandsIn
       table-told =
-          ap (λ (o : N.Outcome). linesFrom (commandLine (calledIn text o) (countsAfter Steps text b blanks) text b w) 0 (commandsIn o)) (says-answer says)
-          ∙ same-lines (commandLine (commandName text x) (countsAfter Steps text b blanks) text b w) (lineIn text x w (commandsOf xs)) 0 commands (λ k h. line-told k (omega (arith, h)))
+          ap (λ (o : N.Outcome). linesFrom (answerLine (calledIn text o) (countsAfter Steps text b blanks) text b w) 0 (commandsIn o)) (says-answer says)
+          ∙ same-lines (answerLine (commandName text x) (countsAfter Steps text b blanks) text b w) (commandLine text x w (commandsOf xs)) 0 commands (λ k h. line-told k (omega (arith, h)))
 
-      lines-told : burstsOf text b w ≡ linesFrom (lineIn text x w (commandsOf xs)) 0 commands
+      lines-told : burstsOf text b w ≡ linesFrom (commandLine text x w (commandsOf xs)) 0 commands
       lines-told = by-steps text b w _ (counted .0) ∙ sym (in-range w (tableOf text b w) (λ e. omega (arith, e, low)) high) ∙ table-told
 
     refusal-told : (w : ℕ) → (w ≡ 0) ⊎ (4095 < w) → burstsOf text b w ≡ refusalLine 16 0

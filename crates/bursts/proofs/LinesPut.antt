@@ -24,8 +24,8 @@ use Rattle.lines.proofs.LineLengths.{four-words}
 use Rattle.lines.proofs.Stores.{none, front-counts}
 use Rattle.wording.specs.Lines.{lineOf}
 use Rattle.names.specs.working.Arrays.{nameIn}
-use Rattle.bursts.specs.Lines.{burstLine, lineFor, commandLine, withWidth, afterTest, tableOf, burstsOf}
-use Rattle.bursts.specs.working.Tables.{Listed}
+use Rattle.bursts.specs.Lines.{burstLine}
+use Rattle.bursts.specs.working.Writing.{lineFor, answerLine, Listed, tableOf, withWidth, afterTest, burstsOf}
 
 -- A name of at most 16 bytes and three numbers of at most 20 digits.
 line-short : (called : Word) (count : ℕ) (w : Wording) → length called ≤ 16 → length (lineFor called count w) ≤ 80
@@ -37,12 +37,12 @@ line-short called count (refused n) h = omega arith
 line-short called count (told tested) h = omega arith
 
 pub table-short : (text names : List ℕ) (base n : ℕ) → Listed text names base n → (counts b : List ℕ) (w k : ℕ) → k < n
-    → length (commandLine (λ j. nameIn text names (base + j)) counts text b w k) ≤ 80
+    → length (answerLine (λ j. nameIn text names (base + j)) counts text b w k) ≤ 80
 table-short text names base n L counts b w k h = line-short (nameIn text names (base + k)) (getD counts k 0) (answerOf (Burst k w) text b blanks) (L .short k h)
 
 -- The line of the answer that the code has.
 pub line-as : (called : ℕ → Word) (counts text b : List ℕ) (w k occurs : ℕ) (reply : Reply) → occurs ≡ getD counts k 0 → reply ≡ surveyOf (Burst k w) text b blanks .reply
-    → lineFor (called k) occurs (wordingOf (reply .answer)) ≡ commandLine called counts text b w k
+    → lineFor (called k) occurs (wordingOf (reply .answer)) ≡ answerLine called counts text b w k
 line-as called counts text b w k occurs reply e f =
     ap (λ n. lineFor (called k) n (wordingOf (reply .answer))) e ∙ ap (λ (r : Reply). lineFor (called k) (getD counts k 0) (wordingOf (r .answer))) f
 

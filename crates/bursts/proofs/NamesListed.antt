@@ -21,8 +21,8 @@ use Rattle.windows.specs.declared.record.Question.the-variants.{Steps, Burst}
 use Rattle.windows.specs.working.Surveying.{blanks}
 use Rattle.names.specs.working.Arrays.{nameIn}
 use Rattle.names.proofs.NameArrays.{told}
-use Rattle.bursts.specs.Lines.{lineFor, linesFrom, commandLine, calledIn, commandsIn, tableOf}
-use Rattle.bursts.specs.working.Tables.{Listed, tableIn}
+use Rattle.bursts.specs.Lines.{linesFrom}
+use Rattle.bursts.specs.working.Writing.{lineFor, answerLine, Listed, tableIn, calledIn, commandsIn, tableOf}
 use Rattle.bursts.proofs.LinesLeft.{same-lines}
 
 regular : (text : List ℕ) (x : Tree) → TextSaysTree text x → Regular (modelOf x)
@@ -72,7 +72,7 @@ module _ (text : List ℕ) where
 
   module _ (b : List ℕ) (w : ℕ) where
     abbrev with : (ℕ → Word) → List ℕ → ℕ → List ℕ
-    with f counts k = commandLine f counts text b w k
+    with f counts k = answerLine f counts text b w k
 
     abbrev tableFor : Code → List ℕ → List ℕ
     tableFor c counts = tableIn text (c .names) (c .shared + c .row) counts b w (c .commands)

@@ -1,5 +1,5 @@
 -- How a width is written, and the lines that are written for it.
 pub mod Widths
 pub mod Lines
-pub mod Promises
 pub mod working
+pub mod Promises

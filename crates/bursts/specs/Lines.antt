@@ -1,66 +1,22 @@
--- What is written of a text, a sheet and a width: a line for each command, or the one line of a refusal or of the test.
+-- The lines of a trace's commands: how often each occurs, and where it occurs most often in so many steps on end.
 -- Assumes nothing.
-use mathlib.Core.Bool.{cond}
 use mathlib.Core.List.{List, [], _∷_, _++_}
 use Prim.Native.Nat.{ℕ, zero, suc, _+_}
-use lib.Dec.{eqb, ltb}
-use lib.ListN.{length, getD}
 use Rattle.notation.specs.Tokens.{Word}
-use Rattle.notation.specs.Texts.{modelOf}
-use Rattle.notation.specs.working.Machine as N
-use Rattle.notation.specs.working.Answer.{answer}
-use Rattle.windows.specs.Questions.{Wording, steps, burst, refused, told}
-use Rattle.windows.specs.Promises.{answerOf, countsAfter}
-use Rattle.windows.specs.working.Surveying.{blanks}
-use Rattle.windows.specs.declared.record.Question.the-variants.{Steps, Burst}
-use Rattle.lines.specs.Lines.{decimalOf, line, refusalLine}
-use Rattle.wording.specs.Lines.{spelt}
+use Rattle.notation.specs.Notation.{Tree}
+use Rattle.windows.specs.Bursts.{occurs, burst}
+use Rattle.lines.specs.Lines.{decimalOf, line}
 use Rattle.names.specs.Names.{commandName}
 
 -- A command's name, how often the command occurs, the most times in a stretch, and the number of the step where the first such stretch begins.
 abbrev pub burstLine : Word → ℕ → ℕ → ℕ → List ℕ
 burstLine called count most place = line (called ∷ decimalOf count ∷ decimalOf most ∷ decimalOf place ∷ [])
 
--- The line of a command that has this name and occurs so often. Only an answer with a burst has one.
-unfoldable pub lineFor : Word → ℕ → Wording → List ℕ
-lineFor called count (steps n) = []
-lineFor called count (burst most place) = burstLine called count most place
-lineFor called count (refused n) = []
-lineFor called count (told tested) = []
+-- The line of command k of a tree that a text says, for stretches of w steps of steps with these commands.
+abbrev pub commandLine : List ℕ → Tree → ℕ → List ℕ → ℕ → List ℕ
+commandLine text x w xs k = burstLine (commandName text x k) (occurs k xs) (burst k w xs .most) (burst k w xs .place)
 
 -- The lines of n commands from command k on.
 unfoldable pub linesFrom : (ℕ → List ℕ) → ℕ → ℕ → List ℕ
 linesFrom lineOf k zero = []
 linesFrom lineOf k (suc n) = lineOf k ++ linesFrom lineOf (k + 1) n
-
--- The line of command k, where the commands have these names and these counts.
-abbrev pub commandLine : (ℕ → Word) → List ℕ → List ℕ → List ℕ → ℕ → ℕ → List ℕ
-commandLine called counts text b w k = lineFor (called k) (getD counts k 0) (answerOf (Burst k w) text b blanks)
-
--- A width out of range is refused, with the number 16 and place 0.
-unfoldable pub withWidth : ℕ → List ℕ → List ℕ
-withWidth w lines = cond (eqb w 0) (refusalLine 16 0) (cond (ltb 4095 w) (refusalLine 16 0) lines)
-
--- The lines, where there are steps to count. Before them comes what the test says where no trace passes.
-unfoldable pub afterTest : Wording → List ℕ → List ℕ
-afterTest (steps n) lines = lines
-afterTest (burst most place) lines = lines
-afterTest (refused n) lines = refusalLine n 0
-afterTest (told tested) lines = spelt tested
-
--- The names of the commands, and how many there are, where a text was read as a tree. Where it was refused there is none.
-unfoldable pub calledIn : List ℕ → N.Outcome → ℕ → Word
-calledIn text (N.read x) k = commandName text x k
-calledIn text (N.refused n i) k = []
-
-unfoldable pub commandsIn : N.Outcome → ℕ
-commandsIn (N.read x) = length (modelOf x .commands)
-commandsIn (N.refused n i) = 0
-
--- The lines of all commands.
-abbrev pub tableOf : List ℕ → List ℕ → ℕ → List ℕ
-tableOf text b w = linesFrom (commandLine (calledIn text (answer text)) (countsAfter Steps text b blanks) text b w) 0 (commandsIn (answer text))
-
--- All that is written. What it is on every input is said by `BurstsTell` and `RefusalTells`, which are proved of it.
-unfoldable pub burstsOf : List ℕ → List ℕ → ℕ → List ℕ
-burstsOf text b w = afterTest (answerOf Steps text b blanks) (withWidth w (tableOf text b w))

@@ -10,21 +10,17 @@ use Rattle.notation.specs.Texts.{TextSaysTree, TextRefused, modelOf}
 use Rattle.sheets.specs.SheetTexts.{AreBytes}
 use Rattle.acceptance.specs.Promises.{answerTo, TraceThat}
 use Rattle.traces.specs.Passed.{TracePassed}
-use Rattle.windows.specs.Bursts.{commandsOf, occurs, burst}
+use Rattle.windows.specs.Bursts.{commandsOf}
 use Rattle.lines.specs.Lines.{refusalLine}
 use Rattle.wording.specs.Lines.{spelt}
-use Rattle.names.specs.Names.{commandName}
-use Rattle.bursts.specs.Lines.{burstLine, linesFrom, burstsOf}
+use Rattle.bursts.specs.Lines.{commandLine, linesFrom}
 use Rattle.bursts.specs.Widths.{capped}
-
--- The line of command k of a tree, for steps with these commands.
-abbrev pub lineIn : List ℕ → Tree → ℕ → List ℕ → ℕ → List ℕ
-lineIn text x w xs k = burstLine (commandName text x k) (occurs k xs) (burst k w xs .most) (burst k w xs .place)
+use Rattle.bursts.specs.working.Writing.{burstsOf}
 
 -- Of a trace that passes the lines of all commands, or the refusal of a width out of range; and else what the test says.
 pub record Writes (text : List ℕ) (x : Tree) (b : List ℕ) (w : ℕ) : Type 0 where
   pub inRange : TracePassed (answerTo text b) → 1 ≤ w → w ≤ 4095
-      → TraceThat (modelOf x) b λ s xs. burstsOf text b w ≡ linesFrom (lineIn text x w (commandsOf xs)) 0 (length (modelOf x .commands))
+      → TraceThat (modelOf x) b λ s xs. burstsOf text b w ≡ linesFrom (commandLine text x w (commandsOf xs)) 0 (length (modelOf x .commands))
   pub outOfRange : TracePassed (answerTo text b) → (w ≡ 0) ⊎ (4095 < w) → burstsOf text b w ≡ refusalLine 16 0
   pub noTrace : ¬ (TracePassed (answerTo text b)) → burstsOf text b w ≡ spelt (answerTo text b)
 

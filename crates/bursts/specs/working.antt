@@ -1,2 +1,2 @@
 -- Definitions that only describe how the code goes about its work.
-pub mod Tables
+pub mod Writing

@@ -6,8 +6,7 @@ use native.Mathlib.Omega.{arith}
 use borrow.Author.Needs.{needs}
 use Rattle.reader.specs.declared.Reading.{Reading}
 use Rattle.lines.proofs.Parts.{refusal-fits, refusal-counts}
-use Rattle.bursts.specs.Lines.{tableOf}
-use Rattle.bursts.specs.working.Tables.{Listed}
+use Rattle.bursts.specs.working.Writing.{Listed, tableOf}
 use Rattle.bursts.proofs.NamesListed.{few-names, listed, table-read}
 use Rattle.bursts.proofs.LinesPut.{written-as, no-width, too-wide, in-range}
 use Rattle.bursts.proofs.put_commands.Statement.{statement}

@@ -7,7 +7,7 @@ use native.Mathlib.Omega.{arith}
 use lib.ListN.{length}
 use Rattle.windows.specs.Questions.{wordingOf}
 use Rattle.names.specs.working.Arrays.{nameIn}
-use Rattle.bursts.specs.Lines.{lineFor, commandLine}
+use Rattle.bursts.specs.working.Writing.{lineFor, answerLine}
 use Rattle.bursts.proofs.LinesLeft.{Going, begun, next-fits, went, done, table-counts}
 use Rattle.bursts.proofs.LinesPut.{table-short, line-as}
 use Rattle.bursts.proofs.put_table.Statement.{statement}
@@ -15,7 +15,7 @@ use Rattle.bursts.proofs.put_table.Tie as tie
 
 abbrev Inv-commands : tie.InvT-commands
 Inv-commands out₀ text sheet names base commands counts width end₀ k₀ out end k =
-    Going (commandLine (λ j. nameIn text names (base + j)) counts text sheet width) commands out₀ end₀ out end k
+    Going (answerLine (λ j. nameIn text names (base + j)) counts text sheet width) commands out₀ end₀ out end k
 
 abbrev μ-commands : tie.MeasureT-commands
 μ-commands out₀ text sheet names base commands counts width end₀ k₀ out end k = commands - k
@@ -40,7 +40,7 @@ After-put-answer = tie.After-put-answer Inv-commands μ-commands
 abbrev lines : Start → ℕ → List ℕ
 lines c =
     let a = c .args in
-    commandLine (λ j. nameIn (a .text .now) (a .names .now) (a .base + j)) (a .counts .now) (a .text .now) (a .sheet .now) (a .width)
+    answerLine (λ j. nameIn (a .text .now) (a .names .now) (a .base + j)) (a .counts .now) (a .text .now) (a .sheet .now) (a .width)
 
 short : (c : Start) (k : ℕ) → k < c .args .commands → length (lines c k) ≤ 80
 short c =
