@@ -108,23 +108,23 @@ shorter l w bs h = let g = length-append w bs in omega (arith, g, h)
 
 pub cut-is : {i : ℕ} {bs : List ℕ} {us : List Lexeme} (l : ℕ) → length bs ≤ l → Cut i bs us → lexemes l bs i ≡ us
 unfolding lexemes
-cut-is zero h ended = refl
-cut-is (suc l) h ended = refl
-cut-is zero h (blank e c) = absurd (not-suc-le-zero h)
-cut-is zero h (run b w e j c) = absurd (not-suc-le-zero h)
-cut-is zero h (T.mark e c) = absurd (not-suc-le-zero h)
-cut-is zero h (assign c) = absurd (not-suc-le-zero h)
-cut-is zero h (colon e c) = absurd (not-suc-le-zero h)
-cut-is zero h (barred e c) = absurd (not-suc-le-zero h)
-cut-is (suc l) h (blank e c) = rw e (cut-is l (le_of_suc-le-suc h) c)
-cut-is (suc l) h (run {i} {bs} {us} b w e j c) =
+cut-is {i = i} zero h ended = refl
+cut-is {i = i} (suc l) h ended = refl
+cut-is {i = i} zero h (blank e c) = absurd (not-suc-le-zero h)
+cut-is {i = i} zero h (run b w e j c) = absurd (not-suc-le-zero h)
+cut-is {i = i} zero h (T.mark e c) = absurd (not-suc-le-zero h)
+cut-is {i = i} zero h (assign c) = absurd (not-suc-le-zero h)
+cut-is {i = i} zero h (colon e c) = absurd (not-suc-le-zero h)
+cut-is {i = i} zero h (barred e c) = absurd (not-suc-le-zero h)
+cut-is {i = i} (suc l) h (blank e c) = rw e (cut-is {i = suc i} l (le_of_suc-le-suc h) c)
+cut-is {i = i} (suc l) h (run {bs = bs} {us = us} b w e j c) =
     lexed l i b (w ++ bs) _ (word-no-blank b (all_head b w e).0) (front-run i b w bs e j)
-    ∙ rw (drop-append_seam w bs) (ap (λ (r : List Lexeme). at i (word_token i (b ∷ w)) ∷ r) (cut-is l (shorter l w bs h) c))
-cut-is (suc l) h (T.mark {i} {b} {k} {bs} e c) = one_lexed l i b bs _ (front-mark i b k bs e).0 (front-mark i b k bs e).1
-    ∙ ap (λ (r : List Lexeme). at i (some (sign k)) ∷ r) (cut-is l (le_of_suc-le-suc h) c)
-cut-is (suc l) h (assign {i} {bs} c) = lexed_assign l i bs ∙ ap (λ (r : List Lexeme). at i (some (sign ASSIGN)) ∷ r) (cut-is l (omega arith) c)
-cut-is (suc l) h (colon {i} {bs} e c) = one_lexed l i 58 bs _ refl (front-colon i bs e) ∙ ap (λ (r : List Lexeme). at i (some (sign OTHER)) ∷ r) (cut-is l (le_of_suc-le-suc h) c)
-cut-is (suc l) h (barred {i} {b} {bs} e c) = one_lexed l i b bs _ (front_bad i b bs e).0 (front_bad i b bs e).1 ∙ ap (λ (r : List Lexeme). at i none ∷ r) (cut-is l (le_of_suc-le-suc h) c)
+    ∙ rw (drop-append_seam w bs) (ap (λ (r : List Lexeme). at i (word_token i (b ∷ w)) ∷ r) (cut-is {i = suc (i + length w)} l (shorter l w bs h) c))
+cut-is {i = i} (suc l) h (T.mark {b = b} {k = k} {bs = bs} e c) = one_lexed l i b bs _ (front-mark i b k bs e).0 (front-mark i b k bs e).1
+    ∙ ap (λ (r : List Lexeme). at i (some (sign k)) ∷ r) (cut-is {i = suc i} l (le_of_suc-le-suc h) c)
+cut-is {i = i} (suc l) h (assign {bs = bs} c) = lexed_assign l i bs ∙ ap (λ (r : List Lexeme). at i (some (sign ASSIGN)) ∷ r) (cut-is {i = suc (suc i)} l (omega arith) c)
+cut-is {i = i} (suc l) h (colon {bs = bs} e c) = one_lexed l i 58 bs _ refl (front-colon i bs e) ∙ ap (λ (r : List Lexeme). at i (some (sign OTHER)) ∷ r) (cut-is {i = suc i} l (le_of_suc-le-suc h) c)
+cut-is {i = i} (suc l) h (barred {b = b} {bs = bs} e c) = one_lexed l i b bs _ (front_bad i b bs e).0 (front_bad i b bs e).1 ∙ ap (λ (r : List Lexeme). at i none ∷ r) (cut-is {i = suc i} l (le_of_suc-le-suc h) c)
 
 -- The run at the front of some bytes.
 split_run : (bs : List ℕ) → (w r : List ℕ) × (bs ≡ w ++ r) × (all word_byte w ≡ true) × (begins word_byte r ≡ false)

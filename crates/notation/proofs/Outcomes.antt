@@ -140,6 +140,7 @@ record Last (us : List Lexeme) (t : Token) (qs : List Part) : Type 0 where
 
 last-part : (us : List Lexeme) (i : ℕ) (t : Token) {qs : List Part} → Spells (us ++ at i (some t) ∷ []) qs → Last us t qs
 last-part [] i t (spells _ r _ spells_none) = record { front = []; role = r; spelt = spells_none; are = refl }
+last-part (at j none ∷ us) i t {qs = qs} x5 = elim x5 [ ]
 last-part (at j (some t') ∷ us) i t (spells _ r _ w) =
     let h = last-part us i t w in
     record { front = part r t' ∷ h.front; role = h.role; spelt = spells j r t' h.spelt; are = ap (λ (as' : List Part). part r t' ∷ as') h.are }

@@ -1,0 +1,16 @@
+-- The invariant: the words have the length n, and what is left of them from place j on decides.
+use mathlib.Core.Path.{◌≡◌, refl, sym, ◌∙◌}
+use mathlib.Core.List.{[]}
+use Prim.Native.Nat.{◌+◌, ◌-◌}
+use native.Mathlib.Omega.{arith}
+use lib.ListN.{get_or}
+use lib.Seq.{slice, length-slice}
+use Rattle.notation.specs.Tokens.{reserved}
+use Rattle.lexer.proofs.Spelling.{lengths_differ, in_slice, Same, same-no, same_more, same_end}
+use Rattle.lexer.proofs.words.matches.Given as goal
+
+abbrev pub invariant-loop-j : goal.invariant-loop-j
+invariant-loop-j l = Same (slice l.s l.e l.text) (get_or reserved l.k []) l.n l.j
+
+abbrev pub decreases-loop-j : goal.decreases-loop-j
+decreases-loop-j l = l.n - l.j
