@@ -6,7 +6,7 @@ use evaluation::plan::Plan;
 use reader::{Answer, read_into};
 
 // The answer to a text, and the plan of its model.
-#[derive(Drop)]
+#[derive(Clone, Copy)]
 pub struct Planned {
     pub answer: Answer,
     pub plan: Plan,

@@ -17,7 +17,7 @@ type Text = [u8; 32768];
 type Sheet = [u8; 131072];
 
 // A pair was answered, or there is none, or its answer could not be written.
-#[derive(Drop)]
+#[derive(Clone, Copy)]
 enum Step {
     Answered(Rest),
     End,

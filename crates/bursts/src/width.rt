@@ -6,7 +6,7 @@ ghost use Rattle.bursts.specs.Widths.{capped, width_in};
 const MOST: usize = 4096;
 
 // A width, or that the bytes are no number.
-#[derive(Drop)]
+#[derive(Clone, Copy)]
 pub enum Width {
     Of(usize),
     Unread,

@@ -17,7 +17,7 @@ use evaluation::plan::Plan;
 use sheets::fields::in_map;
 
 // What is found of the start states: whether all are members, and whether there is none.
-#[derive(Drop)]
+#[derive(Clone, Copy)]
 struct StartStates {
     inside: bool,
     none: bool,

@@ -9,7 +9,7 @@ ghost use Rattle.evaluation.specs.working.Batches.{cells_at, filled_of};
 const ONES: u64 = 0xffff_ffff_ffff_ffff;
 
 // Where the stacks have their tops: the values at cell 32 + sp, the masks at cell 96 + mp.
-#[derive(Drop)]
+#[derive(Clone, Copy)]
 pub struct Tops {
     pub sp: usize,
     pub mp: usize,

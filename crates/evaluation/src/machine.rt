@@ -4,7 +4,7 @@ ghost use Rattle.std.specs.Prelude.{◌≡◌, ◌<◌};
 ghost use Rattle.evaluation.specs.working.CodeMachine.{node_of, step_of, run_of, start_of, value_of, passes_of};
 ghost use Rattle.meaning.specs.working.Digits.{put};
 
-#[derive(Drop)]
+#[derive(Clone, Copy)]
 struct Machine {
     stack: u64,
     mask: u32,
@@ -12,14 +12,14 @@ struct Machine {
 }
 
 // The value of an expression, 0 or 1, and the passes that it took.
-#[derive(Drop)]
+#[derive(Clone, Copy)]
 pub struct Valued {
     pub value: u32,
     pub passes: usize,
 }
 
 // The state after a command, and the passes that it took.
-#[derive(Drop)]
+#[derive(Clone, Copy)]
 pub struct Ran {
     pub state: u32,
     pub passes: usize,

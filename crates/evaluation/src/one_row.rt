@@ -7,7 +7,7 @@ use crate::numbers::{count, power};
 use crate::plan::Plan;
 
 // Where the code words of a segment stand: from `from` on, up to `to`.
-#[derive(Drop)]
+#[derive(Clone, Copy)]
 pub struct Span {
     pub from: usize,
     pub to: usize,

@@ -68,7 +68,7 @@ pub const FINISH: usize = 26;
 const RECASED: usize = OTHER;
 
 // From start to end, with the number that refuses it where nothing of its kind may stand. All fields are as wide as a place: to copy a narrow one that was just stored takes longer.
-#[derive(Drop)]
+#[derive(Clone, Copy)]
 pub struct Piece {
     pub kind: usize,
     pub start: usize,

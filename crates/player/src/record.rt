@@ -2,14 +2,14 @@
 use conditions::outcome::Outcome;
 
 // Where a player stands on a trace: how many of its steps lie behind, and the state there.
-#[derive(Drop)]
+#[derive(Clone, Copy)]
 pub struct Player {
     pub place: usize,
     pub state: usize,
 }
 
 // Where a move goes: one step on, one step back, or to the beginning.
-#[derive(Drop)]
+#[derive(Clone, Copy)]
 pub enum Direction {
     Forward,
     Back,
@@ -17,7 +17,7 @@ pub enum Direction {
 }
 
 // What a move answers: it moved; it is at an end; the record is not one of this trace; or what the test answers where the sheet is no trace that passes.
-#[derive(Drop)]
+#[derive(Clone, Copy)]
 pub enum Answer {
     Moved,
     AtEnd,
@@ -26,14 +26,14 @@ pub enum Answer {
 }
 
 // A record after a move, and the answer.
-#[derive(Drop)]
+#[derive(Clone, Copy)]
 pub struct Move {
     pub player: Player,
     pub answer: Answer,
 }
 
 // What opening answers: a record at the beginning, or what the test answers where the sheet is no trace that passes.
-#[derive(Drop)]
+#[derive(Clone, Copy)]
 pub enum Opened {
     At(Player),
     Told(Outcome),

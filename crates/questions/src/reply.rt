@@ -2,7 +2,7 @@
 use conditions::outcome::Outcome;
 
 // Yes or no; or what the test answers where the sheet is no map that passes, and a refusal.
-#[derive(Drop)]
+#[derive(Clone, Copy)]
 pub enum Reply {
     Yes,
     No,

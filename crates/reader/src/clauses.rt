@@ -16,7 +16,7 @@ const MAX_ROW: usize = 10;
 const MAX_NAMES: usize = 12;
 
 // Names were declared, or the number and place of the refusal.
-#[derive(Drop)]
+#[derive(Clone, Copy)]
 pub enum Declared {
     Ok(Cursor, Ledger),
     Refused(usize, usize),

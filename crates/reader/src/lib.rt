@@ -14,7 +14,7 @@ use model::model as whole;
 const MAX_TEXT: usize = 16384;
 
 // A model was read, or the text is refused: the refusal's number and place.
-#[derive(Drop)]
+#[derive(Clone, Copy)]
 pub enum Answer {
     Read,
     Refused(u8, usize),
@@ -55,7 +55,7 @@ pub fn empty() -> Code
 }
 
 // The answer to a text, and how many names of each kind its model has.
-#[derive(Drop)]
+#[derive(Clone, Copy)]
 pub struct Summary {
     pub answer: Answer,
     pub shared: usize,

@@ -20,7 +20,7 @@ type Room = [u8; 32768];
 type Line = [u8; 45031];
 
 // A text was answered, or there is none, or its answer could not be written.
-#[derive(Drop)]
+#[derive(Clone, Copy)]
 enum Step {
     Answered(Rest),
     End,

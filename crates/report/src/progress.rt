@@ -18,7 +18,7 @@ const TRIALS: usize = 262144;
 const PORTIONS: usize = 4096;
 
 // How many states a portion has, and how many there are.
-#[derive(Drop)]
+#[derive(Clone, Copy)]
 struct Portions {
     states: usize,
     all: usize,

@@ -12,7 +12,7 @@ type Block = [u8; 65536];
 type Room = [u8; 32768];
 
 // A text was reported on, or there is none, or its report could not be written.
-#[derive(Drop)]
+#[derive(Clone, Copy)]
 enum Step {
     Reported(Rest),
     End,

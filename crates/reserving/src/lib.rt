@@ -11,7 +11,7 @@ use reader::Answer;
 use sheets::fields::sheet_room;
 
 // The entries of one table, the bytes of the sheet buffer and the most trials; or the text is refused: the refusal's number and place.
-#[derive(Drop)]
+#[derive(Clone, Copy)]
 pub enum Reservation {
     Needs(usize, usize, usize),
     Refused(u8, usize),

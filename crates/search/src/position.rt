@@ -18,7 +18,7 @@ use traversal::exploring::Reach;
 use verdicts::finding::Finding;
 
 // How many states were expanded and how many were met, whether the last of them violates `keep`, and how many trials were made.
-#[derive(Drop)]
+#[derive(Clone, Copy)]
 pub struct Position {
     pub expanded: usize,
     pub met: usize,
@@ -27,7 +27,7 @@ pub struct Position {
 }
 
 // A position; or the call is refused: the refusal's number and place.
-#[derive(Drop)]
+#[derive(Clone, Copy)]
 pub enum Paused {
     At(Position),
     Refused(u8, usize),

@@ -15,7 +15,7 @@ use evaluation::plan::Plan;
 const MAX_SHEET: usize = 65536;
 
 // What the first pass over a sheet finds: the first refusal's number and place, or which kind of sheet it is.
-#[derive(Drop)]
+#[derive(Clone, Copy)]
 pub enum Shape {
     Bad(u8, usize),
     Map,

@@ -6,14 +6,14 @@ ghost use Rattle.statements.specs.working.Cursors.{moved, Expected, emitted};
 use lexer::pieces::{Piece, piece_at};
 
 // Whether row names and stars may stand in an expression.
-#[derive(Drop)]
+#[derive(Clone, Copy)]
 pub struct Scope {
     pub rows: bool,
     pub stars: bool,
 }
 
 // How many names of each kind are declared.
-#[derive(Drop)]
+#[derive(Clone, Copy)]
 pub struct Ledger {
     pub shared: usize,
     pub row: usize,
@@ -21,7 +21,7 @@ pub struct Ledger {
 }
 
 // The next piece, how many code words are stored, and the counts.
-#[derive(Drop)]
+#[derive(Clone, Copy)]
 pub struct Cursor {
     pub next: Piece,
     pub emitted: usize,
@@ -31,7 +31,7 @@ pub struct Cursor {
 }
 
 // Something was read, or the number and place of the refusal.
-#[derive(Drop)]
+#[derive(Clone, Copy)]
 pub enum Parsed {
     Ok(Cursor),
     Refused(usize, usize),

@@ -29,14 +29,14 @@ type Block = [u8; 65536];
 const MOST_BYTES: u64 = u64::MAX;
 
 // What a byte asks for.
-#[derive(Drop)]
+#[derive(Clone, Copy)]
 enum Asked {
     To(Direction),
     Nothing,
 }
 
 // The record to go on from, or that an answer could not be written.
-#[derive(Drop)]
+#[derive(Clone, Copy)]
 enum Turn {
     On(Player),
     Unwritten,

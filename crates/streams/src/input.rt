@@ -3,21 +3,21 @@ use crate::bounds::at_most;
 use libc::STDIN_FILENO;
 
 // The part of the input block that is not used yet. It is empty before anything is read.
-#[derive(Drop)]
+#[derive(Clone, Copy)]
 pub struct Rest {
     pub at: usize,
     pub end: usize,
 }
 
 // The next byte, and what follows it.
-#[derive(Drop)]
+#[derive(Clone, Copy)]
 pub enum Next {
     Byte(u8, Rest),
     End,
 }
 
 // The length of a text, and what follows it.
-#[derive(Drop)]
+#[derive(Clone, Copy)]
 pub enum Head {
     Length(usize, Rest),
     End,

@@ -4,7 +4,7 @@ ghost use Rattle.streams.specs.Reads.{Within};
 use libc::{STDERR_FILENO, STDIN_FILENO};
 
 // How many bytes came, none of them at the file's end, or that the read failed.
-#[derive(Drop)]
+#[derive(Clone, Copy)]
 pub enum Got {
     Bytes(usize),
     Failed,

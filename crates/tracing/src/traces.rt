@@ -12,7 +12,7 @@ use evaluation::plan::Plan;
 use writing::records::{put_start, put_step};
 
 // A command and a choice word.
-#[derive(Drop)]
+#[derive(Clone, Copy)]
 pub struct Choice {
     pub command: usize,
     pub word: usize,

@@ -11,7 +11,7 @@ use evaluation::plan::Plan;
 use writing::tables::clear;
 
 // How many states were met, whether the last of them violates `keep`, how far the queue was gone through, and how many trials were made: one for each command with each choice word at each state.
-#[derive(Drop)]
+#[derive(Clone, Copy)]
 pub struct Reach {
     pub count: usize,
     pub found: bool,

@@ -23,14 +23,14 @@ type Room = [u8; 32768];
 type Line = [u8; 86051];
 
 // Where expressions are valued.
-#[derive(Drop)]
+#[derive(Clone, Copy)]
 struct Point {
     state: u32,
     word: u32,
 }
 
 // What is told so far: the code words before `at`, in the line's bytes before `end`, and how many passes they took.
-#[derive(Drop)]
+#[derive(Clone, Copy)]
 struct Told {
     at: usize,
     end: usize,
@@ -38,7 +38,7 @@ struct Told {
 }
 
 // A text was answered, or there is none, or its answer could not be written.
-#[derive(Drop)]
+#[derive(Clone, Copy)]
 enum Step {
     Answered(Rest),
     End,

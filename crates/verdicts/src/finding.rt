@@ -1,6 +1,6 @@
 // What the search answers.
 // The model is safe, void or unsafe, and the sheet has so many bytes; with safe the number of trials; or the call is refused: the refusal's number and place.
-#[derive(Drop)]
+#[derive(Clone, Copy)]
 pub enum Finding {
     Safe(usize, usize),
     Void(usize),

@@ -3,7 +3,7 @@ use conditions::outcome::Outcome;
 
 // One step: its command, its choice word and the state after it.
 #[repr(C)]
-#[derive(Drop)]
+#[derive(Clone, Copy)]
 pub struct Step {
     pub command: u8,
     pub word: u8,
@@ -14,7 +14,7 @@ pub struct Step {
 pub type Counts = [u16; 16];
 
 // What is asked: the steps; how often each command occurs, for whoever has room for so many counts; or where a command occurs most in so many steps.
-#[derive(Drop)]
+#[derive(Clone, Copy)]
 pub enum Question {
     Steps,
     Counts(usize),
@@ -23,7 +23,7 @@ pub enum Question {
 
 // What is answered: how many steps there are; the most times, and the first place where that is reached;
 // the number of a refusal; or what the test answers where the sheet is no trace that passes.
-#[derive(Drop)]
+#[derive(Clone, Copy)]
 pub enum Answer {
     Steps(usize),
     Burst(usize, usize),
@@ -32,7 +32,7 @@ pub enum Answer {
 }
 
 // A command counted over the steps seen so far: in the last of them, which a window of this width shows, and the most in any window, with its first place.
-#[derive(Drop)]
+#[derive(Clone, Copy)]
 pub struct Tally {
     pub command: usize,
     pub width: usize,
@@ -44,7 +44,7 @@ pub struct Tally {
 
 // What comes of a question before the windows are counted: the answer as far as it is known, how many steps to put in the list, how often each command occurs in them,
 // and the tally to begin with.
-#[derive(Drop)]
+#[derive(Clone, Copy)]
 pub struct Begun {
     pub answer: Answer,
     pub steps: usize,
@@ -53,7 +53,7 @@ pub struct Begun {
 }
 
 // The answer, and how often each command occurs in the steps that are put in the list.
-#[derive(Drop)]
+#[derive(Clone, Copy)]
 pub struct Reply {
     pub answer: Answer,
     pub counts: Counts,

@@ -1,0 +1,18 @@
+-- `row` meets its contract: the digits read from the top, moved up by the i left, with the lowest i digits, are the row; no field runs over.
+use Prim.Native.Nat.{◌+◌, ◌-◌, ◌≤◌, ◌<◌, ◌*◌, ◌^◌, ◌/◌}
+use mathlib.Core.Path.{◌≡◌, sym, ◌∙◌}
+use native.Mathlib.Omega.{arith}
+use borrow.Author.Rules.{rules}
+use lib.Bits.{bit_and}
+use lib.ListN.{get_or}
+use Rattle.evaluation.specs.working.Ends.{row_of, fours}
+use Rattle.evaluation.proofs.LaneEnds.{sum_none, sum-next, sum_done}
+use Rattle.evaluation.proofs.LaneRows.{row_room, row_fits, row_more, row_first, row-bits}
+use Rattle.evaluation.proofs.lanes.row.Given as goal
+
+abbrev pub invariant-loop-i : goal.invariant-loop-i
+invariant-loop-i l =
+    (l.i ≤ l.n) × (l.n ≤ 16) × (l.r < 16) × (l.x + fours ≤ 2 ^ (l.n - l.i) * fours) × (l.x * 2 ^ l.i + row_of l.cells l.i l.r ≡ row_of l.cells l.n l.r)
+
+abbrev pub decreases-loop-i : goal.decreases-loop-i
+decreases-loop-i l = l.i

@@ -1,0 +1,15 @@
+-- `rows_of` meets its contract: the rows before r are filled.
+use Prim.Native.Nat.{◌-◌, ◌≤◌}
+use mathlib.Core.Path.{◌≡◌, ap, ◌∙◌}
+use native.Mathlib.Omega.{arith}
+use borrow.Author.Rules.{rules}
+use lib.ListN.{set}
+use Rattle.evaluation.specs.working.Ends.{fills, row_of}
+use Rattle.evaluation.proofs.LaneEnds.{fills_none, fills-next}
+use Rattle.evaluation.proofs.lanes.rows_of.Given as goal
+
+abbrev pub invariant-loop-r : goal.invariant-loop-r
+invariant-loop-r l = (l.r ≤ 16) × (l.n ≤ 16) × (l.out ≡ fills (row_of l.cells l.n) l.r l.initial.out)
+
+abbrev pub decreases-loop-r : goal.decreases-loop-r
+decreases-loop-r l = 16 - l.r
