@@ -79,12 +79,16 @@ module _ (M : System) (b : List ℕ) where
       (trace (two_at b (p + 6)) (steps_in b (p + 8) (step_count b (p + 8))), rw (kinds-apart b p 2 (map_length (size M)) e, e) (demand-go _ _ _ _ h))
   pass p q s t r (step e) h x = (x, begun p (holds x) (inside p e) ∙ demand-go _ _ _ _ e ∙ demand-go _ _ _ _ h)
 
+  -- A record that may stand ends within the sheet.
+  past : (p q : ℕ) (s t : Stage) (r : Bool) → Allowed M b p s r q t → q ≤ length b
+  past p q s t r (header e) = omega (arith, (record-parts b _ _ _ e).0)
+  past p q s t r (map e u) = (record-parts b _ 2 _ e).0
+  past p q s t r (start e) = omega (arith, (record-parts b _ 3 2 e).0)
+  past p q s t r (step e) = omega (arith, (record-parts b _ 4 4 e).0)
+
   pub within : (p : ℕ) (s : Stage) → Clean M b p s → p ≤ length b
   within p s (begin h) = omega arith
-  within p s (next c (header e) h) = omega (arith, (record-parts b _ _ _ e).0)
-  within p s (next c (map e u) h) = (record-parts b _ 2 _ e).0
-  within p s (next c (start e) h) = omega (arith, (record-parts b _ 3 2 e).0)
-  within p s (next c (step e) h) = omega (arith, (record-parts b _ 4 4 e).0)
+  within p s (next {p = q} {s = u} c a h) = past q p u s _ a
 
   -- Clean records are passed.
   clean : (p : ℕ) (s : Stage) → Clean M b p s → (x : Sheet) × (sheet_of M b ≡ from s p x)

@@ -1,0 +1,10 @@
+-- `step_count` meets its contract: it is the definition's quotient.
+use mathlib.Core.Path.{refl}
+use native.Mathlib.Omega.{arith}
+use Rattle.sheets.specs.working.SheetReading.{step_count}
+use borrow.Author.Rules.{rules}
+use Rattle.sheets.proofs.fields.step_count.Goals as goal
+
+pub returns : goal.returns
+unfolding step_count
+returns c = (refl, omega arith)

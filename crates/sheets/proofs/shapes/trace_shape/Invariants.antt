@@ -1,0 +1,19 @@
+-- `trace_shape` meets its contract: what is left to demand from a record on gives what all of it gave from the first.
+use Rattle.sheets.proofs.SheetLaws.{steps-start, trace_bad, trace-fault, trace-whole, steps-kind}
+use Rattle.sheets.proofs.SheetLaws.{steps_range, steps_none, steps_left, record-parts}
+use Rattle.evaluation.specs.working.CodeSystem.{stars_in}
+use Rattle.sheets.specs.working.SheetReading.{Reading, steps_at, step_count}
+use borrow.Author.Tests.{not-true, not-false}
+use native.Mathlib.Omega.{arith}
+use mathlib.Core.Path.{◌≡◌, sym, ◌∙◌}
+use Prim.Native.Nat.{◌+◌, ◌-◌, ◌*◌, ◌≤◌}
+use Rattle.sheets.proofs.shapes.trace_shape.Given as goal
+
+abbrev pub invariant-loop-i : goal.invariant-loop-i
+invariant-loop-i l =
+    (l.i ≤ l.n) × (l.at ≡ l.p + 8 + 10 * l.i) ×
+    ((rest : Reading) → steps_at l.states l.plan.commands (stars_in l.plan.stars) l.b l.at (l.n - l.i) rest ≡ steps_at l.states l.plan.commands
+    (stars_in l.plan.stars) l.b (l.p + 8) (step_count l.b (l.p + 8)) rest)
+
+abbrev pub decreases-loop-i : goal.decreases-loop-i
+decreases-loop-i l = l.n - l.i
