@@ -1,0 +1,43 @@
+-- `holds_b` meets its contract: B has been found to hold of the states before s.
+use borrow.Author.Rules.{rules}
+use Prim.Native.Nat.{◌-◌, ◌^◌, ◌≤◌}
+use mathlib.Core.Path.{◌≡◌, sym, ◌∙◌}
+use mathlib.Core.Bool.{true}
+use mathlib.Core.Logic.{⊎_elim}
+use native.Mathlib.Omega.{arith}
+use Rattle.sheets.specs.working.SheetReading.{map_in}
+use Rattle.meaning.specs.working.Conditions.{test_b}
+use Rattle.evaluation.specs.working.CodeSystem.{breaks_in}
+use Rattle.evaluation.proofs.Powers.{pow_small}
+use Rattle.conditions.proofs.Loops.{b_none, b_other, b_keeps, b_fail, b_done}
+use Rattle.conditions.proofs.maps.holds_b.Goals as goal
+
+pub states-init : goal.states-init
+states-init c = (omega arith, b_none _ _ 0)
+
+pub in_map-requires : goal.in_map-requires
+in_map-requires c =
+    (c.requires.0, omega (arith, c.power-states.ensures, c.requires.1))
+
+pub breaks-requires : goal.breaks-requires
+breaks-requires c = (
+  omega (arith, pow_small c.args.plan.bits _ c.requires.2.few_bits c.power-states.ensures),
+  c.requires.2,
+)
+
+pub returns-then-breaks : goal.returns-then-breaks
+returns-then-breaks c =
+    b_fail _ _ c.states.s (2 ^ c.args.plan.bits) (omega (arith, c.power-states.ensures))
+    (sym c.in_map.ensures ∙ c.if-in_map.true) (sym c.breaks.ensures ∙ c.if-breaks.true)
+
+pub states-preserved : goal.states-preserved
+states-preserved c = (
+  omega arith,
+  ⊎_elim (λ w. b_keeps _ _ _ c.states.invariant.1 (sym w.1.ensures ∙ w.2.left))
+      (λ w. b_other _ _ _ c.states.invariant.1 (sym c.in_map.ensures ∙ w.left)) c.if-in_map.branch,
+)
+
+pub returns : goal.returns
+returns c =
+    b_done _ _ c.states.s c.states.invariant.1 (2 ^ c.args.plan.bits)
+    (omega (arith, c.power-states.ensures)) (omega (arith, c.power-states.ensures))
