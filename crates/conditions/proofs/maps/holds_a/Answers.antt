@@ -12,6 +12,7 @@ use Rattle.evaluation.specs.working.CodeSystem.{starts_in}
 use Rattle.evaluation.proofs.Powers.{pow_small}
 use Rattle.conditions.proofs.Loops.{void_none, void-start, void-other, void-done, void_fail, a_none, a_other, a_member, a_fail, a_done}
 use Rattle.conditions.proofs.maps.holds_a.Goals as goal
+use Rattle.conditions.proofs.maps.holds_a.Goals.{then-starts+else-not-member, else-starts}
 
 pub states-init : goal.states-init
 states-init c = (omega arith, a_none _ _ 0, void_none _ 0)
@@ -36,15 +37,12 @@ returns-then-not-member c =
     }
 
 pub states-preserved : goal.states-preserved
-states-preserved c = (
-  omega arith,
-  ⊎_elim
-      (λ w. a_member _ _ _ c.states.invariant.1 (sym w.1.ensures ∙ not-false _ w.2.left))
-      (λ w. a_other _ _ _ c.states.invariant.1 (sym c.starts.ensures ∙ w.0.left)) c.if-starts.branch,
-  ⊎_elim
-      (λ w. w.3 ∙ void-start _ _ (sym c.starts.ensures ∙ w.0.taken))
-      (λ w. w.1 ∙ void-other _ _ _ c.states.invariant.2 (sym c.starts.ensures ∙ w.0.left)) c.if-starts.branch,
-)
+states-preserved c = elim c.if-starts.branch [
+    then-starts+else-not-member w ↦
+      (omega arith, a_member _ _ _ c.states.invariant.1 (sym w.in_map-member.ensures ∙ w.if-not-member.false), w.none-is ∙ void-start _ _ (sym c.starts.ensures ∙ w.if-starts.true))
+  | else-starts w ↦
+      (omega arith, a_other _ _ _ c.states.invariant.1 (sym c.starts.ensures ∙ w.if-starts.false), w.none-is ∙ void-other _ _ _ c.states.invariant.2 (sym c.starts.ensures ∙ w.if-starts.false))
+  ]
 
 pub returns : goal.returns
 returns c =

@@ -11,6 +11,7 @@ use Rattle.evaluation.specs.working.CodeSystem.{breaks_in}
 use Rattle.evaluation.proofs.Powers.{pow_small}
 use Rattle.conditions.proofs.Loops.{b_none, b_other, b_keeps, b_fail, b_done}
 use Rattle.conditions.proofs.maps.holds_b.Goals as goal
+use Rattle.conditions.proofs.maps.holds_b.Goals.{then-in_map+else-breaks, else-in_map}
 
 pub states-init : goal.states-init
 states-init c = (omega arith, b_none _ _ 0)
@@ -31,11 +32,10 @@ returns-then-breaks c =
     (sym c.in_map.ensures ∙ c.if-in_map.true) (sym c.breaks.ensures ∙ c.if-breaks.true)
 
 pub states-preserved : goal.states-preserved
-states-preserved c = (
-  omega arith,
-  ⊎_elim (λ w. b_keeps _ _ _ c.states.invariant.1 (sym w.1.ensures ∙ w.2.left))
-      (λ w. b_other _ _ _ c.states.invariant.1 (sym c.in_map.ensures ∙ w.left)) c.if-in_map.branch,
-)
+states-preserved c = elim c.if-in_map.branch [
+    then-in_map+else-breaks w ↦ (omega arith, b_keeps _ _ _ c.states.invariant.1 (sym w.breaks.ensures ∙ w.if-breaks.false))
+  | else-in_map w ↦ (omega arith, b_other _ _ _ c.states.invariant.1 (sym c.in_map.ensures ∙ w.if-in_map.false))
+  ]
 
 pub returns : goal.returns
 returns c =

@@ -11,6 +11,7 @@ use Rattle.meaning.specs.working.Conditions.{test_c}
 use Rattle.evaluation.specs.working.CodeSystem.{next_in, stars_in}
 use Rattle.conditions.proofs.Loops.{c_none, c_other, c_closed, c_fail, c_done}
 use Rattle.conditions.proofs.maps.holds_c.Goals as goal
+use Rattle.conditions.proofs.maps.holds_c.Goals.{then-in_map+else-not-closed, else-in_map}
 
 pub states-init : goal.states-init
 states-init c = (omega arith, c_none _ _ _ _ 0)
@@ -31,15 +32,13 @@ pub returns-then-not-closed : goal.returns-then-not-closed
 returns-then-not-closed c =
     c_fail _ _ _ _ c.states.s (2 ^ c.args.plan.bits) (omega (arith, c.power-states.ensures))
     (sym c.in_map.ensures ∙ c.if-in_map.true)
-    (sym c.Closed-at.ensures ∙ c.if-not-closed.true)
+    (sym c.closed_at-closed.ensures ∙ c.if-not-closed.true)
 
 pub states-preserved : goal.states-preserved
-states-preserved c = (
-  omega arith,
-  ⊎_elim
-      (λ w. c_closed _ _ _ _ _ c.states.invariant.1 (sym w.1.ensures ∙ not-false _ w.2.left))
-      (λ w. c_other _ _ _ _ _ c.states.invariant.1 (sym c.in_map.ensures ∙ w.left)) c.if-in_map.branch,
-)
+states-preserved c = elim c.if-in_map.branch [
+    then-in_map+else-not-closed w ↦ (omega arith, c_closed _ _ _ _ _ c.states.invariant.1 (sym w.closed_at-closed.ensures ∙ w.if-not-closed.false))
+  | else-in_map w ↦ (omega arith, c_other _ _ _ _ _ c.states.invariant.1 (sym c.in_map.ensures ∙ w.if-in_map.false))
+  ]
 
 pub returns : goal.returns
 returns c =
