@@ -1,5 +1,5 @@
 // What a search that has come to its end leaves: its sheet, both tables cleared, and the answer.
-ghost use Rattle.std.specs.Prelude.{◌≡◌, ◌^◌, ◌≤◌};
+ghost use Rattle.std.specs.Prelude.{◌≡◌, ◌^◌, ◌≤◌, length};
 ghost use Rattle.evaluation.specs.working.CodeSystem.{Sound};
 ghost use Rattle.exploration.specs.working.CodeTransitions.{transitions_in};
 ghost use Rattle.exploration.specs.working.Written.{Closing};
@@ -20,7 +20,7 @@ use writing::tables::clear;
 
 // The entries of states are made 0 in both tables.
 fn clear_tables(first: &mut [u16], second: &mut [u16], states: usize)
-    requires* { do ⌜ (states ≤ (← ⟦first.len()⟧)) × (states ≤ (← ⟦second.len()⟧)) ⌝ }
+    requires { (states ≤ length first.old) × (states ≤ length second.old) }
     ensures { (first.new ≡ zeroed states first.old) × (second.new ≡ zeroed states second.old) }
 {
     clear(first, states);
@@ -37,7 +37,7 @@ pub fn conclude(
     second: &mut [u16],
     sheet: &mut [u8],
 ) -> Finding
-    requires* { do ⌜ Sound plan × (states ≡ 2 ^ plan.bits) × Closing (transitions_in ops.now plan) first.old reach.count second.old reach.found × (sheet_room (system_in ops.now plan) ≤ (← ⟦sheet.len()⟧)) ⌝ }
+    requires { Sound plan × (states ≡ 2 ^ plan.bits) × Closing (transitions_in ops.now plan) first.old reach.count second.old reach.found × (sheet_room (system_in ops.now plan) ≤ length sheet.old) }
     ensures { EndsWith (concludes ops.now plan reach) result first second sheet }
 {
     put_header(sheet, plan.shared, plan.row, plan.commands);
@@ -68,7 +68,7 @@ pub fn search_roomy(
     second: &mut [u16],
     sheet: &mut [u8],
 ) -> Finding
-    requires* { do ⌜ Sound plan × (states ≡ 2 ^ plan.bits) × (states ≤ (← ⟦first.len()⟧)) × (states ≤ (← ⟦second.len()⟧)) × (sheet_room (system_in ops.now plan) ≤ (← ⟦sheet.len()⟧)) ⌝ }
+    requires { Sound plan × (states ≡ 2 ^ plan.bits) × (states ≤ length first.old) × (states ≤ length second.old) × (sheet_room (system_in ops.now plan) ≤ length sheet.old) }
     ensures { EndsWith (found_by (system_in ops.now plan)) result first second sheet }
 {
     let reach = run(ops, plan, states, first, second);

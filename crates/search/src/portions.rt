@@ -1,5 +1,5 @@
 // A search in portions over the flat form of a model. Position and tables come from outside: each call judges them before it goes on, and relies on no call before it.
-ghost use Rattle.std.specs.Prelude.{◌≡◌, ◌^◌, ◌≤◌};
+ghost use Rattle.std.specs.Prelude.{◌≡◌, ◌^◌, ◌≤◌, length};
 ghost use Rattle.evaluation.specs.working.CodeSystem.{Sound};
 ghost use Rattle.exploration.specs.working.CodeTransitions.{transitions_in};
 ghost use Rattle.exploration.specs.working.Pauses.{Judged};
@@ -136,7 +136,7 @@ fn finish_roomy(
     second: &mut [u16],
     sheet: &mut [u8],
 ) -> Finding
-    requires* { do ⌜ Sound plan × (states ≡ 2 ^ plan.bits) × (states ≤ (← ⟦first.len()⟧)) × (states ≤ (← ⟦second.len()⟧)) × (sheet_room (system_in ops.now plan) ≤ (← ⟦sheet.len()⟧)) ⌝ }
+    requires { Sound plan × (states ≡ 2 ^ plan.bits) × (states ≤ length first.old) × (states ≤ length second.old) × (sheet_room (system_in ops.now plan) ≤ length sheet.old) }
     ensures { EndsWith (finish_in (system_in ops.now plan) (pause_in reach)) result first second sheet }
 {
     if !can_go_on(reach, states, first, second) {

@@ -1,5 +1,5 @@
 // The trace of the run that the tables record, found again from its last state back to its first.
-ghost use Rattle.std.specs.Prelude.{◌≡◌, ◌+◌, ◌*◌, ◌^◌, ◌<◌, ◌≤◌};
+ghost use Rattle.std.specs.Prelude.{◌≡◌, ◌+◌, ◌*◌, ◌^◌, ◌<◌, ◌≤◌, length};
 ghost use Rattle.evaluation.specs.working.CodeSystem.{Sound};
 ghost use Rattle.exploration.specs.working.CodeTransitions.{transitions_in};
 ghost use Rattle.exploration.specs.working.Transitions.{moves, move_of};
@@ -58,7 +58,7 @@ pub fn write_trace(
     at: usize,
     out: &mut [u8],
 ) -> usize
-    requires* { do ⌜ Sound plan × (2 ^ plan.bits ≤ (← ⟦parent.len()⟧)) × RecordedIn (transitions_in ops.now plan) parent.now t × (at + 10 * 2 ^ plan.bits ≤ (← ⟦out.len()⟧) + 2) ⌝ }
+    requires { Sound plan × (2 ^ plan.bits ≤ length parent.now) × RecordedIn (transitions_in ops.now plan) parent.now t × (at + 10 * 2 ^ plan.bits ≤ length out.old + 2) }
     ensures { TraceStored (transitions_in ops.now plan) parent.now t at out.old out.new result }
 {
     let mut n: usize = 0;

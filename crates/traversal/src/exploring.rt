@@ -1,6 +1,6 @@
 // The search over the table of one row, state by state in the order in which they are met.
 // One table is the queue of the states met; the other has for each of them the number of the state it was met from, plus 1.
-ghost use Rattle.std.specs.Prelude.{◌≡◌, ◌^◌, ◌≤◌};
+ghost use Rattle.std.specs.Prelude.{◌≡◌, ◌^◌, ◌≤◌, length};
 ghost use Rattle.evaluation.specs.working.CodeSystem.{Sound};
 ghost use Rattle.exploration.specs.working.CodeTransitions.{transitions_in, ExploredIn};
 ghost use Rattle.exploration.specs.working.Tables.{Ready, Took, Began, Ran};
@@ -121,7 +121,7 @@ pub fn begin(
     queue: &mut [u16],
     parent: &mut [u16],
 ) -> Reach
-    requires* { do ⌜ Sound plan × (states ≡ 2 ^ plan.bits) × (states ≤ (← ⟦queue.len()⟧)) × (states ≤ (← ⟦parent.len()⟧)) ⌝ }
+    requires { Sound plan × (states ≡ 2 ^ plan.bits) × (states ≤ length queue.old) × (states ≤ length parent.old) }
     ensures began { Began (transitions_in ops.now plan) queue.old parent.old queue.new result.count parent.new result.found }
     ensures head_value { (result.head ≡ 0) × (result.trials ≡ 0) }
 {
@@ -137,7 +137,7 @@ pub fn run(
     queue: &mut [u16],
     parent: &mut [u16],
 ) -> Reach
-    requires* { do ⌜ Sound plan × (states ≡ 2 ^ plan.bits) × (states ≤ (← ⟦queue.len()⟧)) × (states ≤ (← ⟦parent.len()⟧)) ⌝ }
+    requires { Sound plan × (states ≡ 2 ^ plan.bits) × (states ≤ length queue.old) × (states ≤ length parent.old) }
     ensures { Ran (transitions_in ops.now plan) queue.old parent.old queue.new result.count parent.new result.found result.trials }
 {
     let x = begin(ops, plan, states, queue, parent);
