@@ -24,7 +24,9 @@ entry c =
 entry-before : (c : Else-entry-eq0) →
     get_or (take c.args.states c.args.parent.now) c.back.s 0 ≡ (get_or c.args.parent.now c.count-at.result 0 - 1) + 1
 entry-before c =
-    entry c ∙ positive (get_or c.args.parent.now c.count-at.result 0) c.if-entry-eq0.false
+    get_or-take c.args.states c.args.parent.now c.back.s 0 c.back.invariant.0
+    ∙ ap (λ (k : ℕ). get_or c.args.parent.now k 0) (sym c.count-at.ensures)
+    ∙ positive (get_or c.args.parent.now c.count-at.result 0) c.if-entry-eq0.false
   where
     positive : (n : ℕ) → (n ≡ 0 → ⊥) → n ≡ (n - 1) + 1
     positive n h = omega arith
@@ -45,7 +47,7 @@ pub returns-then-entry-eq0 : goal.returns-then-entry-eq0
 returns-then-entry-eq0 c =
     sym
     (sym c.back.invariant.1
-    ∙ records_none (transitions_in c.args.ops.now c.args.plan) (take c.args.states c.args.parent.now) c.back.false
+    ∙ records_none (transitions_in c.args.ops.now c.args.plan) (take c.args.states c.args.parent.now) c.back.left
     c.back.s c.back-test.true (entry (goal.at.returns-then-entry-eq0 c).After-count-at ∙ c.if-entry-eq0.true))
 
 pub overflow_sub-before : goal.overflow_sub-before
@@ -65,7 +67,7 @@ returns-then-before-s c =
     let table = take c.args.states c.args.parent.now in
     c.starts.ensures
     ∙ ap T.starts c.count-at.ensures
-    ∙ sym (sym c.back.invariant.1 ∙ records_start T table c.back.false c.back.s c.back-test.true _ (entry-before (goal.at.returns-then-before-s c).Else-entry-eq0) c.if-before-s.true)
+    ∙ sym (sym c.back.invariant.1 ∙ records_start T table c.back.left c.back.s c.back-test.true _ (entry-before (goal.at.returns-then-before-s c).Else-entry-eq0) c.if-before-s.true)
 
 pub returns-then-states-count : goal.returns-then-states-count
 returns-then-states-count c =
@@ -73,7 +75,7 @@ returns-then-states-count c =
     let table = take c.args.states c.args.parent.now in
     sym
     (sym c.back.invariant.1
-    ∙ records_out T table c.back.false c.back.s c.back-test.true _ (entry-before (goal.at.returns-then-states-count c).Else-entry-eq0) c.if-before-s.false
+    ∙ records_out T table c.back.left c.back.s c.back-test.true _ (entry-before (goal.at.returns-then-states-count c).Else-entry-eq0) c.if-before-s.false
     (omega (arith, c.if-states-count.true, c.count.ensures, c.requires.1)))
 
 pub leads_to-requires : goal.leads_to-requires
@@ -86,7 +88,7 @@ returns-then-not-leads_to c =
     let table = take c.args.states c.args.parent.now in
     sym
     (sym c.back.invariant.1
-    ∙ records_lost T table c.back.false c.back.s c.back-test.true _ (entry-before (goal.at.returns-then-not-leads_to c).Else-entry-eq0) c.if-before-s.false
+    ∙ records_lost T table c.back.left c.back.s c.back-test.true _ (entry-before (goal.at.returns-then-not-leads_to c).Else-entry-eq0) c.if-before-s.false
     (omega (arith, c.if-states-count.false, c.count.ensures, c.requires.1))
     (sym c.leads_to.ensures ∙ c.if-not-leads_to.true))
 
@@ -96,7 +98,7 @@ back-preserved c =
     let table = take c.args.states c.args.parent.now in (
       omega (arith, c.if-states-count.false, c.count.ensures),
       sym
-          (records_on T table c.back.false c.back.s c.back-test.true _ (entry-before (goal.at.back-preserved c).Else-entry-eq0) c.if-before-s.false
+          (records_on T table c.back.left c.back.s c.back-test.true _ (entry-before (goal.at.back-preserved c).Else-entry-eq0) c.if-before-s.false
           (omega (arith, c.if-states-count.false, c.count.ensures, c.requires.1))
           (sym c.leads_to.ensures ∙ c.if-not-leads_to.false))
           ∙ c.back.invariant.1,
@@ -106,5 +108,5 @@ pub returns : goal.returns
 returns c =
     let T = transitions_in c.args.ops.now c.args.plan in
     let table = take c.args.states c.args.parent.now in
-    let e : c.back.false ≡ 0 = omega (arith, c.back-test.false) in
+    let e : c.back.left ≡ 0 = omega (arith, c.back-test.false) in
     sym (sym c.back.invariant.1 ∙ ap (λ (k : ℕ). records_to T table k c.back.s) e ∙ records_end T table c.back.s)

@@ -49,7 +49,9 @@ out-fits c = omega arith
 step-place : (c : After-first_move-x) →
     c.args.at + 8 + 10 * (c.write.i - 1) < 18446744073709551616
 step-place c =
-    omega (arith, c.write.invariant.room, c.write.invariant.kept, out-fits c)
+    let start : Start = search in
+    let start : Start = search in
+    omega (arith, c.write.invariant.room, c.write.invariant.kept, out-fits start)
 
 pub count-init : goal.count-init
 count-init c =
@@ -163,7 +165,7 @@ overflow_add-result-2 c =
 
 pub shape_of-out : goal.shape_of-out
 shape_of-out c =
-    c.put_start.kept.0 ∙ c.write.invariant.kept
+    c.put_start.auto.out ∙ c.write.invariant.kept
 
 pub returns : goal.returns
 returns c =
