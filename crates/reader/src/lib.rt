@@ -1,4 +1,6 @@
 // The reader of model texts: a text says a model, or has a first refusal with its place.
+#![tactic(auto)]
+
 mod clauses;
 mod commands;
 mod model;

@@ -22,7 +22,7 @@ use Rattle.statements.specs.declared.cursor.Scope.{Scope}
 use Rattle.statements.specs.declared.cursor.Parsed.{Parsed}
 use Rattle.statements.specs.declared.cursor.Parsed.TheVariants.{Ok, Refused}
 use Rattle.lexer.specs.working.Pieces.{listed, piece_at}
-use Rattle.statements.specs.working.Cursors.{mode_of, book_of, moved, emitted, Ready, was_read, was_refused}
+use Rattle.statements.specs.working.Cursors.{mode_of, book_of, moved, Ready, was_read, was_refused}
 use Rattle.statements.specs.working.Expressions.{expr_words, SaysExpr, SaysOperand, factor_at, or_at, Leaf, Kept, AfterNode, AfterClose}
 use Rattle.statements.proofs.Books.{opens_deep, opens-fits, negates_deep, negates_full, negates-fits, note-opens, note-negates}
 use Rattle.statements.proofs.Symbols.{open_is, not_is}

@@ -30,7 +30,7 @@ use Rattle.statements.specs.declared.cursor.Parsed.TheVariants.{Ok, Refused}
 use Rattle.lexer.specs.working.Pieces.{name_in, listed, piece_at}
 use Rattle.lexer.specs.working.Names.{words_in}
 use Rattle.statements.specs.working.Names.{shared_words, row_words, names_kept}
-use Rattle.statements.specs.working.Cursors.{mode_of, book_of, moved, emitted, Expected, Ready, Says, was_read, was_refused}
+use Rattle.statements.specs.working.Cursors.{mode_of, book_of, moved, Expected, Ready, Says, was_read, was_refused}
 use Rattle.statements.specs.working.Expressions.{expr_words, SaysExpr, or_at, AfterNode}
 use Rattle.statements.specs.working.Items.{row_item_words, row_items_words, item_words, with_word, Skipped, kind_of, mode_in, assign_at, bit_in, SaysAssign, SaysRowItem, row_item_at, SaysItem, item_at}
 use Rattle.statements.proofs.Books.{target-unknown, target_full, target_fits, item_full, item-fits, note-target, note-item}

@@ -1,7 +1,7 @@
 -- What the readers of commands answer.
 -- Assumes nothing.
 use Rattle.std.specs.Prelude.{◌≡◌, List, [], ◌∷◌, map, ℕ, ◌+◌, ◌≤◌, ◌<◌, length}
-use Rattle.std.specs.Borrow.{Bor}
+use Rattle.std.specs.Borrow.{MutBor}
 use denote.Triple.Both.{Both}
 use Rattle.std.proofs.lemmas.List.Edits.{sets}
 use Rattle.notation.specs.Tokens.{sign, COMMAND, IF, DOT, Word, Name, Lexeme}
@@ -90,7 +90,7 @@ arrays n o e s = record { names = n; ops = o; ends = e; stars = s }
 
 -- An array that is lent to a function, as its contract names it; and four of them, as they are lent and as they come back.
 abbrev pub Lent : Type 0
-Lent = Both (Bor (List ℕ)) (Bor (List ℕ))
+Lent = Both (MutBor (List ℕ)) (MutBor (List ℕ))
 
 abbrev pub at_entry : Lent → Lent → Lent → Lent → Arrays
 at_entry n o e s = arrays n.entry.now o.entry.now e.entry.now s.entry.now

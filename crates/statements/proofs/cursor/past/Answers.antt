@@ -1,6 +1,5 @@
 -- `past` meets its contract: the piece that it takes is the next one.
 use mathlib.Core.Path.{ap}
-use borrow.Author.Rules.{rules}
 use Rattle.lexer.specs.declared.pieces.Piece.{Piece}
 use Rattle.statements.specs.working.Cursors.{moved}
 use Rattle.statements.proofs.cursor.past.Goals as goal

@@ -2,7 +2,6 @@
 use mathlib.Core.Path.{subst}
 use Rattle.statements.specs.working.Expressions.{roomed}
 use Rattle.statements.proofs.Moves.{node_ok, node_bad}
-use borrow.Author.Rules.{rules}
 use Rattle.statements.proofs.expressions.close_node.Goals as goal
 
 pub emit-requires : goal.emit-requires

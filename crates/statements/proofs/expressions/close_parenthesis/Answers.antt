@@ -1,6 +1,5 @@
 -- `close_parenthesis` meets its contract: it asks for the sign after an operand, and passes a refusal on.
 use Rattle.statements.proofs.Moves.{close_ok, close_bad}
-use borrow.Author.Rules.{rules}
 use Rattle.statements.proofs.expressions.close_parenthesis.Goals as goal
 
 pub returns-in-Ok : goal.returns-in-Ok

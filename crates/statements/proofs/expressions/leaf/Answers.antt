@@ -1,6 +1,5 @@
 -- `leaf` meets its contract: one test of the count, and then the piece is passed and its code word stored.
 use Rattle.statements.proofs.Moves.{leaf_full, leaf-fits, past_room, is-past}
-use borrow.Author.Rules.{rules}
 use Rattle.statements.proofs.expressions.leaf.Goals as goal
 
 pub returns-then-n-ge-MAX_NODES : goal.returns-then-n-ge-MAX_NODES

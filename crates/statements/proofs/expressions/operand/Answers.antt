@@ -4,7 +4,6 @@ use borrow.Author.Tests.{not-true, not-false}
 use Rattle.statements.proofs.Symbols.{factor_missing}
 use Rattle.statements.proofs.Operands.{operand_bad, from_first, visible-few, few-found, zero_says, one-says, star-says}
 use Rattle.statements.proofs.Operands.{star-barred, star-many, name-unknown, name-says}
-use borrow.Author.Rules.{rules}
 use Rattle.statements.proofs.expressions.operand.Goals as goal
 
 pub returns-then-kind-eq-ZERO : goal.returns-then-kind-eq-ZERO

@@ -5,20 +5,19 @@ use Rattle.statements.proofs.Moves.{expected_said, is-past, ready-less}
 use Rattle.statements.proofs.Operands.{target_range}
 use Rattle.statements.proofs.Sequences.{says-roomed}
 use Rattle.statements.proofs.ItemForms.{assign-unknown, assign_full, assign_bad, value-ready, target-few, assign-says}
-use borrow.Author.Rules.{rules}
 use Rattle.statements.specs.working.Cursors.{Expected, Ready, was_refused}
 use Prim.Native.Nat.{◌<◌}
 use Rattle.notation.specs.Tokens.{ASSIGN}
 use Rattle.statements.specs.declared.cursor.Parsed.TheVariants.{Ok}
 use Rattle.statements.proofs.items.assignment.Goals as goal
-use Rattle.statements.proofs.items.assignment.Goals.{Else-i-to, In-Ok-2}
+use Rattle.statements.proofs.items.assignment.Goals.{Else-i-to, In-Ok}
 
 -- The sign is there, and a reader may be called past it.
-there : (c : In-Ok-2) → Expected c.args.text.now c.past-sign.result ASSIGN (Ok c.in-Ok.value)
+there : (c : In-Ok) → Expected c.args.text.now c.past-sign.result ASSIGN (Ok c.in-Ok.value)
 there c =
     expected_said _ _ _ _ _ c.expect-marked.ensures c.in-Ok.is
 
-ready : (c : In-Ok-2) → Ready c.args.text.now c.args.l 1 c.in-Ok.value
+ready : (c : In-Ok) → Ready c.args.text.now c.args.l 1 c.in-Ok.value
 ready c =
     value-ready _ c.args.names.now _ _ c.requires.0 c.args.rows _ _ _ c.first_target-from.ensures
     c.visible-to.ensures c.find_name-i.ensures c.if-i-to.false c.if-n-ge-MAX_ITEMS.false _
@@ -69,7 +68,7 @@ returns-in_default c =
 
 pub or_level-read-requires : goal.or_level-read-requires
 or_level-read-requires c =
-    (omega arith, ready-less (ready (goal.at.or_level-read-requires c).In-Ok-2) (omega arith))
+    (omega arith, ready-less (ready (goal.at.or_level-read-requires c).In-Ok) (omega arith))
 
 pub overflow_cast-i : goal.overflow_cast-i
 overflow_cast-i c =
@@ -81,12 +80,12 @@ overflow_add-i c =
 
 pub close_node-requires : goal.close_node-requires
 close_node-requires c =
-    says-roomed 0 (ready (goal.at.close_node-requires c).In-Ok-2) c.or_level-read.ensures
+    says-roomed 0 (ready (goal.at.close_node-requires c).In-Ok) c.or_level-read.ensures
 
 pub returns : goal.returns
 returns c =
     assign-says _ c.args.names.now _ _ c.requires.0 c.args.rows _ _ _
     c.first_target-from.ensures c.visible-to.ensures c.find_name-i.ensures
     c.if-i-to.false c.if-n-ge-MAX_ITEMS.false _ (is-past c.past-sign.ensures) _
-    (there (goal.at.returns c).In-Ok-2) _ _ _ _ _
+    (there (goal.at.returns c).In-Ok) _ _ _ _ _
     c.or_level-read.ensures c.close_node.ensures

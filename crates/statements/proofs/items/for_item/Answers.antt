@@ -9,7 +9,6 @@ use Rattle.statements.proofs.TwoBranches.{test-roomed, first_bad, yes-ready, don
 use Rattle.statements.proofs.TwoBranches.{rest-roomed, tested-says}
 use Rattle.statements.proofs.ItemForms.{for_full, for-ready, for-says}
 use Rattle.statements.proofs.Moves.{is-past}
-use borrow.Author.Rules.{rules}
 use Rattle.statements.specs.working.Cursors.{Ready, was_refused}
 use Rattle.statements.proofs.items.for_item.Goals as goal
 use Rattle.statements.proofs.items.for_item.Goals.{After-past-inside}

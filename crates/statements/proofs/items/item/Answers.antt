@@ -1,7 +1,6 @@
 -- `item` meets its contract, by the kind of its first token.
 use Rattle.statements.proofs.StoredCode.{wrote_none}
 use Rattle.statements.proofs.ItemForms.{item-skip, item-assign, item_missing}
-use borrow.Author.Rules.{rules}
 use Rattle.statements.specs.working.Cursors.{was_refused}
 use Rattle.statements.proofs.items.item.Goals as goal
 

@@ -2,7 +2,6 @@
 use mathlib.Core.Path.{subst}
 use Rattle.statements.specs.working.Expressions.{roomed}
 use Rattle.statements.proofs.Moves.{mark_bad, mark_missing, mark-room, mark_ok}
-use borrow.Author.Rules.{rules}
 use Rattle.statements.proofs.items.mark.Goals as goal
 
 pub returns-in_default : goal.returns-in_default

@@ -1,7 +1,6 @@
 -- `row_item` meets its contract, by the kind of its first token.
 use Rattle.statements.proofs.StoredCode.{wrote_none}
 use Rattle.statements.proofs.ItemForms.{row-skip, row-assign, row_missing}
-use borrow.Author.Rules.{rules}
 use Rattle.statements.specs.working.Cursors.{was_refused}
 use Rattle.statements.proofs.items.row_item.Goals as goal
 

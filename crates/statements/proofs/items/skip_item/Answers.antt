@@ -1,6 +1,5 @@
 -- `skip_item` meets its contract: one test of the count, and then the piece is passed and its code word stored.
 use Rattle.statements.proofs.Moves.{skip_full, skip-fits, past_room, is-past}
-use borrow.Author.Rules.{rules}
 use Rattle.statements.proofs.items.skip_item.Goals as goal
 
 pub returns-then-n-ge-MAX_ITEMS : goal.returns-then-n-ge-MAX_ITEMS

@@ -1,5 +1,4 @@
 -- `visible` meets its contract: a sum of two counts, or the first.
-use borrow.Author.Rules.{rules}
 use Rattle.statements.proofs.names.visible.Goals as goal
 
 pub returns-then-rows : goal.returns-then-rows
