@@ -1,4 +1,6 @@
 // The acceptance test: whether a sheet is evidence for the model that a text says.
+#![tactic(auto)]
+
 pub mod plans;
 
 ghost use Rattle.std.specs.Prelude.{◌≡◌};
