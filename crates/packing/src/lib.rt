@@ -1,4 +1,6 @@
 // An answer as one number for C: its low byte says which answer it is, and what is above that byte is a place or a length.
+#![tactic(auto)]
+
 pub mod outcomes;
 
 ghost use Rattle.std.specs.Prelude.{◌≡◌, ◌≤◌};

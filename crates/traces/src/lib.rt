@@ -1,4 +1,6 @@
 // Traces that pass: what whoever works on one has to know of its sheet.
+#![tactic(auto)]
+
 ghost use Rattle.std.specs.Prelude.{◌≡◌};
 ghost use Rattle.traces.specs.working.Passing.{trace_passed};
 
