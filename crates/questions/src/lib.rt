@@ -1,4 +1,6 @@
 // Questions to the map of a sheet: whether a state is a member.
+#![tactic(auto)]
+
 pub mod reply;
 
 ghost use Rattle.std.specs.Prelude.{◌≡◌};
