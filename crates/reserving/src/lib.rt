@@ -1,4 +1,6 @@
 // What a search of a text's model needs: entries of its tables, bytes of its sheet buffer, and how many trials it makes at most. It is told from the text alone.
+#![tactic(auto)]
+
 ghost use Rattle.std.specs.Prelude.{◌≡◌, ◌≤◌};
 ghost use Rattle.evaluation.specs.working.CodeSystem.{Sound};
 ghost use Rattle.reserving.specs.working.Reserving.{all_words, needs_in, reserve_of};

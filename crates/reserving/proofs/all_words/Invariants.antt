@@ -1,0 +1,17 @@
+-- `all_words` meets its contract: the sum so far and the words of the commands that are left make the whole sum.
+use Prim.Native.Nat.{◌+◌, ◌-◌, ◌*◌, ◌^◌, ◌≤◌}
+use mathlib.Core.Path.{◌≡◌}
+use native.Mathlib.Omega.{arith}
+use Rattle.evaluation.specs.working.CodeSystem.{stars_in}
+use Rattle.exploration.specs.working.Trials.{words_of}
+use Rattle.exploration.proofs.TrialCounts.{sum-start, sum-next, sum-end}
+use Rattle.reserving.proofs.all_words.Given as goal
+
+abbrev pub invariant-commands : goal.invariant-commands
+invariant-commands l =
+    (l.k ≤ l.commands)
+    × (l.sum + words_of (λ i. 2 ^ stars_in l.plan.stars i) l.k (l.commands - l.k) ≡ words_of (λ i. 2 ^ stars_in l.plan.stars i) 0 l.commands)
+    × (l.sum ≤ 256 * l.k)
+
+abbrev pub decreases-commands : goal.decreases-commands
+decreases-commands l = l.commands - l.k
