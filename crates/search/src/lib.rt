@@ -1,4 +1,6 @@
 // The search: the first breaking run of a model's table of one row, or the map of the states that its runs reach, or that none can begin.
+#![tactic(auto)]
+
 mod concluding;
 mod portions;
 pub mod position;

@@ -1,0 +1,14 @@
+-- `search_roomy` meets its contract: the whole search, and what it leaves.
+use Rattle.exploration.proofs.CodeSteps.{code_lawful}
+use Rattle.exploration.proofs.Whole.{ran_closing}
+use Rattle.search.proofs.SearchesLeft.{run_left}
+use borrow.Author.Rules.{rules}
+use Rattle.search.proofs.concluding.search_roomy.Goals as goal
+
+pub conclude-requires : goal.conclude-requires
+conclude-requires c =
+    (c.requires.0, c.requires.1, ran_closing (code_lawful c.args.ops.now c.args.plan) c.run-reach.ensures, c.requires.4)
+
+pub returns : goal.returns
+returns c =
+    run_left _ _ c.requires.0 _ c.requires.1 _ c.requires.4 c.run-reach.ensures c.conclude.ensures

@@ -1,0 +1,32 @@
+-- `go_on` meets its contract: nothing changes behind a break, and else the queue is gone through.
+use Prim.Native.Nat.{◌^◌}
+use mathlib.Core.Path.{refl}
+use native.Mathlib.Omega.{arith}
+use Rattle.evaluation.proofs.Powers.{pow_small}
+use Rattle.exploration.proofs.CodeSteps.{moves-few}
+use Rattle.exploration.proofs.Portions.{gone_nowhere, gone_further}
+use Rattle.exploration.proofs.Pauses.{explored_within, explored_few}
+use borrow.Author.Rules.{rules}
+use Rattle.search.proofs.portions.go_on.Goals as goal
+
+pub returns-then-reach : goal.returns-then-reach
+returns-then-reach c =
+    gone_nowhere c.requires.1 c.if-reach.true
+
+pub overflow_add-result : goal.overflow_add-result
+overflow_add-result c =
+    let bits = c.args.plan.bits in
+    omega (
+      arith,
+      c.requires.1.few,
+      explored_few c.explore-next.ensures c.requires.1.ready c.requires.1.within (pow_small bits (2 ^ bits) c.requires.0.few_bits refl)
+          (moves-few c.args.ops.now c.args.plan c.requires.0),
+    )
+
+pub returns : goal.returns
+returns c =
+    let bits = c.args.plan.bits in
+    gone_further c.requires.1 c.if-reach.false c.explore-next.ensures
+    (explored_within c.explore-next.ensures c.requires.1.ready c.requires.1.within)
+    (explored_few c.explore-next.ensures c.requires.1.ready c.requires.1.within (pow_small bits (2 ^ bits) c.requires.0.few_bits refl)
+    (moves-few c.args.ops.now c.args.plan c.requires.0))
