@@ -1,4 +1,6 @@
 // Lines of words and numbers, put into a lent buffer one part behind the other.
+#![tactic(auto)]
+
 ghost use Rattle.std.specs.Prelude.{[], ◌∷◌};
 ghost use Rattle.lines.specs.Lines.{decimal_of, word, line, number_line, refusal_line};
 ghost use Rattle.lines.specs.Puts.{Fits, Puts};
