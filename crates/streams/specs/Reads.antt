@@ -1,6 +1,7 @@
 -- What a read leaves in the room that it is lent.
 -- Assumes nothing.
-use Rattle.std.specs.Prelude.{List, ℕ}
+use Rattle.std.specs.Prelude.{List, Option, ℕ, ◌<◌, length, take}
+use Rattle.std.specs.Io.KnownBytes.{Consumes, IsAtEnd}
 use Rattle.io.specs.Counts.{IsPrefixLen}
 use Rattle.streams.specs.declared.whole.Got.{Got}
 use Rattle.streams.specs.declared.whole.Got.TheVariants.{Bytes, Failed}
@@ -9,3 +10,13 @@ use Rattle.streams.specs.declared.whole.Got.TheVariants.{Bytes, Failed}
 abbrev pub Within : Got → List ℕ → Type 0
 Within (Bytes n) xs = IsPrefixLen n xs
 Within Failed xs = Unit {0}
+
+-- The n bytes at the front of the room are the file's next, and no more are left where there was room for more.
+pub record Fills (before after : Option (List ℕ)) (room : List ℕ) (n : ℕ) : Type 0 where
+  pub front : Consumes before after (take n room)
+  pub whole : n < length room → IsAtEnd after
+
+-- The same of the bytes that came.
+abbrev pub Came : Got → Option (List ℕ) → Option (List ℕ) → List ℕ → Type 0
+Came (Bytes n) before after room = Fills before after room n
+Came Failed before after room = Unit {0}

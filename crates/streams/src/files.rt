@@ -1,44 +1,61 @@
 // Files that a program's arguments name.
+ghost use Rattle.std.specs.Io.{ReadsAtMost};
 ghost use Rattle.streams.specs.Reads.{Within};
 
+use crate::told::tell_failure;
 use crate::whole::{Got, read_file};
-use libc::STDERR_FILENO;
+use std::env::{Env, FillError};
+use std::fs::Files;
+use std::io::{Error, ErrorKind, Result, Write};
+use std::{fs, str};
 
-// Says on standard error that a file can't be read, and why.
-fn say_unread(program: &[u8], path: &[u8]) {
-    io::write_all(STDERR_FILENO, program);
-    io::write_all(STDERR_FILENO, b": cannot read ");
-    os::fail(path);
+// The room for a path.
+const PATH_ROOM: usize = 4096;
+
+// The system's numbers for an argument that is not there, and for a path that is too long.
+const INVALID: i32 = 22;
+
+const TOO_LONG: i32 = 36;
+
+// Why there is no argument.
+fn lack(fault: FillError) -> Error {
+    match fault {
+        FillError::NotPresent => Error::from_raw_os_error(INVALID),
+        FillError::TooLong => Error::from_raw_os_error(TOO_LONG),
+    }
 }
 
-// Reads the file at a path; where it can't be read, says so.
-fn read_path(program: &[u8], path: &[u8], room: &mut [u8]) -> Got
-    ensures { Within result room.new }
+// Reads the file at a path. Files have names of text alone.
+fn read_path(rt: &impl Files, path: &[u8], room: &mut [u8]) -> Result<usize>
+    ensures { ReadsAtMost result room.new }
 {
-    let fd = os::open_read(path);
-    if fd < 0 {
-        say_unread(program, path);
-        return Got::Failed;
-    }
-    let got = read_file(fd, room);
-    let Got::Bytes(n) = got else {
-        say_unread(program, path);
-        libc::close(fd);
-        return Got::Failed;
+    let Ok(text) = str::from_utf8(path) else {
+        return Err(Error::new(ErrorKind::InvalidFilename, "the path is no UTF-8"));
     };
-    libc::close(fd);
-    got
+    let mut file = fs::open(rt, text)?;
+    read_file(&mut file, room)
 }
 
-// Reads the file that argument i names. An argument that is too long for a path is cut in what is said of it.
-pub fn read_argument(program: &[u8], i: usize, room: &mut [u8]) -> Got
+// Reads the file that argument i names; where it can't be read, says so. An argument that is too long for a path is cut in what is said of it.
+pub fn read_argument<R: Env + Files>(
+    rt: &R,
+    errors: &mut impl Write,
+    program: &[u8],
+    i: usize,
+    room: &mut [u8],
+) -> Got
     ensures { Within result room.new }
 {
-    let mut path = io::buffer();
-    let n = os::arg(i, &mut path);
-    if os::errno() != 0 {
-        say_unread(program, &path);
-        return Got::Failed;
+    let mut path = [0u8; PATH_ROOM];
+    let (n, got) = match rt.arg(i, &mut path) {
+        Ok(n) => (n, read_path(rt, &path[..n], room)),
+        Err(fault) => (PATH_ROOM, Err(lack(fault))),
+    };
+    match got {
+        Ok(count) => Got::Bytes(count),
+        Err(why) => {
+            tell_failure(errors, program, b"read ", &path[..n], &why);
+            Got::Failed
+        }
     }
-    read_path(program, &path[..n], room)
 }

@@ -1,6 +1,6 @@
 // Texts from standard input. A text comes as its length in digits, a newline, its bytes and a newline. At anything else the input ends.
 use crate::bounds::at_most;
-use libc::STDIN_FILENO;
+use std::io::Read;
 
 // The part of the input block that is not used yet. It is empty before anything is read.
 #[derive(Clone, Copy)]
@@ -24,16 +24,14 @@ pub enum Head {
 }
 
 // The first byte of the next input block.
-fn first_byte(block: &mut [u8; 65536]) -> Next {
-    let got = libc::read(STDIN_FILENO, block);
-    let n = io::count(got, block);
-    if n == 0 {
-        return Next::End;
+fn first_byte(input: &mut impl Read, block: &mut [u8; 65536]) -> Next {
+    match input.read(block) {
+        Ok(0) | Err(_) => Next::End,
+        Ok(n) => Next::Byte(block[0], Rest { at: 1, end: n }),
     }
-    Next::Byte(block[0], Rest { at: 1, end: n })
 }
 
-pub fn next_byte(block: &mut [u8; 65536], rest: Rest) -> Next {
+pub fn next_byte(input: &mut impl Read, block: &mut [u8; 65536], rest: Rest) -> Next {
     let at = rest.at;
     let end = at_most(rest.end, 65536);
     if at < end {
@@ -45,7 +43,7 @@ pub fn next_byte(block: &mut [u8; 65536], rest: Rest) -> Next {
             },
         );
     }
-    first_byte(block)
+    first_byte(input, block)
 }
 
 // n with one digit more, but for a number that is too large already.
@@ -57,12 +55,11 @@ fn with_digit(n: usize, digit: u8) -> usize {
 }
 
 // A length of at most 9 digits, and its newline.
-pub fn text_length(block: &mut [u8; 65536], start: Rest) -> Head {
+pub fn text_length(input: &mut impl Read, block: &mut [u8; 65536], start: Rest) -> Head {
     let mut rest = start;
     let mut n: usize = 0;
-    let mut left: usize = 10;
-    'digits: while 0 < left {
-        let got = next_byte(block, rest);
+    'digits: for _ in 0..10 {
+        let got = next_byte(input, block, rest);
         let Next::Byte(b, after) = got else {
             return Head::End;
         };
@@ -74,17 +71,21 @@ pub fn text_length(block: &mut [u8; 65536], start: Rest) -> Head {
         }
         n = with_digit(n, b - b'0');
         rest = after;
-        left -= 1;
     }
     Head::End
 }
 
 // The n bytes of a text, as far as there is room for them, and then the byte after it.
-pub fn text_bytes(block: &mut [u8; 65536], start: Rest, room: &mut [u8], n: usize) -> Next {
+pub fn text_bytes(
+    input: &mut impl Read,
+    block: &mut [u8; 65536],
+    start: Rest,
+    room: &mut [u8],
+    n: usize,
+) -> Next {
     let mut rest = start;
-    let mut i: usize = 0;
-    'bytes: while i < n {
-        let got = next_byte(block, rest);
+    'bytes: for i in 0..n {
+        let got = next_byte(input, block, rest);
         let Next::Byte(b, after) = got else {
             return Next::End;
         };
@@ -92,18 +93,22 @@ pub fn text_bytes(block: &mut [u8; 65536], start: Rest, room: &mut [u8], n: usiz
             room[i] = b;
         }
         rest = after;
-        i += 1;
     }
-    next_byte(block, rest)
+    next_byte(input, block, rest)
 }
 
 // A whole text, put into the room as far as it goes: its length, and what follows its newline.
-pub fn whole_text(block: &mut [u8; 65536], start: Rest, room: &mut [u8]) -> Head {
-    let head = text_length(block, start);
+pub fn whole_text(
+    input: &mut impl Read,
+    block: &mut [u8; 65536],
+    start: Rest,
+    room: &mut [u8],
+) -> Head {
+    let head = text_length(input, block, start);
     let Head::Length(n, inside) = head else {
         return Head::End;
     };
-    let body = text_bytes(block, inside, room, n);
+    let body = text_bytes(input, block, inside, room, n);
     let Next::Byte(b, rest) = body else {
         return Head::End;
     };

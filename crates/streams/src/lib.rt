@@ -1,6 +1,10 @@
 // Input and output of the programs: whole files and corpora come in, and what is written goes out whole or is told.
+#![tactic(auto)]
+
+pub mod arguments;
 pub mod bounds;
 pub mod files;
 pub mod input;
 pub mod output;
+pub mod told;
 pub mod whole;

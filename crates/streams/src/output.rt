@@ -1,12 +1,24 @@
 // Standard output, and what is said where it can't be written.
-use libc::{STDERR_FILENO, STDOUT_FILENO};
+ghost use Rattle.std.specs.Prelude.{IsTrue};
+ghost use Rattle.std.specs.Io.KnownBytes.{Appends};
+
+use crate::told::tell_failure;
+use std::io::Write;
 
 // Writes the bytes to standard output; whether all were written. If not, a line on standard error says so, and why.
-pub fn write_out(program: &[u8], bytes: &[u8]) -> bool {
-    if io::write_all(STDOUT_FILENO, bytes) {
-        return true;
+pub fn write_out<O: Write>(
+    out: &mut O,
+    errors: &mut impl Write,
+    program: &[u8],
+    bytes: &[u8],
+) -> bool
+    ensures { IsTrue result → Appends (O.contents out.old) (O.contents out.new) bytes.now }
+{
+    match out.write_all(bytes) {
+        Ok(()) => true,
+        Err(why) => {
+            tell_failure(errors, program, b"write standard output", b"", &why);
+            false
+        }
     }
-    io::write_all(STDERR_FILENO, program);
-    os::fail(b": cannot write standard output");
-    false
 }

@@ -1,7 +1,10 @@
 // A whole file, as far as there is room for it.
-ghost use Rattle.streams.specs.Reads.{Within};
+ghost use Rattle.std.specs.Prelude.{IfOk};
+ghost use Rattle.std.specs.Io.{ReadsAtMost};
+ghost use Rattle.streams.specs.Reads.{Within, Fills, Came};
 
-use libc::{STDERR_FILENO, STDIN_FILENO};
+use crate::told::tell_failure;
+use std::io::{Read, Result, Write};
 
 // How many bytes came, none of them at the file's end, or that the read failed.
 #[derive(Clone, Copy)]
@@ -10,45 +13,37 @@ pub enum Got {
     Failed,
 }
 
-// One read into the front of the room.
-fn read_some(fd: i32, room: &mut [u8]) -> Got
-    ensures { Within result room.new }
-{
-    let got = libc::read(fd, room);
-    if got < 0 {
-        return Got::Failed;
-    }
-    Got::Bytes(io::count(got, room))
-}
-
 // Reads until the file ends or the room is full.
-pub fn read_file(fd: i32, room: &mut [u8]) -> Got
-    ensures { Within result room.new }
+pub fn read_file<R: Read>(file: &mut R, room: &mut [u8]) -> Result<usize>
+    ensures within { ReadsAtMost result room.new }
+    ensures bytes { IfOk result (Fills (R.remaining file.old) (R.remaining file.new) room.new) }
 {
-    let size = room.len();
-    let mut at: usize = 0;
-    'parts: while at < size {
-        let got = read_some(fd, &mut room[at..]);
-        let Got::Bytes(n) = got else {
-            return Got::Failed;
-        };
+    let mut at = 0;
+    'parts: while at < room.len() {
+        let n = file.read(&mut room[at..])?;
         if n == 0 {
-            return Got::Bytes(at);
+            return Ok(at);
         }
         at += n;
     }
-    Got::Bytes(at)
+    Ok(at)
 }
 
 // Reads standard input. Where it can't be read, a line on standard error says so, and why.
-pub fn read_in(program: &[u8], room: &mut [u8]) -> Got
-    ensures { Within result room.new }
+pub fn read_in<R: Read>(
+    input: &mut R,
+    errors: &mut impl Write,
+    program: &[u8],
+    room: &mut [u8],
+) -> Got
+    ensures within { Within result room.new }
+    ensures bytes { Came result (R.remaining input.old) (R.remaining input.new) room.new }
 {
-    let got = read_file(STDIN_FILENO, room);
-    let Got::Bytes(n) = got else {
-        io::write_all(STDERR_FILENO, program);
-        os::fail(b": cannot read standard input");
-        return Got::Failed;
-    };
-    Got::Bytes(n)
+    match read_file(input, room) {
+        Ok(n) => Got::Bytes(n),
+        Err(why) => {
+            tell_failure(errors, program, b"read standard input", b"", &why);
+            Got::Failed
+        }
+    }
 }
