@@ -1,5 +1,7 @@
 // The reader and the acceptance test for the loader at the dockside, which is written in C.
 // A slice is a pointer and a length there, and each answer is one number.
+#![tactic(auto)]
+
 ghost use Rattle.std.specs.Prelude.{◌≡◌, ◌+◌, ◌≤◌};
 ghost use Rattle.acceptance.specs.Promises.{answer_to};
 ghost use Rattle.sheets.specs.SheetTexts.{AreBytes};

@@ -1,4 +1,6 @@
 // Names as they stand in the text.
+#![tactic(auto)]
+
 ghost use Rattle.lines.specs.Lines.{word};
 ghost use Rattle.lines.specs.Puts.{Fits, Puts};
 ghost use Rattle.names.specs.working.Arrays.{name_in, Named};
