@@ -1,4 +1,6 @@
 // The report of a text: its counts, the verdict with the counts of the map or the first breaking run, or its refusal.
+#![tactic(auto)]
+
 mod run;
 
 ghost use Rattle.std.specs.Prelude.{◌≡◌, length};
