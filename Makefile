@@ -10,13 +10,15 @@ completionsdir = $(prefix)/share/bash-completion/completions
 home = $(libdir)/nutseason
 
 commands := report reserve sheet admit step bursts
-programs := $(commands:%=target/bin/%)
-libraries := target/staticlib/libloader.a target/staticlib/libworkbench.a
-sources := crates.txt $(shell find crates -name '*.rt' -o -name '*.antt')
+programs := $(foreach command,$(commands),crates/$(command)/out/$(command))
+loader := crates/loader/out/libloader.a
+workbench := crates/workbench/out/libworkbench.a
+libraries := $(loader) $(workbench)
+sources := crates.txt $(shell find crates -name out -prune -o \( -name '*.rt' -o -name '*.antt' \) -print)
 explain := $(filter-out explain/test_% explain/stored.py,$(wildcard explain/*.*))
 step := $(filter-out step/test_%,$(wildcard step/*.py))
 
-# Two runs of rt at once would disturb each other's records.
+# A second run of rt would only wait for the crates that both stand on.
 .NOTPARALLEL:
 .PHONY: all programs libraries install uninstall
 
@@ -29,8 +31,11 @@ $(programs) &: $(sources)
 	./build $(commands)
 	@touch $(programs)
 
-target/staticlib/lib%.a: $(sources)
-	rt staticlib $*
+$(loader): $(sources)
+	cd crates/loader && rt lib
+
+$(workbench): $(sources)
+	cd crates/workbench && rt lib
 
 # The folder of an earlier installation goes, so that nothing of it is left. The command is found through a link.
 install: all
@@ -44,8 +49,8 @@ install: all
 	./nutseason version | sed '1s/^nutseason //' | install -m 644 /dev/stdin "$(DESTDIR)$(home)/VERSION"
 	ln -sfr "$(DESTDIR)$(home)/nutseason" "$(DESTDIR)$(bindir)/nutseason"
 	install -D -m 644 include/nutseason.h "$(DESTDIR)$(includedir)/nutseason.h"
-	install -D -m 644 target/staticlib/libloader.a "$(DESTDIR)$(libdir)/libnutseason_loader.a"
-	install -D -m 644 target/staticlib/libworkbench.a "$(DESTDIR)$(libdir)/libnutseason_workbench.a"
+	install -D -m 644 $(loader) "$(DESTDIR)$(libdir)/libnutseason_loader.a"
+	install -D -m 644 $(workbench) "$(DESTDIR)$(libdir)/libnutseason_workbench.a"
 	sed -e 's|@prefix@|$(prefix)|' -e 's|@includedir@|$(includedir)|' -e 's|@libdir@|$(libdir)|' -e "s|@version@|$$(cat VERSION)|" \
 		include/nutseason.pc.in | install -D -m 644 /dev/stdin "$(DESTDIR)$(pkgconfigdir)/nutseason.pc"
 	install -D -m 644 completions/nutseason.bash "$(DESTDIR)$(completionsdir)/nutseason"

@@ -100,7 +100,7 @@ def measure(program, models):
         print("spin is not installed, so it is not measured")
         return
     if not os.path.exists(program):
-        sys.exit("target/bin/sheet is not built; `rt check sheet` builds it")
+        sys.exit("the program sheet is not built; `./build sheet` builds it")
     heading("model", "product", "spin -a", "gcc", "depth first", "ratio",
             "ratio to all three", "breadth first", "ratio")
     for title, text in models:

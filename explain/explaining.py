@@ -31,18 +31,18 @@ def explained_by(form, file, text, report, reserved=None):
     return say[type(report)](file, text, report, model, search)
 
 
-def asked(programs, name, text):
+def asked(program, text):
     """What a program says of the text, in its bytes."""
-    return subprocess.run([os.path.join(programs, name)], input=text,
-                          stdout=subprocess.PIPE, check=False).stdout
+    return subprocess.run([program], input=text, stdout=subprocess.PIPE,
+                          check=False).stdout
 
 
-def explain(programs, path, out):
+def explain(reporting, reserving, path, out):
     file, text = shown(path), read(path, LONGEST_TEXT)
-    report = report_of(asked(programs, "report", text))
+    report = report_of(asked(reporting, text))
     said = [file, text, report]
     if not isinstance(report, Refused):
-        said.append(asked(programs, "reserve", text))
+        said.append(asked(reserving, text))
     lines = explained_by(plain, *said)
     if out is None:
         show(lines)
@@ -60,5 +60,6 @@ def write(out, path, said):
         file.write(said)
 
 
-def main(programs, path, out=None):
-    return status_of("explain", FAULTS, explain, programs, path, out)
+def main(reporting, reserving, path, out=None):
+    return status_of("explain", FAULTS, explain, reporting, reserving, path,
+                     out)

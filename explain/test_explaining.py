@@ -74,8 +74,8 @@ class Explaining(unittest.TestCase):
         made = tempfile.TemporaryDirectory()
         self.addCleanup(made.cleanup)
         self.folder = Path(made.name)
-        self.programs = self.folder / "programs"
-        self.programs.mkdir()
+        self.programs = [str(self.folder / name)
+                         for name in ("report", "reserve")]
         self.text = self.folder / "model.text"
         self.out = self.folder / "page.html"
 
@@ -83,7 +83,7 @@ class Explaining(unittest.TestCase):
         """A program that says this only of a text that it is handed whole."""
         stored = self.folder / f"{name}.said"
         stored.write_bytes(said)
-        program = self.programs / name
+        program = self.folder / name
         program.write_text(f"#!/bin/sh\ncmp -s - '{self.text}' && "
                            f"cat '{stored}'\n")
         program.chmod(0o755)
@@ -96,7 +96,7 @@ class Explaining(unittest.TestCase):
                       case.reservation if reserved is None else reserved)
         with (standard_output(output),
               contextlib.redirect_stderr(io.StringIO()) as error):
-            status = main(str(self.programs), str(self.text), out)
+            status = main(*self.programs, str(self.text), out)
         return status, error.getvalue()
 
     def run_on(self, case, report=None, out=None, reserved=None):
@@ -161,12 +161,11 @@ class Explaining(unittest.TestCase):
 
     def test_programs_that_are_asked(self):
         """Of a refused text there is nothing to reserve."""
-        for name, programs in (("tab", ["report"]),
-                               ("void_both", ["report", "reserve"])):
+        for name, count in (("tab", 1), ("void_both", 2)):
             with mock.patch("explaining.asked", wraps=asked) as called:
                 self.run_on(CASES[name])
-            self.assertEqual([call.args[1] for call in called.mock_calls],
-                             programs)
+            self.assertEqual([call.args[0] for call in called.mock_calls],
+                             self.programs[:count])
 
     def test_no_page(self):
         for out, why in ((self.folder, "cannot write"),

@@ -1,13 +1,12 @@
 """Steps through a trace with a person, forward and back.
 
-python3 -B step PROGRAMS FILE SHEET
+python3 -B step PROGRAM FILE SHEET
 
-PROGRAMS is the folder of the built program step, and what it says of the text
-in FILE and the trace in SHEET is all that is known of place and state. On a
-terminal one screen follows the keys; elsewhere the letters f, b, 0 and q are
-read from standard input, and each place is printed. The status is 0 where a
-trace was stepped through, 1 where the sheet is no trace that holds, 2 for
-anything else.
+PROGRAM is the built program step, and what it says of the text in FILE and the
+trace in SHEET is all that is known of place and state. On a terminal one screen
+follows the keys; elsewhere the letters f, b, 0 and q are read from standard
+input, and each place is printed. The status is 0 where a trace was stepped
+through, 1 where the sheet is no trace that holds, 2 for anything else.
 """
 
 import sys

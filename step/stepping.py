@@ -1,7 +1,5 @@
 """From a text and a sheet to the steps of a person through it."""
 
-import os
-
 import terminal
 from keys import LETTERS, QUIT, keys_in
 from player import BACK, FORWARD, playing
@@ -18,9 +16,8 @@ STOPPED = {FORWARD: "The trace ends here: no step forward.",
            BACK: "The trace begins here: no step back."}
 
 
-def main(programs, path, sheet):
-    return status_of("step", FAULTS, step, os.path.join(programs, "step"),
-                     path, sheet)
+def main(program, path, sheet):
+    return status_of("step", FAULTS, step, program, path, sheet)
 
 
 def step(program, path, sheet):
