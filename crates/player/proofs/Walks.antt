@@ -14,7 +14,6 @@ use Rattle.notation.proofs.Texts.{answers_recased}
 use Rattle.meaning.specs.Meaning.{Row, State, Move, AreSteps, last}
 use Rattle.meaning.specs.OneRow.{TraceStep, spread, spread_step, last_of}
 use Rattle.meaning.proofs.Parametric.{traces_hold}
-use Rattle.conditions.specs.declared.outcome.Outcome.{Outcome}
 use Rattle.acceptance.specs.Promises.{answer_to}
 use Rattle.acceptance.specs.working.Test.{test_of}
 use Rattle.player.specs.Places.{StandsOn, leads}

@@ -1,4 +1,6 @@
 // A player that walks a trace forward and back. Whoever plays it lends its record, and a move changes it in place.
+#![tactic(auto)]
+
 pub mod moves;
 pub mod record;
 pub mod values;
