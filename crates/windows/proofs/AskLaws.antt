@@ -240,6 +240,10 @@ counting_known q text b places = by_outcome (trace_passed (test_of text b)) refl
     by_outcome true e = subst (Counting b places) (sym (begin_passed q text b places e)) (passed e)
     by_outcome false e = subst (Counting b places) (sym (begin-told q text b places e)) (counting_stopped b places (A.Told (test_of text b)))
 
+-- What comes of it, as the code has it.
+pub counting_as : (q : Question) (text b : List ℕ) (places : ℕ) (begun : Begun) → begun ≡ begin_of q text b places → Counting b places begun
+counting_as q text b places begun e = subst (Counting b places) (sym e) (counting_known q text b places)
+
 -- Whatever comes of a question, there are sixteen counts.
 long_in : (q : Question) (n r : ℕ) (l : List ℕ) → length l ≡ 16 → (t : Bool) → length (cond t (going q n l) (stopped (A.Refused r))).counts ≡ 16
 unfolding going

@@ -17,6 +17,17 @@ unfolding filled
 length-filled f l zero = refl
 length-filled f l (suc i) = length-set (filled f l i) i (f i) ∙ length-filled f l i
 
+-- Nothing is filled yet; and one more place is.
+pub filled_none : (f : ℕ → Step) (l : List Step) → l ≡ filled f l 0
+unfolding filled
+filled_none f l = refl
+
+pub filled_next : (f : ℕ → Step) (l₀ l : List Step) (i : ℕ) → l ≡ filled f l₀ i → (x : Step) → x ≡ f i → set l i x ≡ filled f l₀ (i + 1)
+unfolding filled
+filled_next f l₀ l i e x g =
+    let s : suc i ≡ i + 1 = omega arith in
+    ap (λ (r : List Step). set r i x) e ∙ ap (set (filled f l₀ i) i) g ∙ ap (filled f l₀) s
+
 -- One more value is stored behind the others.
 sets_snoc : (vs l : List Step) (i : ℕ) (x : Step) → sets l i (vs ++ x ∷ []) ≡ set (sets l i vs) (i + length vs) x
 sets_snoc [] l i x = let e : i ≡ i + 0 = omega arith in ap (λ (k : ℕ). set l k x) e

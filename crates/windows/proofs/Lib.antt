@@ -1,5 +1,4 @@
 -- Laws of windows, by subject.
-pub mod Walks
 pub mod FirstValues
 pub mod Occurrences
 pub mod EachCounted
@@ -7,7 +6,6 @@ pub mod Tallies
 pub mod AskLaws
 pub mod Filled
 pub mod SurveyLaws
-pub mod Surveyed
 pub mod BurstLaws
 pub mod StepRecords
 pub mod SurveysTold

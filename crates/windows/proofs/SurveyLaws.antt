@@ -3,13 +3,17 @@
 use mathlib.Core.Path.{◌≡◌, refl, sym, ap, ◌∙◌}
 use mathlib.Core.List.{List}
 use Prim.Native.Nat.{ℕ}
-use lib.ListN.{length}
+use lib.ListN.{length, take}
 use Rattle.notation.specs.working.Machine as N
 use Rattle.notation.specs.working.Answer.{answer}
 use Rattle.traces.specs.working.Passing.{header}
-use Rattle.windows.specs.working.Surveying.{Survey, step_at, filled, begin_for, begin_of, survey_in, header_of, survey_of}
+use Rattle.windows.specs.working.Surveying.{Survey, step_at, filled, begin_for, begin_of, replied_of, survey_in, header_of, survey_of}
+use Rattle.windows.specs.working.Sliding.{commands_in, tally_of}
 use Rattle.windows.specs.declared.record.Step.{Step}
 use Rattle.windows.specs.declared.record.Question.{Question}
+use Rattle.windows.specs.declared.record.Tally.{Tally}
+use Rattle.windows.specs.declared.record.Begun.{Begun}
+use Rattle.windows.specs.declared.record.Reply.{Reply}
 use Rattle.windows.proofs.Filled.{length-filled}
 use Rattle.windows.proofs.AskLaws.{counts-long}
 
@@ -35,3 +39,14 @@ module _ (q : Question) (text b : List ℕ) (list : List Step) where
 
   pub survey-counts : length (survey_of q text b list).reply.counts ≡ 16
   survey-counts = ap (λ (s : Survey). length s.reply.counts) (sym survey_by) ∙ counts-long q text b (length list)
+
+  -- What begins, the list, the tally and the reply as the code has them.
+  module _ (begun : Begun) (began : begun ≡ begin_of q text b (length list)) (full : List Step) (filled-so : full ≡ filled (step_at header b) list begun.steps) where
+    pub surveyed_list : full ≡ (survey_of q text b list).list
+    surveyed_list = filled-so ∙ ap (λ (x : Begun). filled (step_at header b) list x.steps) began ∙ survey-list
+
+    pub surveyed_reply : (t : Tally) → t ≡ tally_of begun.from.command begun.from.width (commands_in (take begun.steps full))
+        → (r : Reply) → r ≡ replied_of begun t → r ≡ (survey_of q text b list).reply
+    surveyed_reply t counted r replied =
+        replied ∙ ap (replied_of begun) (counted ∙ ap (λ (l : List Step). tally_of begun.from.command begun.from.width (commands_in (take begun.steps l))) filled-so)
+        ∙ ap (λ (x : Begun). (survey_in header x b list).reply) began ∙ survey-reply

@@ -167,3 +167,12 @@ module _ (from : Tally) (l : List Step) (j : ℕ) (below : j < length l) where
   pub tallied_small : j < 65535 → ((tallied from l j).seen < 65535) × ((tallied from l j).here < 65535)
   unfolding tallied
   tallied_small h = tally-small from.command from.width l j below h
+
+  -- One turn: the step that leaves is at k.
+  pub tallied_next : 1 ≤ from.width → (t : Tally) → t ≡ tallied from l j → (k : ℕ) → k ≡ leaving_of from.width j
+      → (r : Tally) → r ≡ slid_of t (get_or l j none).command (get_or l k none).command → r ≡ tallied from l (j + 1)
+  tallied_next one t e k left r slid =
+      let s : suc j ≡ j + 1 = omega arith in
+      slid ∙ ap (λ (u : Tally). slid_of u (get_or l j none).command (get_or l k none).command) e
+      ∙ ap (λ (m : ℕ). slid_of (tallied from l j) (get_or l j none).command (get_or l m none).command) left
+      ∙ tallied_suc one ∙ ap (tallied from l) s

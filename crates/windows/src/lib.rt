@@ -1,4 +1,6 @@
 // Bursts in a trace: its steps put in a lent list, and commands counted in windows of it.
+#![tactic(auto)]
+
 pub mod asking;
 pub mod commands;
 pub mod counting;
