@@ -1,6 +1,6 @@
 -- The search's result is right.
 -- Assumes nothing.
-use Prim.Native.Nat.{ℕ, ◌+◌, ◌-◌, ◌<◌}
+use Prim.Native.Nat.{ℕ, ◌-◌, ◌<◌}
 use mathlib.Core.Path.{◌≡◌, sym, ap, ◌∙◌}
 use mathlib.Core.Bool.{true, false}
 use mathlib.Core.List.{List, [], ◌∷◌, ◌++◌, map, map-append}
@@ -12,7 +12,7 @@ use borrow.Author.Tests.{lt-ltb, ltb-true}
 use Rattle.exploration.specs.working.Transitions.{Transitions, Lawful}
 use Rattle.exploration.specs.working.Exploring.{Seen, Progress, broke, through, search}
 use Rattle.exploration.specs.working.Runs.{final, run_to}
-use Rattle.exploration.specs.working.Results.{reached, result_of, result, Reached, AllReached, Right}
+use Rattle.exploration.specs.working.Results.{result_of, result, Reached, AllReached, Right}
 use Rattle.exploration.proofs.First.{at, Ended, Closed, Searched, searched, traced-met, run-to}
 
 last_of : (l : List ℕ) (v : ℕ) → get_or (l ++ v ∷ []) (length (l ++ v ∷ []) - 1) 0 ≡ v

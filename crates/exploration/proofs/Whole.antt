@@ -12,7 +12,7 @@ use borrow.Author.Tests.{lt-ltb}
 use Rattle.sheets.specs.Sheets.{map_length}
 use Rattle.meaning.specs.Evidence.{Verdict, safe_by, void_by, unsafe_by}
 use Rattle.exploration.specs.working.Transitions.{Transitions, Lawful}
-use Rattle.exploration.specs.working.Exploring.{progress, search}
+use Rattle.exploration.specs.working.Exploring.{progress}
 use Rattle.exploration.specs.working.Runs.{Run, final, run_to, start_of, steps_of}
 use Rattle.exploration.specs.working.Tables.{seen, marked, Kept, Ran}
 use Rattle.exploration.specs.working.Results.{first_run, result_of}

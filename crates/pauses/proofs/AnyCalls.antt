@@ -4,7 +4,7 @@ use mathlib.Core.Path.{◌≡◌, refl, sym, ap, ◌∙◌, subst}
 use mathlib.Core.Bool.{Bool, true, false, cond}
 use mathlib.Core.Logic.{◌⊎◌, inl, inr}
 use mathlib.Core.List.{List}
-use mathlib.Core.Option.{Option, none, some}
+use mathlib.Core.Option.{Option}
 use Prim.Native.Nat.{ℕ, ◌+◌, ◌-◌, ◌*◌, ◌^◌, ◌≤◌}
 use Prim.Native.String.{String}
 use native.Mathlib.Omega.{arith}
@@ -51,7 +51,7 @@ use Rattle.verdicts.specs.Left.{Left, zeroed}
 use Rattle.verdicts.specs.Promises.{Room, answer_of, SearchRefused}
 use Rattle.verdicts.specs.working.Searching.{roomy, verdict_of, left_with, left_alone, found_by}
 use Rattle.verdicts.proofs.SearchTells.{searched_said}
-use Rattle.pauses.specs.Answers.{Wording, paused, returned}
+use Rattle.pauses.specs.Answers.{paused}
 use Rattle.pauses.specs.Held.{Held}
 use Rattle.pauses.specs.Promises.{TableRoom, HeldRefused, AnyHeld, AnyLeft, AnyTells, RefusedFirst, Bounded, FinishBounded, AllBounded, PausesBounded, PausedWithoutCase}
 use Rattle.pauses.specs.working.Pausing.{flat_of, tabled, held_alone, held_by, nothing_left, open_for, portion_in, portion_for, last_recorded, can_close, all_from, finish_in, finish_for, held_in, left_in, open_of, portion_of, finish_of}

@@ -4,7 +4,7 @@ use mathlib.Core.Path.{◌≡◌, refl, sym, ap, ◌∙◌, subst}
 use mathlib.Core.Bool.{true, false, true≢false}
 use mathlib.Core.Logic.{◌↔◌, ◌⊎◌, inl, inr, ⊎_elim}
 use mathlib.Core.List.{List, [], ◌∷◌, ◌++◌}
-use Prim.Native.Nat.{ℕ, suc, ◌+◌, ◌-◌, ◌*◌, ◌<◌, ◌≤◌}
+use Prim.Native.Nat.{ℕ, suc, ◌-◌, ◌*◌, ◌<◌, ◌≤◌}
 use native.Mathlib.Omega.{arith}
 use lib.ListN.{length, get_or, length-map, get_or-map}
 use lib.Seq.{get_or-take}
@@ -12,7 +12,6 @@ use Rattle.notation.specs.Model.{Model}
 use Rattle.notation.specs.Texts.{TextSays}
 use Rattle.notation.proofs.Regular.{all_regular}
 use Rattle.meaning.specs.OneRow.{state_count, starts, breaks, next, TraceStep}
-use Rattle.sheets.specs.Sheets.{size}
 use Rattle.exploration.specs.Findings.{Reaches, TraceTo}
 use Rattle.exploration.specs.Order.{RunBefore}
 use Rattle.exploration.specs.Pause.{Pause}

@@ -7,7 +7,7 @@ use Rattle.acceptance.specs.Cases.{g, h, g_keeps_nowhere, g_starts_nowhere}
 use Rattle.conditions.specs.Outcomes as O
 use Rattle.exploration.specs.Pause.{Pause}
 use Rattle.questions.specs.Answers as Q
-use Rattle.pauses.specs.Answers.{Wording, paused, returned}
+use Rattle.pauses.specs.Answers.{paused, returned}
 use Rattle.pauses.specs.Held.{Held}
 use Rattle.pauses.specs.Promises.{portions_from, met_reply}
 use Rattle.pauses.specs.working.Pausing.{open_of}

@@ -1,7 +1,6 @@
 -- `test` meets its contract: the text's refusal, or the outcome over the flat form that was read.
 use mathlib.Core.Path.{refl, sym}
 use Rattle.acceptance.proofs.TestTexts.{read_sound, test_read, test-refused}
-use borrow.Author.Rules.{rules}
 use Rattle.acceptance.proofs.test.Goals as goal
 
 pub read_plan-told-requires : goal.read_plan-told-requires

@@ -4,7 +4,6 @@ use Rattle.sheets.specs.working.FlatSystem.{system_in}
 use mathlib.Core.Path.{sym, ◌∙◌, ap}
 use Rattle.sheets.specs.Sheets.{map_length}
 use Rattle.acceptance.proofs.TestWhole.{whole-refused, map-room, map-bits, whole-map, trace-stands, trace-short, whole-trace}
-use borrow.Author.Rules.{rules}
 use Rattle.acceptance.proofs.test_sheet.Goals as goal
 
 pub test_map-requires : goal.test_map-requires

@@ -1,7 +1,5 @@
 -- `asked` meets its contract: the outcome, or what the map replies.
 use mathlib.Core.Bool.{true, false}
-use borrow.Author.Rules.{rules}
-use borrow.Author.Tests.{not-true, not-false}
 use Rattle.sheets.specs.working.FlatSystem.{system_in}
 use Rattle.questions.proofs.MapsAsked.{judged, replies_told, replies_beyond, Asks, stands, has-bit, replies_member}
 use Rattle.questions.proofs.asked.Goals as goal

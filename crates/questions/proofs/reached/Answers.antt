@@ -1,6 +1,5 @@
 -- `reached` meets its contract: the text's refusal, or what the sheet is asked over the flat form that was read.
 use mathlib.Core.Path.{refl, sym}
-use borrow.Author.Rules.{rules}
 use Rattle.acceptance.proofs.TestTexts.{read_sound}
 use Rattle.questions.proofs.ReachedTexts.{was_read_lem, was_refused_lem}
 use Rattle.questions.proofs.reached.Goals as goal

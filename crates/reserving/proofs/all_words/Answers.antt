@@ -1,9 +1,5 @@
 -- `all_words` meets its contract: the sum so far and the words of the commands that are left make the whole sum.
-use Prim.Native.Nat.{◌+◌, ◌-◌, ◌*◌, ◌^◌, ◌≤◌}
-use mathlib.Core.Path.{◌≡◌}
 use native.Mathlib.Omega.{arith}
-use Rattle.evaluation.specs.working.CodeSystem.{stars_in}
-use Rattle.exploration.specs.working.Trials.{words_of}
 use Rattle.exploration.proofs.TrialCounts.{sum-start, sum-next, sum-end}
 use Rattle.reserving.proofs.all_words.Goals as goal
 

@@ -1,7 +1,6 @@
 -- `needs_of` meets its contract: states, bytes and trials from the plan.
 use native.Mathlib.Omega.{arith}
 use native.Mathlib.Nat.{mul-le-mul}
-use borrow.Author.Rules.{rules}
 use Rattle.evaluation.proofs.Powers.{pow_small}
 use Rattle.reserving.proofs.ReserveTexts.{needed}
 use Rattle.reserving.proofs.needs_of.Goals as goal

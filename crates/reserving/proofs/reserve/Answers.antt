@@ -1,6 +1,5 @@
 -- `reserve` meets its contract: the text's refusal, or what the plan of its model tells.
 use mathlib.Core.Path.{refl, sym, ◌∙◌}
-use borrow.Author.Rules.{rules}
 use Rattle.acceptance.proofs.TestTexts.{read_sound}
 use Rattle.reserving.proofs.ReserveTexts.{was_read_lem, was_refused_lem}
 use Rattle.reserving.proofs.reserve.Goals as goal

@@ -3,7 +3,6 @@ use Rattle.search.proofs.SearchesLeft.{first_short_lem, second_short_lem, sheet-
 use Rattle.evaluation.proofs.Powers.{pow_small}
 use Rattle.sheets.specs.working.FlatSystem.{system_in}
 use Rattle.verdicts.specs.working.Searching.{found_by, search_for}
-use borrow.Author.Rules.{rules}
 use Rattle.search.proofs.search_code.Goals as goal
 
 pub returns-then-first-states : goal.returns-then-first-states

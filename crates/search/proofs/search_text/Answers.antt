@@ -1,6 +1,5 @@
 -- `search_text` meets its contract: the text's refusal, or what is left over the flat form that was read.
 use mathlib.Core.Path.{refl, sym}
-use borrow.Author.Rules.{rules}
 use Rattle.acceptance.proofs.TestTexts.{read_sound}
 use Rattle.search.proofs.SearchTexts.{search-read, search-refused}
 use Rattle.search.proofs.search_text.Goals as goal

@@ -1,14 +1,10 @@
 -- `closed_at` meets its contract: the commands before k lead from s to members.
-use Prim.Native.Nat.{◌-◌, ◌^◌, ◌≤◌}
-use mathlib.Core.Path.{◌≡◌, sym, ◌∙◌}
+use Prim.Native.Nat.{◌-◌, ◌≤◌}
+use mathlib.Core.Path.{◌≡◌}
 use mathlib.Core.Bool.{true}
-use native.Mathlib.Omega.{arith}
-use borrow.Author.Rules.{rules}
-use borrow.Author.Tests.{not-true, not-false}
 use Rattle.sheets.specs.working.SheetReading.{map_in}
-use Rattle.meaning.specs.working.Conditions.{closed_at, words_stay}
+use Rattle.meaning.specs.working.Conditions.{closed_at}
 use Rattle.evaluation.specs.working.CodeSystem.{next_in, stars_in}
-use Rattle.conditions.proofs.Loops.{words-told, closed_none, closed-next, closed_fail, closed-done}
 use Rattle.conditions.proofs.maps.closed_at.Given as goal
 
 abbrev pub invariant-commands : goal.invariant-commands

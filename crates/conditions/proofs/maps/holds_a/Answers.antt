@@ -1,14 +1,7 @@
 -- `holds_a` meets its contract: A has been found to hold of the states before s, and `none` tells whether no start state was among them.
-use borrow.Author.Rules.{rules}
-use Prim.Native.Nat.{◌-◌, ◌^◌, ◌≤◌}
-use mathlib.Core.Path.{◌≡◌, sym, ◌∙◌}
-use mathlib.Core.Bool.{true}
-use mathlib.Core.Logic.{⊎_elim}
+use Prim.Native.Nat.{◌^◌, ◌≤◌}
+use mathlib.Core.Path.{sym, ◌∙◌}
 use native.Mathlib.Omega.{arith}
-use borrow.Author.Tests.{not-true, not-false}
-use Rattle.sheets.specs.working.SheetReading.{map_in}
-use Rattle.meaning.specs.working.Conditions.{test_void, test_a}
-use Rattle.evaluation.specs.working.CodeSystem.{starts_in}
 use Rattle.evaluation.proofs.Powers.{pow_small}
 use Rattle.conditions.proofs.Loops.{void_none, void-start, void-other, void-done, void_fail, a_none, a_other, a_member, a_fail, a_done}
 use Rattle.conditions.proofs.maps.holds_a.Goals as goal
@@ -38,11 +31,11 @@ returns-then-not-member c =
 
 pub states-preserved : goal.states-preserved
 states-preserved c = elim c.if-starts.branch [
-    then-starts+else-not-member w ↦
+  | then-starts+else-not-member w ↦
       (omega arith, a_member _ _ _ c.states.invariant.1 (sym w.in_map-member.ensures ∙ w.if-not-member.false), w.none-is ∙ void-start _ _ (sym c.starts.ensures ∙ w.if-starts.true))
   | else-starts w ↦
       (omega arith, a_other _ _ _ c.states.invariant.1 (sym c.starts.ensures ∙ w.if-starts.false), w.none-is ∙ void-other _ _ _ c.states.invariant.2 (sym c.starts.ensures ∙ w.if-starts.false))
-  ]
+]
 
 pub returns : goal.returns
 returns c =

@@ -1,16 +1,10 @@
 -- `holds_a` meets its contract: A has been found to hold of the states before s, and `none` tells whether no start state was among them.
-use borrow.Author.Rules.{rules}
-use Prim.Native.Nat.{◌-◌, ◌^◌, ◌≤◌}
-use mathlib.Core.Path.{◌≡◌, sym, ◌∙◌}
+use Prim.Native.Nat.{◌-◌, ◌≤◌}
+use mathlib.Core.Path.{◌≡◌}
 use mathlib.Core.Bool.{true}
-use mathlib.Core.Logic.{⊎_elim}
-use native.Mathlib.Omega.{arith}
-use borrow.Author.Tests.{not-true, not-false}
 use Rattle.sheets.specs.working.SheetReading.{map_in}
 use Rattle.meaning.specs.working.Conditions.{test_void, test_a}
 use Rattle.evaluation.specs.working.CodeSystem.{starts_in}
-use Rattle.evaluation.proofs.Powers.{pow_small}
-use Rattle.conditions.proofs.Loops.{void_none, void-start, void-other, void-done, void_fail, a_none, a_other, a_member, a_fail, a_done}
 use Rattle.conditions.proofs.maps.holds_a.Given as goal
 
 abbrev pub invariant-states : goal.invariant-states

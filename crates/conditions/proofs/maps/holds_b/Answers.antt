@@ -1,13 +1,7 @@
 -- `holds_b` meets its contract: B has been found to hold of the states before s.
-use borrow.Author.Rules.{rules}
-use Prim.Native.Nat.{◌-◌, ◌^◌, ◌≤◌}
-use mathlib.Core.Path.{◌≡◌, sym, ◌∙◌}
-use mathlib.Core.Bool.{true}
-use mathlib.Core.Logic.{⊎_elim}
+use Prim.Native.Nat.{◌^◌}
+use mathlib.Core.Path.{sym, ◌∙◌}
 use native.Mathlib.Omega.{arith}
-use Rattle.sheets.specs.working.SheetReading.{map_in}
-use Rattle.meaning.specs.working.Conditions.{test_b}
-use Rattle.evaluation.specs.working.CodeSystem.{breaks_in}
 use Rattle.evaluation.proofs.Powers.{pow_small}
 use Rattle.conditions.proofs.Loops.{b_none, b_other, b_keeps, b_fail, b_done}
 use Rattle.conditions.proofs.maps.holds_b.Goals as goal
@@ -33,9 +27,9 @@ returns-then-breaks c =
 
 pub states-preserved : goal.states-preserved
 states-preserved c = elim c.if-in_map.branch [
-    then-in_map+else-breaks w ↦ (omega arith, b_keeps _ _ _ c.states.invariant.1 (sym w.breaks.ensures ∙ w.if-breaks.false))
+  | then-in_map+else-breaks w ↦ (omega arith, b_keeps _ _ _ c.states.invariant.1 (sym w.breaks.ensures ∙ w.if-breaks.false))
   | else-in_map w ↦ (omega arith, b_other _ _ _ c.states.invariant.1 (sym c.in_map.ensures ∙ w.if-in_map.false))
-  ]
+]
 
 pub returns : goal.returns
 returns c =

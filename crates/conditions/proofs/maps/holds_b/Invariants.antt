@@ -1,15 +1,10 @@
 -- `holds_b` meets its contract: B has been found to hold of the states before s.
-use borrow.Author.Rules.{rules}
-use Prim.Native.Nat.{◌-◌, ◌^◌, ◌≤◌}
-use mathlib.Core.Path.{◌≡◌, sym, ◌∙◌}
+use Prim.Native.Nat.{◌-◌, ◌≤◌}
+use mathlib.Core.Path.{◌≡◌}
 use mathlib.Core.Bool.{true}
-use mathlib.Core.Logic.{⊎_elim}
-use native.Mathlib.Omega.{arith}
 use Rattle.sheets.specs.working.SheetReading.{map_in}
 use Rattle.meaning.specs.working.Conditions.{test_b}
 use Rattle.evaluation.specs.working.CodeSystem.{breaks_in}
-use Rattle.evaluation.proofs.Powers.{pow_small}
-use Rattle.conditions.proofs.Loops.{b_none, b_other, b_keeps, b_fail, b_done}
 use Rattle.conditions.proofs.maps.holds_b.Given as goal
 
 abbrev pub invariant-states : goal.invariant-states

@@ -1,14 +1,7 @@
 -- `holds_c` meets its contract: C has been found to hold of the states before s.
-use Prim.Native.Nat.{◌-◌, ◌^◌, ◌≤◌}
-use mathlib.Core.Path.{◌≡◌, sym, ◌∙◌}
-use mathlib.Core.Bool.{true}
-use mathlib.Core.Logic.{⊎_elim}
+use Prim.Native.Nat.{◌^◌}
+use mathlib.Core.Path.{sym, ◌∙◌}
 use native.Mathlib.Omega.{arith}
-use borrow.Author.Rules.{rules}
-use borrow.Author.Tests.{not-true, not-false}
-use Rattle.sheets.specs.working.SheetReading.{map_in}
-use Rattle.meaning.specs.working.Conditions.{test_c}
-use Rattle.evaluation.specs.working.CodeSystem.{next_in, stars_in}
 use Rattle.conditions.proofs.Loops.{c_none, c_other, c_closed, c_fail, c_done}
 use Rattle.conditions.proofs.maps.holds_c.Goals as goal
 use Rattle.conditions.proofs.maps.holds_c.Goals.{then-in_map+else-not-closed, else-in_map}
@@ -36,9 +29,9 @@ returns-then-not-closed c =
 
 pub states-preserved : goal.states-preserved
 states-preserved c = elim c.if-in_map.branch [
-    then-in_map+else-not-closed w ↦ (omega arith, c_closed _ _ _ _ _ c.states.invariant.1 (sym w.closed_at-closed.ensures ∙ w.if-not-closed.false))
+  | then-in_map+else-not-closed w ↦ (omega arith, c_closed _ _ _ _ _ c.states.invariant.1 (sym w.closed_at-closed.ensures ∙ w.if-not-closed.false))
   | else-in_map w ↦ (omega arith, c_other _ _ _ _ _ c.states.invariant.1 (sym c.in_map.ensures ∙ w.if-in_map.false))
-  ]
+]
 
 pub returns : goal.returns
 returns c =

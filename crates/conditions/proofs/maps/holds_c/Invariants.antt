@@ -1,15 +1,10 @@
 -- `holds_c` meets its contract: C has been found to hold of the states before s.
-use Prim.Native.Nat.{◌-◌, ◌^◌, ◌≤◌}
-use mathlib.Core.Path.{◌≡◌, sym, ◌∙◌}
+use Prim.Native.Nat.{◌-◌, ◌≤◌}
+use mathlib.Core.Path.{◌≡◌}
 use mathlib.Core.Bool.{true}
-use mathlib.Core.Logic.{⊎_elim}
-use native.Mathlib.Omega.{arith}
-use borrow.Author.Rules.{rules}
-use borrow.Author.Tests.{not-true, not-false}
 use Rattle.sheets.specs.working.SheetReading.{map_in}
 use Rattle.meaning.specs.working.Conditions.{test_c}
 use Rattle.evaluation.specs.working.CodeSystem.{next_in, stars_in}
-use Rattle.conditions.proofs.Loops.{c_none, c_other, c_closed, c_fail, c_done}
 use Rattle.conditions.proofs.maps.holds_c.Given as goal
 
 abbrev pub invariant-states : goal.invariant-states

@@ -2,7 +2,6 @@
 use mathlib.Core.Path.{sym, ◌∙◌}
 use borrow.Author.Tests.{not-true, not-false}
 use Rattle.conditions.proofs.TraceLaws.{fails_a_lem, fails_b_lem, fails_c_lem, void-told, safe-holds}
-use borrow.Author.Rules.{rules}
 use Rattle.conditions.proofs.maps.test_map.Goals as goal
 
 pub returns-then-not-begun : goal.returns-then-not-begun

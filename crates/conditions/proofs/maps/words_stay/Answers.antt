@@ -1,15 +1,11 @@
 -- `words_stay` meets its contract: the words before w lead to members, and the rows are ready for w.
-use Prim.Native.Nat.{◌-◌, ◌^◌, ◌≤◌}
+use Prim.Native.Nat.{◌^◌}
 use mathlib.Core.Path.{◌≡◌, refl, sym, ◌∙◌, ap}
-use mathlib.Core.Bool.{true}
 use native.Mathlib.Omega.{arith}
 use lib.Seq.{slice}
-use borrow.Author.Tests.{not-true, not-false}
-use Rattle.sheets.specs.working.SheetReading.{map_in}
-use Rattle.meaning.specs.working.Conditions.{every}
 use Rattle.meaning.specs.Evidence.{in_map}
 use Rattle.evaluation.specs.working.Batches.{after_of}
-use Rattle.evaluation.proofs.Batches.{Ready, ready-first, ready-next, picked}
+use Rattle.evaluation.proofs.Batches.{ready-first, ready-next, picked}
 use Rattle.evaluation.proofs.Powers.{pow_small}
 use Rattle.conditions.proofs.Loops.{member-room, every_none, every-next, every_fail, every-done}
 use Rattle.conditions.proofs.maps.words_stay.Goals as goal

@@ -1,14 +1,8 @@
 -- `test_trace` meets its contract: what is left of the trace has the outcome that all of it had.
-use borrow.Author.Rules.{rules}
-use Prim.Native.Nat.{ℕ, ◌+◌, ◌-◌, ◌*◌, ◌^◌, ◌≤◌, ◌<◌}
-use mathlib.Core.Path.{◌≡◌, refl, sym, ◌∙◌, subst}
+use Prim.Native.Nat.{ℕ, ◌+◌, ◌^◌, ◌≤◌, ◌<◌}
+use mathlib.Core.Path.{refl, sym, ◌∙◌, subst}
 use native.Mathlib.Omega.{arith}
 use lib.ListN.{length}
-use borrow.Author.Tests.{not-true, not-false}
-use Rattle.sheets.specs.working.FlatSystem.{system_in}
-use Rattle.conditions.specs.working.Judging.{walk}
-use Rattle.sheets.specs.working.SheetReading.{steps_in, step_count, StepsStand}
-use Rattle.evaluation.specs.working.CodeSystem.{stars_in}
 use Rattle.evaluation.proofs.Powers.{pow_small}
 use Rattle.sheets.proofs.SheetLaws.{record-parts}
 use Rattle.conditions.proofs.TraceLaws.{stand-room, stand-command, stand-after, stand-rest, fails_d_lem, goes}

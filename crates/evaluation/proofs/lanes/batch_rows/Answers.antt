@@ -1,7 +1,6 @@
 -- `batch_rows` meets its contract: the rows of the cells after the batch's words.
 use mathlib.Core.Path.{◌∙◌, ap}
 use lib.ListN.{length}
-use borrow.Author.Rules.{rules}
 use Rattle.evaluation.specs.working.Ends.{row_of, fills}
 use Rattle.evaluation.proofs.CodeRuns.{part}
 use Rattle.evaluation.proofs.Batches.{cells_right}

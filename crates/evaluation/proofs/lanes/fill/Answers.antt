@@ -1,7 +1,6 @@
 -- `fill` meets its contract: a word that begins a batch fills the rows, and any other leaves them.
 use Rattle.evaluation.proofs.Batches.{filled_new, filled-old, filled-first}
 use lib.Seq.{slice}
-use borrow.Author.Rules.{rules}
 use Rattle.evaluation.proofs.lanes.fill.Goals as goal
 
 pub returns-then-w-gt0 : goal.returns-then-w-gt0

@@ -1,13 +1,7 @@
 -- `row` meets its contract: the digits read from the top, moved up by the i left, with the lowest i digits, are the row; no field runs over.
-use Prim.Native.Nat.{◌+◌, ◌-◌, ◌≤◌, ◌<◌, ◌*◌, ◌^◌, ◌/◌}
-use mathlib.Core.Path.{◌≡◌, sym, ◌∙◌}
-use native.Mathlib.Omega.{arith}
-use borrow.Author.Rules.{rules}
-use lib.Bits.{bit_and}
-use lib.ListN.{get_or}
+use Prim.Native.Nat.{◌+◌, ◌-◌, ◌≤◌, ◌<◌, ◌*◌, ◌^◌}
+use mathlib.Core.Path.{◌≡◌}
 use Rattle.evaluation.specs.working.Ends.{row_of, fours}
-use Rattle.evaluation.proofs.LaneEnds.{sum_none, sum-next, sum_done}
-use Rattle.evaluation.proofs.LaneRows.{row_room, row_fits, row_more, row_first, row-bits}
 use Rattle.evaluation.proofs.lanes.row.Given as goal
 
 abbrev pub invariant-loop-i : goal.invariant-loop-i

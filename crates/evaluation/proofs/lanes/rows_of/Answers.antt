@@ -1,10 +1,8 @@
 -- `rows_of` meets its contract: the rows before r are filled.
-use Prim.Native.Nat.{◌-◌, ◌≤◌}
 use mathlib.Core.Path.{◌≡◌, ap, ◌∙◌}
 use native.Mathlib.Omega.{arith}
-use borrow.Author.Rules.{rules}
 use lib.ListN.{set}
-use Rattle.evaluation.specs.working.Ends.{fills, row_of}
+use Rattle.evaluation.specs.working.Ends.{row_of}
 use Rattle.evaluation.proofs.LaneEnds.{fills_none, fills-next}
 use Rattle.evaluation.proofs.lanes.rows_of.Goals as goal
 

@@ -1,11 +1,7 @@
 -- `rows_of` meets its contract: the rows before r are filled.
 use Prim.Native.Nat.{◌-◌, ◌≤◌}
-use mathlib.Core.Path.{◌≡◌, ap, ◌∙◌}
-use native.Mathlib.Omega.{arith}
-use borrow.Author.Rules.{rules}
-use lib.ListN.{set}
+use mathlib.Core.Path.{◌≡◌}
 use Rattle.evaluation.specs.working.Ends.{fills, row_of}
-use Rattle.evaluation.proofs.LaneEnds.{fills_none, fills-next}
 use Rattle.evaluation.proofs.lanes.rows_of.Given as goal
 
 abbrev pub invariant-loop-r : goal.invariant-loop-r

@@ -1,10 +1,7 @@
 -- `run` meets its contract: what is left to run from here gives what all of it gives from the beginning.
-use Prim.Native.Nat.{◌-◌, ◌≤◌}
-use mathlib.Core.Path.{◌≡◌, refl, sym, ◌∙◌, subst}
+use mathlib.Core.Path.{refl, sym, ◌∙◌, subst}
 use native.Mathlib.Omega.{arith}
-use lib.ListN.{length, get_or, drop}
-use borrow.Author.Rules.{rules}
-use Rattle.evaluation.specs.working.Cells.{run_cells}
+use lib.ListN.{get_or}
 use Rattle.evaluation.proofs.CellRuns.{turn, done, In, tops_in}
 use Rattle.evaluation.proofs.lanes.run.Goals as goal
 

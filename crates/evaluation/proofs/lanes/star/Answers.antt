@@ -1,7 +1,6 @@
 -- `star` meets its contract: below six it is a pattern, and from there a bit of the batch in every lane.
 use Prim.Native.Nat.{ℕ, ◌-◌, ◌<◌}
 use native.Mathlib.Omega.{arith}
-use borrow.Author.Rules.{rules}
 use borrow.Author.Tests.{ne_eqb}
 use Rattle.evaluation.specs.working.Cells.{star_of}
 use Rattle.evaluation.proofs.lanes.star.Goals as goal

@@ -1,9 +1,7 @@
 -- `start` meets its contract: the cells before i are filled.
-use Prim.Native.Nat.{◌-◌, ◌≤◌, ◌*◌}
+use Prim.Native.Nat.{◌*◌}
 use mathlib.Core.Path.{◌≡◌}
 use native.Mathlib.Omega.{arith}
-use borrow.Author.Rules.{rules}
-use Rattle.evaluation.specs.working.Ends.{fills}
 use Rattle.evaluation.proofs.LaneEnds.{fills_none, fills-next}
 use Rattle.meaning.specs.working.Digits.{digit}
 use Rattle.evaluation.specs.working.Cells.{ones}

@@ -1,5 +1,4 @@
 -- `step` meets its contract: each arm is the line of `cells_kind` and of `tops_kind` for its kind.
-use borrow.Author.Rules.{rules}
 use Prim.Native.Nat.{◌/◌, ◌%◌}
 use mathlib.Core.Path.{sym}
 use Rattle.evaluation.specs.working.Cells.{cells_kind, tops_kind}

@@ -1,5 +1,4 @@
 -- `node` meets its contract: each arm is the line of `node_kind` for its kind.
-use borrow.Author.Rules.{rules}
 use borrow.Author.Tests.{ne_eqb}
 use Rattle.evaluation.specs.working.CodeMachine.{node_kind}
 use Rattle.evaluation.proofs.machine.node.Goals as goal

@@ -4,7 +4,6 @@ use mathlib.Core.Path.{◌≡◌}
 use native.Mathlib.Omega.{arith}
 use native.Mathlib.Nat.{mod-eq_of_lt, one-mul}
 use lib.Pow.{pow-lt, pow_pos, shr_le}
-use borrow.Author.Rules.{rules}
 use Rattle.meaning.specs.working.Digits.{put}
 use Rattle.meaning.proofs.PutBits.{put_lt}
 use Rattle.evaluation.proofs.machine.put_bit.Goals as goal

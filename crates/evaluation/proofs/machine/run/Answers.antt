@@ -1,11 +1,7 @@
 -- `run` meets its contract: what is left to run from here gives what all of it gives from the beginning.
-use Prim.Native.Nat.{◌-◌, ◌≤◌}
-use mathlib.Core.Path.{◌≡◌, refl, sym, ap, ◌∙◌}
+use mathlib.Core.Path.{refl, sym, ap, ◌∙◌}
 use native.Mathlib.Omega.{arith}
-use lib.ListN.{length, drop}
-use borrow.Author.Rules.{rules}
 use Rattle.evaluation.specs.declared.machine.Machine.{Machine}
-use Rattle.evaluation.specs.working.CodeMachine.{run_of}
 use Rattle.evaluation.proofs.CodeRuns.{turn, done}
 use Rattle.evaluation.proofs.machine.run.Goals as goal
 

@@ -1,12 +1,8 @@
 -- `run` meets its contract: what is left to run from here gives what all of it gives from the beginning.
 use Prim.Native.Nat.{◌-◌, ◌≤◌}
-use mathlib.Core.Path.{◌≡◌, refl, sym, ap, ◌∙◌}
-use native.Mathlib.Omega.{arith}
+use mathlib.Core.Path.{◌≡◌}
 use lib.ListN.{length, drop}
-use borrow.Author.Rules.{rules}
-use Rattle.evaluation.specs.declared.machine.Machine.{Machine}
 use Rattle.evaluation.specs.working.CodeMachine.{run_of}
-use Rattle.evaluation.proofs.CodeRuns.{turn, done}
 use Rattle.evaluation.proofs.machine.run.Given as goal
 
 abbrev pub invariant-passes : goal.invariant-passes

@@ -1,5 +1,4 @@
 -- `step` meets its contract: each arm is the line of `kind_of` for its kind, and the last is a node.
-use borrow.Author.Rules.{rules}
 use borrow.Author.Tests.{ne_eqb}
 use Rattle.evaluation.specs.working.CodeMachine.{kind_of}
 use Rattle.evaluation.proofs.machine.step.Goals as goal

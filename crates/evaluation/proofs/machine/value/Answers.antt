@@ -1,10 +1,7 @@
 -- `value` meets its contract: the nodes that are left give from here what all of them give from the beginning.
-use Prim.Native.Nat.{◌-◌, ◌%◌, ◌≤◌}
-use mathlib.Core.Path.{◌≡◌, refl, sym, ap, ◌∙◌}
+use Prim.Native.Nat.{◌%◌}
+use mathlib.Core.Path.{refl, sym, ap, ◌∙◌}
 use native.Mathlib.Omega.{arith}
-use lib.ListN.{length, drop}
-use borrow.Author.Rules.{rules}
-use Rattle.evaluation.specs.working.CodeMachine.{values_of}
 use Rattle.evaluation.proofs.CodeRuns.{node_turn, node_done}
 use Rattle.evaluation.proofs.machine.value.Goals as goal
 

@@ -1,11 +1,8 @@
 -- `value` meets its contract: the nodes that are left give from here what all of them give from the beginning.
-use Prim.Native.Nat.{◌-◌, ◌%◌, ◌≤◌}
-use mathlib.Core.Path.{◌≡◌, refl, sym, ap, ◌∙◌}
-use native.Mathlib.Omega.{arith}
+use Prim.Native.Nat.{◌-◌, ◌≤◌}
+use mathlib.Core.Path.{◌≡◌}
 use lib.ListN.{length, drop}
-use borrow.Author.Rules.{rules}
 use Rattle.evaluation.specs.working.CodeMachine.{values_of}
-use Rattle.evaluation.proofs.CodeRuns.{node_turn, node_done}
 use Rattle.evaluation.proofs.machine.value.Given as goal
 
 abbrev pub invariant-passes : goal.invariant-passes

@@ -2,7 +2,6 @@
 use mathlib.Core.Bool.{not}
 use mathlib.Core.Path.{ap}
 use Rattle.evaluation.specs.working.CodeSystem.{breaks_in}
-use borrow.Author.Rules.{rules}
 use Rattle.evaluation.proofs.one_row.breaks.Goals as goal
 
 pub returns : goal.returns

@@ -1,7 +1,5 @@
 -- `clause_holds` meets its contract: the expressions of the segments i and i + 1, the second only where the first holds.
 use mathlib.Core.Path.{sym, ◌∙◌}
-use borrow.Author.Rules.{rules}
-use borrow.Author.Tests.{not-true, not-false}
 use Rattle.evaluation.proofs.OneRowCode.{clause_fails, clause-goes}
 use Rattle.evaluation.proofs.one_row.clause_holds.Goals as goal
 

@@ -1,5 +1,4 @@
 -- `holds` meets its contract: the value of its segment is 1.
-use borrow.Author.Rules.{rules}
 use Rattle.evaluation.proofs.OneRowCode.{holds-told}
 use Rattle.evaluation.proofs.one_row.holds.Goals as goal
 

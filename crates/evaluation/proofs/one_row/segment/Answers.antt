@@ -1,6 +1,5 @@
 -- `segment` meets its contract: the first segment begins at 0, each other one where the one before it ends.
 use Rattle.evaluation.proofs.OneRowCode.{first_bounds, later_bounds}
-use borrow.Author.Rules.{rules}
 use Rattle.evaluation.proofs.one_row.segment.Goals as goal
 
 pub returns-then-i-eq0 : goal.returns-then-i-eq0

@@ -1,6 +1,5 @@
 -- `starts` meets its contract: it is the clause of the first two segments.
 use Rattle.evaluation.specs.working.CodeSystem.{starts_in}
-use borrow.Author.Rules.{rules}
 use Rattle.evaluation.proofs.one_row.starts.Goals as goal
 
 pub returns : goal.returns

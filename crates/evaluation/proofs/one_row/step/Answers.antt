@@ -1,7 +1,6 @@
 -- `step` meets its contract: the state after the command's segment, cut to its names' bits.
 use native.Mathlib.Omega.{arith}
 use lib.Pow.{pow_pos}
-use borrow.Author.Rules.{rules}
 use Rattle.evaluation.proofs.OneRowCode.{step-taken}
 use Rattle.evaluation.proofs.one_row.step.Goals as goal
 

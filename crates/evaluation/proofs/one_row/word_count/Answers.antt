@@ -1,7 +1,6 @@
 -- `word_count` meets its contract: a power of the star count, which is at most 8.
 use native.Mathlib.Omega.{arith}
 use Rattle.evaluation.proofs.OneRowCode.{words-few}
-use borrow.Author.Rules.{rules}
 use Rattle.evaluation.proofs.one_row.word_count.Goals as goal
 
 pub bounds-plan-k : goal.bounds-plan-k

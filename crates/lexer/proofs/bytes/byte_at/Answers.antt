@@ -1,7 +1,6 @@
 -- Past the end a text has only zeros, by definition.
 use mathlib.Core.Path.{sym}
 use lib.ListN.{get_or-eq_default}
-use borrow.Author.Rules.{rules}
 use Rattle.lexer.proofs.bytes.byte_at.Goals as goal
 
 pub returns : goal.returns

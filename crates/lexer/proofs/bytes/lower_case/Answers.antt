@@ -1,7 +1,6 @@
 -- A letter of upper case has its fellow 32 further on.
 use mathlib.Core.Path.{sym, ◌∙◌}
 use native.Mathlib.Omega.{arith}
-use borrow.Author.Rules.{rules}
 use Rattle.lexer.proofs.Spelling.{upper_le, lower-upper, lower-stays}
 use Rattle.lexer.proofs.bytes.lower_case.Goals as goal
 

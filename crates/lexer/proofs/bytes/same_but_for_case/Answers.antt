@@ -1,6 +1,5 @@
 -- Equal bytes are one in lower case, and others are compared there.
 use mathlib.Core.Path.{ap, sym}
-use borrow.Author.Rules.{rules}
 use borrow.Author.Tests.{eq-eqb}
 use Rattle.notation.specs.Bytes.{lower_case}
 use Rattle.lexer.proofs.bytes.same_but_for_case.Goals as goal

@@ -1,5 +1,4 @@
 -- The comparisons cut the bytes into three ranges, of which the small letters have their fellows 32 before them.
-use borrow.Author.Rules.{rules}
 use Rattle.lexer.proofs.Spelling.{upper-below, upper-small, upper_above}
 use Rattle.lexer.proofs.bytes.upper_case.Goals as goal
 

@@ -1,10 +1,7 @@
 -- The first name from i on is the first of all, since the piece is none of those before i.
-use mathlib.Core.Path.{◌≡◌, refl, sym, ◌∙◌}
-use Prim.Native.Nat.{◌≤◌, ◌-◌}
+use mathlib.Core.Path.{refl, sym, ◌∙◌}
 use native.Mathlib.Omega.{arith}
-use lib.Seq.{slice}
-use Rattle.notation.specs.Bytes.{in_lower_case}
-use Rattle.lexer.proofs.Lookup.{found_from, found_here, found_later, found_none}
+use Rattle.lexer.proofs.Lookup.{found_here, found_later, found_none}
 use Rattle.lexer.proofs.names.find_name.Goals as goal
 
 pub overflow_sub-last : goal.overflow_sub-last

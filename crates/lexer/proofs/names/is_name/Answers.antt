@@ -1,7 +1,6 @@
 -- Words of other lengths differ, and so do those whose last bytes differ; one of the same length that ends alike is a window of the text.
 use mathlib.Core.Path.{sym, ◌∙◌}
 use native.Mathlib.Omega.{arith}
-use borrow.Author.Rules.{rules}
 use Rattle.lexer.proofs.Lookup.{other_name, this_name, ending-no, ending-inside}
 use Rattle.lexer.proofs.names.is_name.Goals as goal
 

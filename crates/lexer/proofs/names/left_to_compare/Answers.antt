@@ -1,6 +1,5 @@
 -- Two times eight bytes are the same exactly if they are one number.
 use mathlib.Core.Path.{sym, ◌∙◌}
-use borrow.Author.Rules.{rules}
 use borrow.Author.Tests.{lt-ltb, le-ltb, eq-eqb, ne_eqb}
 use Rattle.lexer.specs.working.Names.{left_to_compare}
 use Rattle.lexer.proofs.Lookup.{packs_same}

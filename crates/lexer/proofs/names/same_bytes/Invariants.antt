@@ -1,10 +1,7 @@
 -- The first k bytes are the same but for case exactly if all are, since those behind them are.
-use mathlib.Core.Path.{◌≡◌, refl, sym, ap, ◌∙◌}
+use mathlib.Core.Path.{◌≡◌}
 use Prim.Native.Nat.{◌≤◌}
-use native.Mathlib.Omega.{arith}
-use borrow.Author.Tests.{not-true, not-false}
 use Rattle.lexer.specs.working.Names.{same_first}
-use Rattle.lexer.proofs.Lookup.{last-no, last_more, none_left, left_le, left_same}
 use Rattle.lexer.proofs.names.same_bytes.Given as goal
 
 abbrev pub invariant-loop-k : goal.invariant-loop-k

@@ -1,7 +1,6 @@
 -- Each answer is the token that the definition gives a byte that passed the tests so far.
 use mathlib.Core.Path.{◌≡◌, sym, ◌∙◌}
 use mathlib.Core.Bool.{false}
-use borrow.Author.Rules.{rules}
 use borrow.Author.Tests.{eq-eqb, ne_eqb}
 use Rattle.notation.specs.Bytes.{letter}
 use Rattle.lexer.specs.working.Pieces.{byte_piece}

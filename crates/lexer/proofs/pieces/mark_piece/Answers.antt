@@ -1,5 +1,4 @@
 -- Each arm makes the piece that the definition gives for its byte.
-use borrow.Author.Rules.{rules}
 use borrow.Author.Tests.{eq-eqb, ne_eqb}
 use Rattle.lexer.specs.working.Pieces.{mark_piece}
 use Rattle.lexer.proofs.pieces.mark_piece.Goals as goal

@@ -1,6 +1,5 @@
 -- At the first place that holds no blank stands a word or a mark, and its piece is the next.
 use mathlib.Core.Path.{sym, ◌∙◌}
-use borrow.Author.Rules.{rules}
 use Rattle.lexer.proofs.Runs.{word-run, run-grows}
 use Rattle.lexer.proofs.Lexing.{at-end, at-word, at_mark}
 use Rattle.lexer.proofs.pieces.piece_at.Goals as goal

@@ -1,10 +1,5 @@
 -- The invariant: the blanks from i on end where those from `at` on do.
-use mathlib.Core.Path.{◌≡◌, refl, sym, ◌∙◌}
-use Prim.Native.Nat.{◌+◌, ◌-◌}
-use native.Mathlib.Omega.{arith}
-use lib.ListN.{length, drop}
-use borrow.Author.Tests.{not-true, not-false}
-use Rattle.lexer.specs.working.Pieces.{blanks}
+use mathlib.Core.Path.{refl, sym, ◌∙◌}
 use Rattle.lexer.proofs.Runs.{blank-run, run_more, run-here, run_end}
 use Rattle.lexer.proofs.pieces.skip_blanks.Goals as goal
 

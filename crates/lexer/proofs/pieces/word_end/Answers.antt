@@ -1,10 +1,6 @@
 -- The invariant: the run from i on ends where the run from `from` on does.
-use mathlib.Core.Path.{◌≡◌, refl, sym, ◌∙◌}
-use Prim.Native.Nat.{◌+◌, ◌-◌, ◌≤◌}
+use mathlib.Core.Path.{refl, sym, ◌∙◌}
 use native.Mathlib.Omega.{arith}
-use lib.ListN.{length, drop}
-use borrow.Author.Tests.{not-true, not-false}
-use Rattle.notation.specs.working.Lexing.{span}
 use Rattle.lexer.proofs.Runs.{word-run, run_more, run-here, run_end}
 use Rattle.lexer.proofs.pieces.word_end.Goals as goal
 

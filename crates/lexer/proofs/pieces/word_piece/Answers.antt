@@ -3,8 +3,7 @@ use mathlib.Core.Path.{◌≡◌, sym, ◌∙◌}
 use mathlib.Core.Bool.{cond}
 use lib.ListN.{get_or}
 use lib.Seq.{slice}
-use borrow.Author.Rules.{rules}
-use borrow.Author.Tests.{lt-ltb, le-ltb, not-true, not-false}
+use borrow.Author.Tests.{lt-ltb, le-ltb}
 use Rattle.notation.specs.Bytes.{letter}
 use Rattle.notation.specs.Tokens.{OTHER}
 use Rattle.lexer.specs.working.Pieces.{NAME, other_case, piece_of, numbered_piece, word_piece}

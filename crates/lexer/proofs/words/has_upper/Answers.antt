@@ -1,9 +1,6 @@
 -- The invariant: there is one in the word exactly if there is one from i on.
-use mathlib.Core.Path.{◌≡◌, refl, sym, ◌∙◌}
-use Prim.Native.Nat.{◌-◌, ◌≤◌}
+use mathlib.Core.Path.{refl, sym, ◌∙◌}
 use native.Mathlib.Omega.{arith}
-use lib.Seq.{slice}
-use Rattle.lexer.specs.working.Pieces.{has_upper}
 use Rattle.lexer.proofs.Spelling.{upper-here, upper_later, upper_none}
 use Rattle.lexer.proofs.words.has_upper.Goals as goal
 

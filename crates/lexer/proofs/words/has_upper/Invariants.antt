@@ -1,10 +1,8 @@
 -- The invariant: there is one in the word exactly if there is one from i on.
-use mathlib.Core.Path.{◌≡◌, refl, sym, ◌∙◌}
+use mathlib.Core.Path.{◌≡◌}
 use Prim.Native.Nat.{◌-◌, ◌≤◌}
-use native.Mathlib.Omega.{arith}
 use lib.Seq.{slice}
 use Rattle.lexer.specs.working.Pieces.{has_upper}
-use Rattle.lexer.proofs.Spelling.{upper-here, upper_later, upper_none}
 use Rattle.lexer.proofs.words.has_upper.Given as goal
 
 abbrev pub invariant-loop-i : goal.invariant-loop-i

@@ -1,13 +1,11 @@
 -- The invariant: the number is among all of them exactly if it is among those from k on.
-use mathlib.Core.Path.{◌≡◌, refl, sym, ap, ◌∙◌}
-use mathlib.Core.List.{List, map}
-use Prim.Native.Nat.{ℕ, ◌-◌, ◌≤◌}
-use native.Mathlib.Omega.{arith}
-use lib.ListN.{length, get_or, drop, length-map}
+use mathlib.Core.Path.{◌≡◌}
+use mathlib.Core.List.{map}
+use Prim.Native.Nat.{◌-◌, ◌≤◌}
+use lib.ListN.{drop}
 use Rattle.notation.specs.Tokens.{reserved}
 use Rattle.notation.specs.Rules.{elem}
 use Rattle.lexer.specs.working.Pieces.{WORDS, number_of}
-use Rattle.lexer.proofs.Spelling.{fifteen, elem-here, elem_later, elem_none}
 use Rattle.lexer.proofs.words.is_number.Given as goal
 
 abbrev pub invariant-loop-k : goal.invariant-loop-k

@@ -1,7 +1,6 @@
 -- The lengths are those of the reserved words, of which the longest has seven letters.
-use mathlib.Core.Path.{◌≡◌, subst⁻¹}
+use mathlib.Core.Path.{subst⁻¹}
 use Prim.Native.Nat.{ℕ, ◌≤◌}
-use borrow.Author.Rules.{rules}
 use Rattle.lexer.proofs.Spelling.{seven}
 use Rattle.lexer.proofs.words.length_of.Goals as goal
 

@@ -1,5 +1,4 @@
 -- The letters are the rows of the reserved words.
-use borrow.Author.Rules.{rules}
 use Rattle.lexer.proofs.words.letter_of.Goals as goal
 
 pub returns : goal.returns

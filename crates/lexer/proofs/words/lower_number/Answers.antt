@@ -1,9 +1,7 @@
 -- The invariant: w is the number of the word from i on, in lower case.
-use Prim.Native.Nat.{◌-◌, ◌≤◌, ◌<◌}
+use Prim.Native.Nat.{◌-◌, ◌<◌}
 use mathlib.Core.Path.{◌∙◌}
 use native.Mathlib.Omega.{arith}
-use lib.Seq.{slice}
-use Rattle.lexer.specs.working.Pieces.{LowerNumber}
 use Rattle.lexer.proofs.Spelling.{number_none, number_more, number-done, number_fits}
 use Rattle.lexer.proofs.words.lower_number.Goals as goal
 use Rattle.lexer.proofs.words.lower_number.Goals.{In-loop-i}

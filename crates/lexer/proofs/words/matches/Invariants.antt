@@ -1,12 +1,10 @@
 -- The invariant: the words have the length n, and what is left of them from place j on decides.
-use mathlib.Core.Path.{◌≡◌, refl, sym, ◌∙◌}
 use mathlib.Core.List.{[]}
-use Prim.Native.Nat.{◌+◌, ◌-◌}
-use native.Mathlib.Omega.{arith}
+use Prim.Native.Nat.{◌-◌}
 use lib.ListN.{get_or}
-use lib.Seq.{slice, length-slice}
+use lib.Seq.{slice}
 use Rattle.notation.specs.Tokens.{reserved}
-use Rattle.lexer.proofs.Spelling.{lengths_differ, in_slice, Same, same-no, same_more, same_end}
+use Rattle.lexer.proofs.Spelling.{Same}
 use Rattle.lexer.proofs.words.matches.Given as goal
 
 abbrev pub invariant-loop-j : goal.invariant-loop-j

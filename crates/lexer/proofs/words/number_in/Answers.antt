@@ -1,10 +1,6 @@
 -- The invariant: the word's number among all the reserved words is its number among those from k on.
-use mathlib.Core.Path.{◌≡◌, refl, sym, ◌∙◌}
-use Prim.Native.Nat.{◌-◌, ◌≤◌}
+use mathlib.Core.Path.{refl, sym, ◌∙◌}
 use native.Mathlib.Omega.{arith}
-use lib.ListN.{drop}
-use lib.Seq.{slice}
-use Rattle.notation.specs.Tokens.{reserved, word_in}
 use Rattle.lexer.proofs.Spelling.{look_hit, look_on, look_none}
 use Rattle.lexer.proofs.words.number_in.Goals as goal
 

@@ -1,11 +1,9 @@
 -- The invariant: the word's number among all the reserved words is its number among those from k on.
-use mathlib.Core.Path.{◌≡◌, refl, sym, ◌∙◌}
+use mathlib.Core.Path.{◌≡◌}
 use Prim.Native.Nat.{◌-◌, ◌≤◌}
-use native.Mathlib.Omega.{arith}
 use lib.ListN.{drop}
 use lib.Seq.{slice}
 use Rattle.notation.specs.Tokens.{reserved, word_in}
-use Rattle.lexer.proofs.Spelling.{look_hit, look_on, look_none}
 use Rattle.lexer.proofs.words.number_in.Given as goal
 
 abbrev pub invariant-loop-k : goal.invariant-loop-k

@@ -1,7 +1,6 @@
 -- A word that is longer than seven letters is none; any other is looked up in the tables.
-use mathlib.Core.Path.{sym, subst⁻¹}
+use mathlib.Core.Path.{subst⁻¹}
 use Prim.Native.Nat.{ℕ, ◌<◌}
-use borrow.Author.Rules.{rules}
 use lib.Seq.{length-slice}
 use Rattle.notation.specs.Bytes.{bytes}
 use Rattle.notation.specs.Tokens.{reserved}

@@ -1,9 +1,6 @@
 -- A word that is longer than seven letters, or that has no letter of upper case, is none; the number of any other is looked for among those of the reserved words.
 use mathlib.Core.Path.{refl, sym, ◌∙◌, subst⁻¹}
 use Prim.Native.Nat.{ℕ, ◌<◌}
-use native.Mathlib.Omega.{arith}
-use borrow.Author.Rules.{rules}
-use borrow.Author.Tests.{not-true, not-false}
 use lib.Seq.{length-slice}
 use Rattle.notation.specs.Bytes.{bytes}
 use Rattle.notation.specs.Tokens.{reserved}

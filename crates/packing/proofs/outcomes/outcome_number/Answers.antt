@@ -6,7 +6,6 @@ use Rattle.conditions.specs.declared.outcome.Outcome.TheVariants.{FailsD, FailsE
 use Rattle.conditions.specs.Outcomes.{wording_of}
 use Rattle.packing.specs.Outcomes.{test_number}
 use Rattle.packing.proofs.OutcomesTold.{place-fits, number_of}
-use borrow.Author.Rules.{rules}
 use Rattle.packing.proofs.outcomes.outcome_number.Goals as goal
 
 pub pack-requires-in-Refused : goal.pack-requires-in-Refused

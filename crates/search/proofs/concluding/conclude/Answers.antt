@@ -2,7 +2,6 @@
 use native.Mathlib.Omega.{arith}
 use Rattle.search.proofs.SearchesLeft.{header-asked, head-asked, map-asked, length-small, second-room, count-few}
 use Rattle.search.proofs.SearchesLeft.{last_within, trace-asked, unsafe_left, void_left, safe_left}
-use borrow.Author.Rules.{rules}
 use Rattle.search.proofs.concluding.conclude.Goals as goal
 
 pub put_header-requires : goal.put_header-requires

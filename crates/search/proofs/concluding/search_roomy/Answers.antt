@@ -2,7 +2,6 @@
 use Rattle.exploration.proofs.CodeSteps.{code_lawful}
 use Rattle.exploration.proofs.Whole.{ran_closing}
 use Rattle.search.proofs.SearchesLeft.{run_left}
-use borrow.Author.Rules.{rules}
 use Rattle.search.proofs.concluding.search_roomy.Goals as goal
 
 pub conclude-requires : goal.conclude-requires

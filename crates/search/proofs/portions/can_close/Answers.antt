@@ -7,7 +7,6 @@ use Rattle.evaluation.proofs.Powers.{pow_small}
 use Rattle.exploration.specs.working.CodeTransitions.{transitions_in}
 use Rattle.exploration.proofs.Laws.{count_le}
 use Rattle.search.proofs.PausesHeld.{close_through, close_nothing, close_recorded}
-use borrow.Author.Rules.{rules}
 use Rattle.search.proofs.portions.can_close.Goals as goal
 
 pub returns-then-not-reach : goal.returns-then-not-reach

@@ -4,7 +4,6 @@ use Rattle.sheets.specs.working.FlatSystem.{system_in}
 use Rattle.pauses.specs.working.Pausing.{finish_in, finish_for}
 use Rattle.search.specs.working.Pausing.{pause_in}
 use Rattle.search.proofs.SearchesLeft.{first_short_lem, second_short_lem, sheet-short, room_for}
-use borrow.Author.Rules.{rules}
 use Rattle.search.proofs.portions.finish_code.Goals as goal
 
 pub returns-then-first-states : goal.returns-then-first-states

@@ -2,13 +2,11 @@
 use Prim.Native.Nat.{ℕ}
 use mathlib.Core.Path.{◌≡◌, sym, ◌∙◌, subst}
 use native.Mathlib.Omega.{arith}
-use borrow.Author.Tests.{not-true, not-false}
 use Rattle.exploration.specs.working.CodeTransitions.{transitions_in}
 use Rattle.exploration.specs.working.Pauses.{intact}
 use Rattle.exploration.proofs.Portions.{judged}
 use Rattle.search.specs.working.Pausing.{pause_in}
 use Rattle.search.proofs.PausesHeld.{finish-anew, finish_unclosed, finish-closed, can_close_lem}
-use borrow.Author.Rules.{rules}
 use Rattle.search.proofs.portions.finish_roomy.Goals as goal
 use Rattle.search.proofs.portions.finish_roomy.Goals.{After-can_go_on}
 

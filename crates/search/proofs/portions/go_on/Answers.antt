@@ -6,7 +6,6 @@ use Rattle.evaluation.proofs.Powers.{pow_small}
 use Rattle.exploration.proofs.CodeSteps.{moves-few}
 use Rattle.exploration.proofs.Portions.{gone_nowhere, gone_further}
 use Rattle.exploration.proofs.Pauses.{explored_within, explored_few}
-use borrow.Author.Rules.{rules}
 use Rattle.search.proofs.portions.go_on.Goals as goal
 
 pub returns-then-reach : goal.returns-then-reach

@@ -2,7 +2,6 @@
 use native.Mathlib.Omega.{arith}
 use Rattle.sheets.specs.working.FlatSystem.{system_in}
 use Rattle.search.proofs.PausesHeld.{first_missing, second_missing, both_there, unasked, no-state, not-met, is-met}
-use borrow.Author.Rules.{rules}
 use Rattle.search.proofs.portions.met_code.Goals as goal
 
 pub returns-then-first-states : goal.returns-then-first-states

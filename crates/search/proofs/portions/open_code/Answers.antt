@@ -3,7 +3,6 @@ use Rattle.sheets.specs.working.FlatSystem.{system_in}
 use Rattle.pauses.specs.working.Pausing.{open_for}
 use Rattle.search.specs.Answers.{wording_of}
 use Rattle.search.proofs.PausesHeld.{first_missing, second_missing, both_there, told-refused, told_due, open_held}
-use borrow.Author.Rules.{rules}
 use Rattle.search.proofs.portions.open_code.Goals as goal
 
 pub returns-then-first-states : goal.returns-then-first-states

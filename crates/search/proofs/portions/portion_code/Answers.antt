@@ -1,6 +1,5 @@
 -- `portion_code` meets its contract: the call is refused where a table has no room, and goes on from what is judged to be intact.
 use mathlib.Core.Path.{◌≡◌, sym, ◌∙◌, subst}
-use borrow.Author.Tests.{not-true, not-false}
 use Prim.Native.Nat.{ℕ}
 use native.Mathlib.Omega.{arith}
 use Rattle.sheets.specs.working.FlatSystem.{system_in}
@@ -11,7 +10,6 @@ use Rattle.pauses.specs.working.Pausing.{portion_for}
 use Rattle.search.specs.Answers.{wording_of}
 use Rattle.search.specs.working.Pausing.{pause_in}
 use Rattle.search.proofs.PausesHeld.{first_missing, second_missing, both_there, told-refused, told_due, portion_held, portion_lost}
-use borrow.Author.Rules.{rules}
 use Rattle.search.proofs.portions.portion_code.Goals as goal
 use Rattle.search.proofs.portions.portion_code.Goals.{After-can_go_on}
 

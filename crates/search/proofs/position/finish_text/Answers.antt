@@ -4,7 +4,6 @@ use Rattle.acceptance.proofs.TestTexts.{read_sound}
 use Rattle.pauses.specs.working.Pausing.{finish_of, finish_for}
 use Rattle.search.specs.working.Pausing.{pause_in}
 use Rattle.search.proofs.PausesHeld.{left_read, left_refused}
-use borrow.Author.Rules.{rules}
 use Rattle.search.proofs.position.finish_text.Goals as goal
 
 pub read_plan-told-requires : goal.read_plan-told-requires

@@ -2,7 +2,6 @@
 use mathlib.Core.Path.{refl, sym}
 use Rattle.acceptance.proofs.TestTexts.{read_sound}
 use Rattle.search.proofs.PausesHeld.{met-read, met-refused}
-use borrow.Author.Rules.{rules}
 use Rattle.search.proofs.position.met.Goals as goal
 
 pub read_plan-told-requires : goal.read_plan-told-requires

@@ -4,7 +4,6 @@ use Rattle.acceptance.proofs.TestTexts.{read_sound}
 use Rattle.pauses.specs.working.Pausing.{open_of, open_for, flat_of}
 use Rattle.search.specs.Answers.{wording_of}
 use Rattle.search.proofs.PausesHeld.{held_read, held_refused}
-use borrow.Author.Rules.{rules}
 use Rattle.search.proofs.position.open.Goals as goal
 
 pub read_plan-told-requires : goal.read_plan-told-requires
@@ -18,10 +17,10 @@ pub returns-in-Refused : goal.returns-in-Refused
 unfolding open_of wording_of
 returns-in-Refused c =
     let told = held_refused _ c.read_plan-told.ensures _ _ (sym c.in-Refused.is) (open_for (flat_of c.args.text.now)) c.args.first.now c.args.second.now in
-    record { result_value = told.0; left = told.1; }
+    record { result_value = told.0; left = told.1 }
 
 pub returns-in-Read : goal.returns-in-Read
 unfolding open_of
 returns-in-Read c =
     let told = held_read _ c.read_plan-told.ensures (sym c.in-Read.is) open_for _ _ c.open_code.ensures in
-    record { result_value = told.0; left = told.1; }
+    record { result_value = told.0; left = told.1 }

@@ -1,7 +1,6 @@
 -- `bytes_known` meets its contract: what a read tells of one element it tells of each, and where there is none, of 0.
 use native.Mathlib.Omega.{arith}
 use lib.ListN.{get_or-eq_default}
-use borrow.Author.Rules.{rules}
 use Rattle.sheets.proofs.fields.bytes_known.Goals as goal
 
 pub returns-then-b-eq0 : goal.returns-then-b-eq0

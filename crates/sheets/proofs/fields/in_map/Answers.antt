@@ -1,6 +1,5 @@
 -- `in_map` meets its contract: it reads the map's bit.
 use Rattle.sheets.proofs.MapBits.{bit_in_lem}
-use borrow.Author.Rules.{rules}
 use Rattle.sheets.proofs.fields.in_map.Goals as goal
 
 pub returns : goal.returns

@@ -2,7 +2,6 @@
 use mathlib.Core.Path.{refl}
 use native.Mathlib.Omega.{arith}
 use Rattle.sheets.specs.working.SheetReading.{step_count}
-use borrow.Author.Rules.{rules}
 use Rattle.sheets.proofs.fields.step_count.Goals as goal
 
 pub returns : goal.returns

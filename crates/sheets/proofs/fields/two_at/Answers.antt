@@ -1,7 +1,6 @@
 -- `two_at` meets its contract: the sum of the two bytes is the definition, and it cannot overflow.
 use Rattle.sheets.specs.SheetTexts.{two_at}
 use native.Mathlib.Omega.{arith}
-use borrow.Author.Rules.{rules}
 use Rattle.sheets.proofs.fields.two_at.Goals as goal
 
 pub returns : goal.returns

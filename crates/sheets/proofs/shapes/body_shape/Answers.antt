@@ -3,7 +3,6 @@ use mathlib.Core.Path.{sym, ◌∙◌}
 use native.Mathlib.Omega.{arith}
 use Rattle.sheets.proofs.SheetLaws.{record-parts, map-length_pos, map-length_le, body_map, body-trace}
 use Rattle.sheets.proofs.SheetLaws.{body_none}
-use borrow.Author.Rules.{rules}
 use Rattle.sheets.proofs.shapes.body_shape.Goals as goal
 
 pub is_record-map-requires : goal.is_record-map-requires

@@ -3,7 +3,6 @@ use Rattle.sheets.proofs.SheetLaws.{same_test, four_is, record-parts, record-las
 use mathlib.Core.Bool.{not-eq-not}
 use native.Mathlib.Omega.{arith}
 use mathlib.Core.Path.{sym, ◌∙◌}
-use borrow.Author.Rules.{rules}
 use Rattle.sheets.proofs.shapes.is_record.Goals as goal
 
 pub returns-then-b-p : goal.returns-then-b-p

@@ -1,9 +1,7 @@
 -- `map_shape` meets its contract: its two refusals are the two demands on a map.
 use Rattle.sheets.proofs.SheetLaws.{map_longer, map_whole, shape_no}
-use borrow.Author.Tests.{not-true, not-false}
 use Rattle.sheets.specs.working.SheetReading.{map_at}
 use mathlib.Core.Path.{sym, ◌∙◌}
-use borrow.Author.Rules.{rules}
 use Rattle.sheets.proofs.shapes.map_shape.Goals as goal
 
 pub returns-then-not-clear : goal.returns-then-not-clear

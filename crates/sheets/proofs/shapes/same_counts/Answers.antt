@@ -1,6 +1,5 @@
 -- `same_counts` meets its contract: its three tests are those of the definition, in the same order.
 use Rattle.sheets.proofs.SheetLaws.{count-other, count_same, count-last}
-use borrow.Author.Rules.{rules}
 use Rattle.sheets.proofs.shapes.same_counts.Goals as goal
 
 pub returns-then-wide-plan : goal.returns-then-wide-plan

@@ -1,11 +1,8 @@
 -- `shape_of` meets its contract: its refusals are the demands in order, and the rest is the shape of the second record on.
-use Prim.Native.Nat.{◌+◌}
 use mathlib.Core.Path.{sym, ◌∙◌}
 use native.Mathlib.Omega.{arith}
-use borrow.Author.Tests.{not-true, not-false}
 use Rattle.sheets.proofs.SheetLaws.{record-parts, sheet-long, sheet-header, sheet-counts, sheet-body}
 use Rattle.evaluation.proofs.Powers.{pow_small}
-use borrow.Author.Rules.{rules}
 use Rattle.sheets.proofs.shapes.shape_of.Goals as goal
 
 pub returns-then-b-gt-MAX_SHEET : goal.returns-then-b-gt-MAX_SHEET

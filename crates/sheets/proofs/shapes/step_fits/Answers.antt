@@ -1,6 +1,5 @@
 -- `step_fits_lem` meets its contract: its three tests are those of the definition, in the same order.
 use Rattle.sheets.proofs.SheetLaws.{fits-command, fits_word, fits-state}
-use borrow.Author.Rules.{rules}
 use Rattle.sheets.proofs.shapes.step_fits.Goals as goal
 
 pub returns-then-plan-c : goal.returns-then-plan-c

@@ -1,12 +1,8 @@
 -- `trace_shape` meets its contract: what is left to demand from a record on gives what all of it gave from the first.
 use Rattle.sheets.proofs.SheetLaws.{steps-start, trace_bad, trace-fault, trace-whole, steps-kind}
 use Rattle.sheets.proofs.SheetLaws.{steps_range, steps_none, steps_left, record-parts}
-use Rattle.evaluation.specs.working.CodeSystem.{stars_in}
-use Rattle.sheets.specs.working.SheetReading.{Reading, steps_at, step_count}
-use borrow.Author.Tests.{not-true, not-false}
 use native.Mathlib.Omega.{arith}
-use mathlib.Core.Path.{◌≡◌, sym, ◌∙◌}
-use Prim.Native.Nat.{◌+◌, ◌-◌, ◌*◌, ◌≤◌}
+use mathlib.Core.Path.{sym, ◌∙◌}
 use Rattle.sheets.proofs.shapes.trace_shape.Goals as goal
 
 pub returns-then-states-two_at : goal.returns-then-states-two_at

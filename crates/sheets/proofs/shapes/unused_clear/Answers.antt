@@ -1,6 +1,5 @@
 -- `unused_clear` meets its contract: below eight states the byte is compared with the same power, and from eight on nothing is asked.
 use Rattle.sheets.proofs.SheetLaws.{clear-few, clear-many}
-use borrow.Author.Rules.{rules}
 use Rattle.sheets.proofs.shapes.unused_clear.Goals as goal
 
 pub returns-then-states-lt8 : goal.returns-then-states-lt8

@@ -3,7 +3,6 @@ use Prim.Native.Nat.{ℕ, ◌^◌}
 use mathlib.Core.Path.{refl, sym, ap, ◌∙◌}
 use native.Mathlib.Omega.{arith}
 use lib.Dec.{eqb}
-use borrow.Author.Rules.{rules}
 use Rattle.evaluation.proofs.Powers.{pow_small}
 use Rattle.exploration.specs.working.CodeTransitions.{transitions_in}
 use Rattle.exploration.proofs.Recorded.{leads-command, leads-word, leads-there}

@@ -1,15 +1,9 @@
 -- `first_move` meets its contract: the first of the moves left is the first of all.
-use Prim.Native.Nat.{◌+◌, ◌-◌, ◌≤◌}
 use mathlib.Core.Path.{◌≡◌, refl, sym, ◌∙◌}
-use mathlib.Core.List.{◌++◌}
 use native.Mathlib.Omega.{arith}
-use borrow.Author.Rules.{rules}
-use lib.Seq.{slice}
 use Rattle.evaluation.specs.working.CodeSystem.{next_in}
 use Rattle.evaluation.proofs.Batches as B
 use Rattle.exploration.specs.working.CodeTransitions.{transitions_in}
-use Rattle.exploration.specs.working.Runs.{first_move}
-use Rattle.exploration.specs.working.Transitions.{words_from, moves_from, moves}
 use Rattle.exploration.proofs.CodeSteps.{step_picked, moves-start}
 use Rattle.exploration.proofs.Laws.{look_start, look_next, look_found, look_end, look_last}
 use Rattle.tracing.proofs.traces.first_move.Goals as goal

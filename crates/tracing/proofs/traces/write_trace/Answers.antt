@@ -8,8 +8,8 @@ use Rattle.exploration.specs.working.CodeTransitions.{transitions_in}
 use Rattle.exploration.specs.working.Runs.{run_to, steps}
 use Rattle.exploration.specs.working.Transitions.{move_of}
 use Rattle.exploration.proofs.CodeSteps.{code_lawful, words-within}
-use Rattle.exploration.proofs.Trace.{recorded-short, recorded-below, recorded-one, Walking, walking_start, walking_end, walking_next}
-use Rattle.exploration.proofs.Trace.{Writing, writing_start, writing_parent, Turn, writing_next, writing_end}
+use Rattle.exploration.proofs.Trace.{recorded-short, recorded-below, recorded-one, walking_start, walking_end, walking_next}
+use Rattle.exploration.proofs.Trace.{writing_start, writing_parent, Turn, writing_next, writing_end}
 use Rattle.tracing.proofs.traces.write_trace.Goals as goal
 use Rattle.tracing.proofs.traces.write_trace.Goals.{After-first_move-x, At-count, In-write, Start, Then-p-s}
 

@@ -1,15 +1,9 @@
 -- `write_trace` meets its contract: one walk back counts the steps, another writes them.
-use Prim.Native.Nat.{ℕ, ◌+◌, ◌-◌, ◌*◌, ◌^◌, ◌<◌}
-use mathlib.Core.Path.{◌≡◌, refl, ◌∙◌, ap}
-use native.Mathlib.Omega.{arith}
-use lib.ListN.{length, take}
-use Rattle.evaluation.proofs.Powers.{pow_small}
+use Prim.Native.Nat.{◌-◌, ◌^◌}
 use Rattle.exploration.specs.working.CodeTransitions.{transitions_in}
-use Rattle.exploration.specs.working.Runs.{run_to, steps}
-use Rattle.exploration.specs.working.Transitions.{move_of}
-use Rattle.exploration.proofs.CodeSteps.{code_lawful, words-within}
-use Rattle.exploration.proofs.Trace.{recorded-short, recorded-below, recorded-one, Walking, walking_start, walking_end, walking_next}
-use Rattle.exploration.proofs.Trace.{Writing, writing_start, writing_parent, Turn, writing_next, writing_end}
+use Rattle.exploration.proofs.CodeSteps.{code_lawful}
+use Rattle.exploration.proofs.Trace.{Walking}
+use Rattle.exploration.proofs.Trace.{Writing}
 use Rattle.tracing.proofs.traces.write_trace.Given as goal
 
 abbrev pub invariant-count : goal.invariant-count

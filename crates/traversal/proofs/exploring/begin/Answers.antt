@@ -1,7 +1,6 @@
 -- `begin` meets its contract: the start states, taken into cleared tables.
 use Rattle.exploration.specs.working.CodeTransitions.{transitions_in}
 use Rattle.traversal.proofs.WholeRuns.{ready_cleared, begun}
-use borrow.Author.Rules.{rules}
 use Rattle.traversal.proofs.exploring.begin.Goals as goal
 
 pub take_in-requires : goal.take_in-requires

@@ -1,18 +1,15 @@
 -- `explore` meets its contract: what is left to try, from what the tables hold, goes as all of it went from where each loop began.
-use Prim.Native.Nat.{◌+◌, ◌-◌, ◌*◌, ◌^◌, ◌≤◌, ◌<◌}
+use Prim.Native.Nat.{◌+◌, ◌^◌, ◌≤◌, ◌<◌}
 use mathlib.Core.Path.{◌≡◌, refl, sym, ◌∙◌}
-use mathlib.Core.Bool.{false}
-use mathlib.Core.Logic.{⊎_elim}
 use native.Mathlib.Omega.{arith}
-use lib.Seq.{slice}
 use lib.ListN.{get_or, set}
 use Rattle.evaluation.specs.working.CodeSystem.{next_in}
 use Rattle.evaluation.proofs.Batches as B
 use Rattle.evaluation.proofs.Powers.{pow_small}
 use Rattle.exploration.specs.working.CodeTransitions.{transitions_in}
-use Rattle.exploration.specs.working.Transitions.{words_from, moves_from, moves}
+use Rattle.exploration.specs.working.Transitions.{moves}
 use Rattle.exploration.proofs.CodeSteps.{step_picked, step-below, commands-start}
-use Rattle.exploration.proofs.Laws.{Tried, Broke, Gone, gone_refl, gone_next, gone_broke, gone_end, gone_enough, tried-old}
+use Rattle.exploration.proofs.Laws.{Broke, gone_refl, gone_next, gone_broke, gone_end, gone_enough, tried-old}
 use Rattle.exploration.proofs.Laws.{tried_new, tried-broke, words-start, command-done, command-broke, commands-done}
 use Rattle.exploration.proofs.Laws.{room}
 use Rattle.traversal.proofs.exploring.explore.Goals as goal
@@ -159,7 +156,7 @@ pub words-preserved : goal.words-preserved
 words-preserved c =
     let p = (goal.at.words-preserved c).After-pick-t in
     elim c.if-parent-at-eq0.branch [
-      then-parent-at-eq0+else-breaks w ↦ (
+      | then-parent-at-eq0+else-breaks w ↦ (
         omega arith,
         c.words.invariant.1,
         rw (w.queue-is, w.count-is, w.parent-is)
@@ -167,7 +164,7 @@ words-preserved c =
         B.ready-next _ _ _ _ _ _ c.fill.ensures c.words.invariant.3,
         c.words.invariant.4,
       )
-    | else-parent-at-eq0 w ↦ (
+      | else-parent-at-eq0 w ↦ (
         omega arith,
         c.words.invariant.1,
         rw (w.queue-is, w.count-is, w.parent-is) (tried-old _ _ _ c.words.invariant.2 c.words-test.true _ (reached p) (t-below p) w.if-parent-at-eq0.false),
@@ -181,17 +178,16 @@ overflow_add-trials-in-commands c =
     omega (arith, few-trials (goal.at.overflow_add-trials-in-commands c).In-commands, c.words.invariant.4, c.word_count-words.ensures.1)
 
 pub commands-preserved : goal.commands-preserved
-commands-preserved c =
-    (
-      omega arith,
-      c.words.invariant.1 ∙ c.commands.invariant.1,
-      rw c.words.invariant.4
-          (command-done _ _ _ _
-          c.word_count-words.ensures.0
-          c.commands-test.true c.words.invariant.0 c.words-test.false
-          c.commands.invariant.2 c.words.invariant.2),
-      omega (arith, c.words.invariant.4, c.commands.invariant.3, c.word_count-words.ensures.1),
-    )
+commands-preserved c = (
+  omega arith,
+  c.words.invariant.1 ∙ c.commands.invariant.1,
+  rw c.words.invariant.4
+      (command-done _ _ _ _
+      c.word_count-words.ensures.0
+      c.commands-test.true c.words.invariant.0 c.words-test.false
+      c.commands.invariant.2 c.words.invariant.2),
+  omega (arith, c.words.invariant.4, c.commands.invariant.3, c.word_count-words.ensures.1),
+)
 
 pub overflow_add-head : goal.overflow_add-head
 overflow_add-head c =
@@ -207,13 +203,12 @@ search-smaller c =
     omega (arith, c.search-test.true)
 
 pub search-preserved : goal.search-preserved
-search-preserved c =
-    (
-      c.commands.invariant.1 ∙ c.search.invariant.0,
-      gone_next c.search.invariant.1 c.search-test.true c.if-count-head.false
-          (commands-done _ _ c.commands.invariant.0 c.commands-test.false c.commands.invariant.2),
-      omega (arith, c.commands.invariant.0, c.commands.invariant.3, c.search.invariant.2, c.requires.0.few_commands),
-    )
+search-preserved c = (
+  c.commands.invariant.1 ∙ c.search.invariant.0,
+  gone_next c.search.invariant.1 c.search-test.true c.if-count-head.false
+      (commands-done _ _ c.commands.invariant.0 c.commands-test.false c.commands.invariant.2),
+  omega (arith, c.commands.invariant.0, c.commands.invariant.3, c.search.invariant.2, c.requires.0.few_commands),
+)
 
 pub shape_of-queue-after-search : goal.shape_of-queue-after-search
 shape_of-queue-after-search c = c.search.invariant.1.kept.queue-length

@@ -1,20 +1,12 @@
 -- `explore` meets its contract: what is left to try, from what the tables hold, goes as all of it went from where each loop began.
-use Prim.Native.Nat.{◌+◌, ◌-◌, ◌*◌, ◌^◌, ◌≤◌, ◌<◌}
-use mathlib.Core.Path.{◌≡◌, refl, sym, ◌∙◌}
+use Prim.Native.Nat.{◌+◌, ◌-◌, ◌*◌, ◌≤◌}
+use mathlib.Core.Path.{◌≡◌}
 use mathlib.Core.Bool.{false}
-use mathlib.Core.Logic.{⊎_elim}
-use native.Mathlib.Omega.{arith}
 use lib.Seq.{slice}
-use lib.ListN.{get_or, set}
-use Rattle.evaluation.specs.working.CodeSystem.{next_in}
 use Rattle.evaluation.proofs.Batches as B
-use Rattle.evaluation.proofs.Powers.{pow_small}
 use Rattle.exploration.specs.working.CodeTransitions.{transitions_in}
 use Rattle.exploration.specs.working.Transitions.{words_from, moves_from, moves}
-use Rattle.exploration.proofs.CodeSteps.{step_picked, step-below, commands-start}
-use Rattle.exploration.proofs.Laws.{Tried, Broke, Gone, gone_refl, gone_next, gone_broke, gone_end, gone_enough, tried-old}
-use Rattle.exploration.proofs.Laws.{tried_new, tried-broke, words-start, command-done, command-broke, commands-done}
-use Rattle.exploration.proofs.Laws.{room}
+use Rattle.exploration.proofs.Laws.{Tried, Gone}
 use Rattle.traversal.proofs.exploring.explore.Given as goal
 
 abbrev pub invariant-words : goal.invariant-words

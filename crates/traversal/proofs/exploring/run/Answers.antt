@@ -1,7 +1,6 @@
 -- `run` meets its contract: the start states, then the queue.
 use Rattle.exploration.specs.working.CodeTransitions.{transitions_in}
 use Rattle.traversal.proofs.WholeRuns.{run-broke, run_on}
-use borrow.Author.Rules.{rules}
 use Rattle.traversal.proofs.exploring.run.Goals as goal
 
 pub returns-then-x : goal.returns-then-x

@@ -1,15 +1,14 @@
 -- `take_in` meets its contract: the start states before s are taken in, and the states from s on are not met.
-use Prim.Native.Nat.{ℕ, ◌+◌, ◌-◌, ◌^◌, ◌≤◌, ◌<◌}
+use Prim.Native.Nat.{◌+◌, ◌^◌, ◌≤◌, ◌<◌}
 use mathlib.Core.Path.{◌≡◌, refl, sym, ◌∙◌}
-use mathlib.Core.Bool.{false, true}
-use mathlib.Core.Logic.{⊎_elim}
+use mathlib.Core.Bool.{true}
 use native.Mathlib.Omega.{arith}
 use lib.ListN.{get_or, set}
 use Rattle.evaluation.proofs.Powers.{pow_small}
 use Rattle.exploration.specs.working.Tables.{Took}
 use Rattle.exploration.specs.working.CodeTransitions.{transitions_in}
 use Rattle.exploration.proofs.CodeSteps.{unmet_first, unmet_next}
-use Rattle.exploration.proofs.Laws.{Taking, taking_refl, taking_end, taking_skip, taking_next, taking_broke, meets_new}
+use Rattle.exploration.proofs.Laws.{taking_refl, taking_end, taking_skip, taking_next, taking_broke, meets_new}
 use Rattle.exploration.proofs.Laws.{room}
 use Rattle.traversal.proofs.exploring.take_in.Goals as goal
 use Rattle.traversal.proofs.exploring.take_in.Goals.{In-states, Then-breaks}
@@ -84,7 +83,7 @@ pub states-preserved : goal.states-preserved
 states-preserved c =
     let i = (goal.at.states-preserved c).In-states in
     elim c.if-starts.branch [
-      then-starts+else-breaks w ↦ (
+      | then-starts+else-breaks w ↦ (
         omega arith,
         c.states.invariant.1,
         rw (w.queue-is, w.count-is, w.parent-is)
@@ -92,7 +91,7 @@ states-preserved c =
             (meets_new c.states.invariant.2.kept.ready (s-below i) (unmet i) w.breaks.ensures) w.if-breaks.false),
         rw w.parent-is (unmet_next c.states.parent c.states.s (c.states.s + 1) _ c.states.invariant.3),
       )
-    | else-starts w ↦ (
+      | else-starts w ↦ (
         omega arith,
         c.states.invariant.1,
         rw (w.queue-is, w.count-is, w.parent-is) (taking_skip c.states.invariant.2 (s-below i) (sym c.starts.ensures ∙ w.if-starts.false)),

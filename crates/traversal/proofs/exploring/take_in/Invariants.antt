@@ -1,16 +1,10 @@
 -- `take_in` meets its contract: the start states before s are taken in, and the states from s on are not met.
-use Prim.Native.Nat.{ℕ, ◌+◌, ◌-◌, ◌^◌, ◌≤◌, ◌<◌}
-use mathlib.Core.Path.{◌≡◌, refl, sym, ◌∙◌}
-use mathlib.Core.Bool.{false, true}
-use mathlib.Core.Logic.{⊎_elim}
-use native.Mathlib.Omega.{arith}
-use lib.ListN.{get_or, set}
-use Rattle.evaluation.proofs.Powers.{pow_small}
-use Rattle.exploration.specs.working.Tables.{Took}
+use Prim.Native.Nat.{ℕ, ◌-◌, ◌^◌, ◌≤◌, ◌<◌}
+use mathlib.Core.Path.{◌≡◌}
+use mathlib.Core.Bool.{false}
+use lib.ListN.{get_or}
 use Rattle.exploration.specs.working.CodeTransitions.{transitions_in}
-use Rattle.exploration.proofs.CodeSteps.{unmet_first, unmet_next}
-use Rattle.exploration.proofs.Laws.{Taking, taking_refl, taking_end, taking_skip, taking_next, taking_broke, meets_new}
-use Rattle.exploration.proofs.Laws.{room}
+use Rattle.exploration.proofs.Laws.{Taking}
 use Rattle.traversal.proofs.exploring.take_in.Given as goal
 
 abbrev pub invariant-states : goal.invariant-states

@@ -3,7 +3,6 @@ use mathlib.Core.Path.{sym, ◌∙◌}
 use native.Mathlib.Omega.{arith}
 use lib.ListN.{take}
 use lib.Seq.{length-take-le}
-use borrow.Author.Rules.{rules}
 use Rattle.exploration.proofs.Laws.{marked_le}
 use Rattle.exploration.proofs.Judging.{many-trials, many-expanded, other_marks, only-states}
 use Rattle.traversal.proofs.intact.can_go_on.Goals as goal

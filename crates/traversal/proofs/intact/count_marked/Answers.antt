@@ -1,7 +1,6 @@
 -- `count_marked` meets its contract: so many of the entries before i are not 0.
-use Prim.Native.Nat.{ℕ, ◌+◌, ◌-◌, ◌<◌, ◌≤◌}
+use Prim.Native.Nat.{ℕ, ◌+◌, ◌<◌}
 use mathlib.Core.Path.{◌≡◌, refl, sym, ap, ◌∙◌}
-use mathlib.Core.Logic.{⊎_elim}
 use native.Mathlib.Omega.{arith}
 use lib.ListN.{length, take}
 use Rattle.exploration.specs.working.Tables.{marked}
@@ -19,12 +18,12 @@ entries-preserved c =
     let table = c.args.table.now in
     let h : at.i < length table = omega arith in
     elim c.if-table-i-ne0.branch [
-      then-table-i-ne0 w ↦ (
+      | then-table-i-ne0 w ↦ (
         omega arith,
         omega (arith, w.count-is, at.invariant.1),
         w.count-is ∙ ap (λ (k : ℕ). k + 1) at.invariant.2 ∙ sym (marked_more table at.i h w.if-table-i-ne0.true),
       )
-    | else-table-i-ne0 w ↦ (
+      | else-table-i-ne0 w ↦ (
         omega arith,
         omega (arith, w.count-is, at.invariant.1),
         w.count-is ∙ at.invariant.2 ∙ sym (marked-same table at.i h w.if-table-i-ne0.false),

@@ -1,11 +1,8 @@
 -- `count_marked` meets its contract: so many of the entries before i are not 0.
-use Prim.Native.Nat.{ℕ, ◌+◌, ◌-◌, ◌<◌, ◌≤◌}
-use mathlib.Core.Path.{◌≡◌, refl, sym, ap, ◌∙◌}
-use mathlib.Core.Logic.{⊎_elim}
-use native.Mathlib.Omega.{arith}
-use lib.ListN.{length, take}
+use Prim.Native.Nat.{◌-◌, ◌≤◌}
+use mathlib.Core.Path.{◌≡◌}
+use lib.ListN.{take}
 use Rattle.exploration.specs.working.Tables.{marked}
-use Rattle.exploration.proofs.Judging.{marked_more, marked-same}
 use Rattle.traversal.proofs.intact.count_marked.Given as goal
 
 abbrev pub invariant-entries : goal.invariant-entries

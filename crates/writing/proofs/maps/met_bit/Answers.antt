@@ -1,7 +1,6 @@
 -- `met_bit` meets its contract: a state was met where its entry is not 0.
 use native.Mathlib.Omega.{arith}
 use Rattle.exploration.proofs.Map.{bit-one, bit_zero, bit_past}
-use borrow.Author.Rules.{rules}
 use Rattle.writing.proofs.maps.met_bit.Goals as goal
 
 pub returns-then-parent-s-gt0 : goal.returns-then-parent-s-gt0

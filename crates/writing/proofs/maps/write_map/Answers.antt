@@ -1,12 +1,7 @@
 -- `write_map` meets its contract: what is left of the map, stored behind what is there, gives the whole.
-use Prim.Native.Nat.{◌+◌, ◌-◌, ◌≤◌}
-use mathlib.Core.Path.{◌≡◌, refl, ◌∙◌}
-use mathlib.Core.List.{map}
+use mathlib.Core.Path.{refl, ◌∙◌}
 use native.Mathlib.Omega.{arith}
-use lib.ListN.{length, take, length-set}
-use lib.Seq.{sets}
-use lib.Dec.{ltb}
-use Rattle.exploration.specs.working.Written.{map_from}
+use lib.ListN.{length-set}
 use Rattle.exploration.proofs.Map.{map-start, map_next, map-done}
 use Rattle.writing.proofs.maps.write_map.Goals as goal
 

@@ -1,13 +1,11 @@
 -- `write_map` meets its contract: what is left of the map, stored behind what is there, gives the whole.
 use Prim.Native.Nat.{◌+◌, ◌-◌, ◌≤◌}
-use mathlib.Core.Path.{◌≡◌, refl, ◌∙◌}
+use mathlib.Core.Path.{◌≡◌}
 use mathlib.Core.List.{map}
-use native.Mathlib.Omega.{arith}
-use lib.ListN.{length, take, length-set}
+use lib.ListN.{length, take}
 use lib.Seq.{sets}
 use lib.Dec.{ltb}
 use Rattle.exploration.specs.working.Written.{map_from}
-use Rattle.exploration.proofs.Map.{map-start, map_next, map-done}
 use Rattle.writing.proofs.maps.write_map.Given as goal
 
 abbrev pub invariant-loop-i : goal.invariant-loop-i

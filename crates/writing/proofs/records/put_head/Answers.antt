@@ -3,7 +3,6 @@ use lib.ListN.{length-set}
 use native.Mathlib.Omega.{arith}
 use native.Mathlib.Numerals.{towards_suc}
 use Rattle.sheets.specs.Sheets.{little}
-use borrow.Author.Rules.{rules}
 use Rattle.writing.proofs.records.put_head.Goals as goal
 
 pub bounds-out-at-2 : goal.bounds-out-at-2

@@ -3,7 +3,6 @@ use mathlib.Core.Path.{refl}
 use native.Mathlib.Omega.{arith}
 use lib.ListN.{length-set}
 use Rattle.sheets.specs.Sheets.{little, record_bytes}
-use borrow.Author.Rules.{rules}
 use Rattle.writing.proofs.records.put_header.Goals as goal
 
 pub bounds-out-7 : goal.bounds-out-7

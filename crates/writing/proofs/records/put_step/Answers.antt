@@ -3,7 +3,6 @@ use lib.ListN.{length-set}
 use native.Mathlib.Omega.{arith}
 use native.Mathlib.Numerals.{towards_suc}
 use Rattle.sheets.specs.Sheets.{little, record_bytes, step_bytes}
-use borrow.Author.Rules.{rules}
 use Rattle.writing.proofs.records.put_step.Goals as goal
 
 pub bounds-out-b-2 : goal.bounds-out-b-2

@@ -1,9 +1,8 @@
 -- `clear` meets its contract: the entries before i are 0, and those from n on are as they were.
-use Prim.Native.Nat.{◌≤◌, ◌-◌, ◌+◌}
 use mathlib.Core.Path.{◌≡◌, refl, ◌∙◌, ap}
-use mathlib.Core.List.{List, ◌++◌}
+use mathlib.Core.List.{List}
 use native.Mathlib.Omega.{arith}
-use lib.ListN.{length, set, drop, replicate, length-set}
+use lib.ListN.{set, length-set}
 use borrow.Author.Fill.{fill_none, fill_more}
 use Rattle.writing.proofs.tables.clear.Goals as goal
 

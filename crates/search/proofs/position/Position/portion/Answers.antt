@@ -4,7 +4,6 @@ use Rattle.acceptance.proofs.TestTexts.{read_sound}
 use Rattle.pauses.specs.working.Pausing.{portion_of, portion_for, flat_of}
 use Rattle.search.specs.Answers.{wording_of, pause_for}
 use Rattle.search.proofs.PausesHeld.{held_read, held_refused}
-use borrow.Author.Rules.{rules}
 use Rattle.search.proofs.position.Position.portion.Goals as goal
 
 pub read_plan-told-requires : goal.read_plan-told-requires
@@ -18,10 +17,10 @@ pub returns-in-Refused : goal.returns-in-Refused
 unfolding portion_of wording_of
 returns-in-Refused c =
     let told = held_refused _ c.read_plan-told.ensures _ _ (sym c.in-Refused.is) (portion_for (flat_of c.args.text.now) (pause_for c.args.self) c.args.states) c.args.first.now c.args.second.now in
-    record { result_value = told.0; left = told.1; }
+    record { result_value = told.0; left = told.1 }
 
 pub returns-in-Read : goal.returns-in-Read
 unfolding portion_of
 returns-in-Read c =
     let told = held_read _ c.read_plan-told.ensures (sym c.in-Read.is) (λ M. portion_for M (pause_for c.args.self) c.args.states) _ _ c.portion_code.ensures in
-    record { result_value = told.0; left = told.1; }
+    record { result_value = told.0; left = told.1 }
