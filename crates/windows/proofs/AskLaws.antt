@@ -3,11 +3,12 @@
 use mathlib.Core.Path.{◌≡◌, refl, sym, ap, ◌∙◌, subst}
 use mathlib.Core.Bool.{Bool, true, false, cond, true≢false}
 use mathlib.Core.List.{List, []}
-use Prim.Native.Nat.{ℕ, zero, suc, ◌+◌, ◌-◌, ◌*◌, ◌<◌, ◌≤◌}
+use Prim.Native.Nat.{ℕ, ◌+◌, ◌-◌, ◌*◌, ◌<◌, ◌≤◌}
 use native.Mathlib.Omega.{arith}
-use lib.Dec.{eqb, ltb, leb}
+use lib.Dec.{eqb, ltb}
 use lib.ListN.{length, get_or}
-use borrow.Author.Tests.{eq-eqb, ne_eqb, lt-ltb, le-ltb, le-leb, lt-leb, eqb-true, eqb-false, ltb-false}
+use borrow.Author.Tests.{eq-eqb, ne_eqb, lt-ltb, le-ltb, eqb-true, ltb-false}
+use Rattle.std.proofs.lemmas.Bool.Decides.{nat_tests}
 use Rattle.notation.specs.Texts.{model_of}
 use Rattle.notation.specs.working.Machine as N
 use Rattle.notation.specs.working.Answer.{answer}
@@ -31,38 +32,7 @@ use Rattle.windows.specs.declared.record.Begun.{Begun}
 use Rattle.windows.specs.declared.record.Reply.{Reply}
 use Rattle.windows.proofs.Tallies.{fresh-is}
 
--- What is wrong with a question.
-module _ (q : Question) (commands : ℕ) where
-  pub fault_none : q ≡ Q.Steps → 0 ≡ fault_of q commands
-  unfolding fault_of
-  fault_none e = rw e refl
-
-  module _ (room : ℕ) (e : q ≡ Q.Counts room) where
-    pub few-counts : room < 16 → 8 ≡ fault_of q commands
-    unfolding fault_of
-    few-counts h = rw (e, lt-ltb _ _ h) refl
-
-    pub enough-counts : 16 ≤ room → 0 ≡ fault_of q commands
-    unfolding fault_of
-    enough-counts h = rw (e, le-ltb _ _ h) refl
-
-  module _ (k w : ℕ) (e : q ≡ Q.Burst k w) where
-    pub no-command : commands ≤ k → 10 ≡ fault_of q commands
-    unfolding fault_of
-    no-command h = rw (e, le-leb _ _ h) refl
-
-    pub no_width : k < commands → w ≡ 0 → 16 ≡ fault_of q commands
-    unfolding fault_of
-    no_width h f = rw (e, lt-leb _ _ h, eq-eqb _ _ f) refl
-
-    pub too_wide : k < commands → (w ≡ 0 → ⊥) → 4095 < w → 16 ≡ fault_of q commands
-    unfolding fault_of
-    too_wide h f g = rw (e, lt-leb _ _ h, ne_eqb _ _ f, lt-ltb _ _ g) refl
-
-    pub burst-asked : k < commands → (w ≡ 0 → ⊥) → w ≤ 4095 → 0 ≡ fault_of q commands
-    unfolding fault_of
-    burst-asked h f g = rw (e, lt-leb _ _ h, ne_eqb _ _ f, le-ltb _ _ g) refl
-
+-- The first refusal of a question.
 module _ (q : Question) (commands places steps : ℕ) where
   pub few-places : places < steps → 8 ≡ refusal_of q commands places steps
   unfolding refusal_of
@@ -196,14 +166,9 @@ pub has_room : (q : Question) (commands places n : ℕ) (t : Bool) → ltb place
 has_room q commands places n true e f = absurd (omega (arith, f))
 has_room q commands places n false e f = (ltb-false places n e, f)
 
-has_width : (w : ℕ) (x y z : Bool) → eqb w 0 ≡ y → ◌≡◌ {A = ℕ} (cond x 10 (cond y 16 (cond z 16 0))) 0 → 1 ≤ w
-has_width w true y z e f = absurd (omega (arith, f))
-has_width w false true z e f = absurd (omega (arith, f))
-has_width w false false z e f = let h : w ≡ 0 → ⊥ = eqb-false w 0 e in one w h
-  where
-    one : (n : ℕ) → (n ≡ 0 → ⊥) → 1 ≤ n
-    one zero g = absurd (g refl)
-    one (suc n) g = omega arith
+has_width : (k w commands : ℕ) → fault_of (Q.Burst k w) commands ≡ 0 → 1 ≤ w
+unfolding fault_of
+has_width k w commands e = grind (arith, nat_tests)
 
 module _ (b : List ℕ) (H : HasTrace b) (n : ℕ) (e : n ≡ last_place header b) (commands places : ℕ) where
   few-steps : n ≤ 6551
@@ -220,7 +185,7 @@ module _ (b : List ℕ) (H : HasTrace b) (n : ℕ) (e : n ≡ last_place header 
       record { room = (has_room (Q.Counts room) commands places n (ltb places n) refl f).0; few = few-steps; there = all_there; width = omega arith; unseen = fresh-is 0 1 }
   counting_going (Q.Burst k w) f l =
       let h = has_room (Q.Burst k w) commands places n (ltb places n) refl f in
-      record { room = h.0; few = few-steps; there = all_there; width = has_width w (leb commands k) (eqb w 0) (ltb 4095 w) refl h.1; unseen = fresh-is k w }
+      record { room = h.0; few = few-steps; there = all_there; width = has_width k w commands h.1; unseen = fresh-is k w }
 
   counting_in : (q : Question) (l : List ℕ) (t : Bool) → eqb (refusal_of q commands places n) 0 ≡ t → Counting b places (cond t (going q n l) (stopped (A.Refused (refusal_of q commands places n))))
   counting_in q l true f = counting_going q (eqb-true _ _ f) l

@@ -15,7 +15,7 @@ use Rattle.windows.proofs.FirstValues.{first_snoc}
 pub length-filled : (f : ℕ → Step) (l : List Step) (n : ℕ) → length (filled f l n) ≡ length l
 unfolding filled
 length-filled f l zero = refl
-length-filled f l (suc i) = length-set (filled f l i) i (f i) ∙ length-filled f l i
+length-filled f l (suc i) = length-set (filled f l i) _ (f i) ∙ length-filled f l i
 
 -- Nothing is filled yet; and one more place is.
 pub filled_none : (f : ℕ → Step) (l : List Step) → l ≡ filled f l 0

@@ -5,9 +5,10 @@ use mathlib.Core.Bool.{Bool, true, false, cond}
 use mathlib.Core.List.{List}
 use Prim.Native.Nat.{ℕ, zero, suc, ◌≤◌}
 use native.Mathlib.Omega.{arith}
-use lib.Dec.{eqb, ltb, leb}
+use lib.Dec.{eqb, ltb}
 use lib.ListN.{length, get_or, take, length-map, length-take}
 use borrow.Author.Tests.{eqb-false}
+use Rattle.std.proofs.lemmas.Bool.Decides.{nat_tests}
 use Rattle.acceptance.specs.working.Test.{test_of}
 use Rattle.acceptance.proofs.Places.{answers_bounded}
 use Rattle.traces.specs.working.Passing.{trace_passed, last_place, header}
@@ -31,12 +32,15 @@ chosen_le : (t : Bool) (x y n : ℕ) → x ≤ n → y ≤ n → cond t x y ≤ 
 chosen_le true x y n h k = h
 chosen_le false x y n h k = k
 
+burst_le : (k w commands : ℕ) → fault_of (Q.Burst k w) commands ≤ 16
+unfolding fault_of
+burst_le k w commands = grind (arith, nat_tests)
+
 fault_le : (q : Question) (commands : ℕ) → fault_of q commands ≤ 16
 unfolding fault_of
 fault_le Q.Steps commands = omega arith
 fault_le (Q.Counts room) commands = chosen_le (ltb room 16) 8 0 16 (omega arith) (omega arith)
-fault_le (Q.Burst k w) commands =
-    chosen_le (leb commands k) 10 _ 16 (omega arith) (chosen_le (eqb w 0) 16 _ 16 (omega arith) (chosen_le (ltb 4095 w) 16 0 16 (omega arith) (omega arith)))
+fault_le (Q.Burst k w) commands = burst_le k w commands
 
 refusal_le : (q : Question) (commands places steps : ℕ) → refusal_of q commands places steps ≤ 16
 unfolding refusal_of

@@ -13,6 +13,7 @@ use sheets::fields::{HEADER, step_count, wide};
 use traces::trace_passed;
 
 // The number of what is wrong with a question by itself, or 0.
+#[tactic(auto, unfolding(crate::specs::Questions::fault_of))]
 fn fault(question: Question, commands: usize) -> usize
     ensures { result ≡ fault_of question commands }
 {
