@@ -23,7 +23,7 @@ step_count-last-requires c =
 
 pub returns-then-last-place : goal.returns-then-last-place
 returns-then-last-place c = (
-  c.kept-then-last-place.ensures ∙ place_beyond _ _ _ c.test-outcome.ensures.value _ c.trace_passed.ensures c.if-not-trace_passed.false _ _ _ c.step_count-last.ensures.0 c.if-last-place.true,
+  c.kept-then-last-place.ensures ∙ place_beyond _ _ _ c.test-outcome.ensures.value _ c.trace_passed.ensures c.if-not-trace_passed.false _ _ _ c.step_count-last.ensures.0 (omega (arith, c.if-last-place.true)),
   c.test-outcome.ensures.bytes,
 )
 
