@@ -1,5 +1,6 @@
 -- A record by value that is lent from a local: one law for every function `fn f(player: Player, text: &[u8], sheet: &[u8]) -> Move { let mut lent = player; let answer = g(&mut lent, text, sheet); Move { player: lent, answer: answer } }`.
 -- The law knows of g only what it ensures of a record that is lent, `On move` of `Lent.antt`. So it holds of any g and any `move`; a function's own proof is `by_value` at its own two.
+-- It is about values: that the result has the record as g left it, and g's answer, is found in each function's code by the check.
 -- Assumes nothing.
 use mathlib.Core.Path.{◌≡◌, ap, ◌∙◌}
 use mathlib.Core.List.{List}

@@ -1,5 +1,6 @@
 -- A lent record that a move changes in place: one law for every function `fn f(player: &mut Player, text: &[u8], sheet: &[u8]) -> Answer { let moved = g(text, sheet, *player); *player = moved.player; moved.answer }`.
 -- The law knows of g only what it ensures, `From move`: its result is `move text sheet player`. So it holds of any g and any `move`; a function's own proof is `lent` at its own two.
+-- It is about values: that the record comes back as `moved.player`, and that `moved.answer` is answered, is found in each function's code by the check.
 -- Assumes nothing.
 use mathlib.Core.Path.{◌≡◌, ap}
 use mathlib.Core.List.{List}
