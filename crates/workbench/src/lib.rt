@@ -1,4 +1,6 @@
 // The search, in one go and in portions, its reservation, players of traces and bursts in them for programs in C and Python: a slice is a pointer and a length there, and the answer is one number.
+#![tactic(auto)]
+
 mod bursts;
 mod players;
 mod portions;

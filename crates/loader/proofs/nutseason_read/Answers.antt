@@ -4,7 +4,6 @@ use Rattle.reader.specs.declared.Answer.TheVariants.{Read, Refused}
 use Rattle.reader.specs.Answers.{wording_in}
 use Rattle.loader.specs.Numbers.{read_number}
 use Rattle.loader.proofs.Told.{near, answered, counts_fit}
-use borrow.Author.Rules.{rules}
 use Rattle.loader.proofs.nutseason_read.Goals as goal
 
 pub pack-requires : goal.pack-requires

@@ -5,7 +5,6 @@ use Rattle.conditions.specs.Outcomes.{wording_of}
 use Rattle.acceptance.specs.Promises.{Bounded}
 use Rattle.acceptance.proofs.Places.{answers_bounded}
 use Rattle.packing.specs.Outcomes.{test_number}
-use borrow.Author.Rules.{rules}
 use Rattle.loader.proofs.nutseason_test.Goals as goal
 
 pub outcome_number-requires : goal.outcome_number-requires

@@ -1,5 +1,4 @@
 -- `put_name` meets its contract: the name stands behind the space.
-use borrow.Author.Rules.{rules}
 use Rattle.lines.proofs.Stores.{behind}
 use Rattle.names.proofs.put_name.Goals as goal
 

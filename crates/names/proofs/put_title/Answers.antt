@@ -1,6 +1,5 @@
 -- `put_title` meets its contract: the part of the text from the name's place on, as long as the name, is its bytes.
 use mathlib.Core.Path.{sym, subst}
-use borrow.Author.Rules.{rules}
 use Rattle.lines.specs.Puts.{Fits, Puts}
 use Rattle.names.proofs.NameParts.{name-part}
 use Rattle.names.proofs.put_title.Goals as goal

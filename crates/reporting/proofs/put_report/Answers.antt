@@ -1,7 +1,6 @@
 -- `put_report` meets its contract: each arm puts the report that the search's answer stands for, and there is room for it.
 use mathlib.Core.Path.{sym, ◌∙◌}
 use native.Mathlib.Omega.{arith}
-use borrow.Author.Rules.{rules}
 use lib.Seq.{length-take-le}
 use Rattle.verdicts.specs.working.Searching.{search_of}
 use Rattle.lines.proofs.Parts.{refusal-fits}
@@ -64,7 +63,7 @@ returns-in-Refused c =
     let t = (told (goal.at.returns-in-Refused c).Start).refusal _ _ e in
     let w = report-put a.text.now _ t a.out.now (omega (arith, c.put_refusal-arg-1.given)) c.put_refusal.new.out c.put_refusal.result
     c.put_refusal.ensures in
-    record { out_after = w.0; within = w.1; }
+    record { out_after = w.0; within = w.1 }
 
 pub returns-in-Safe : goal.returns-in-Safe
 returns-in-Safe c =
@@ -72,7 +71,7 @@ returns-in-Safe c =
     let t = map-told (goal.at.returns-in-Safe c).In-Safe in
     let w = report-put a.text.now _ t.lines a.out.now (omega (arith, c.put_safe-arg-1.given)) c.put_safe.new.out
     c.put_safe.result c.put_safe.ensures in
-    record { out_after = w.0; within = w.1; }
+    record { out_after = w.0; within = w.1 }
 
 pub returns-in-Void : goal.returns-in-Void
 returns-in-Void c =
@@ -81,7 +80,7 @@ returns-in-Void c =
     let t = (told (goal.at.returns-in-Void c).Start).voidly _ e in
     let w = report-put a.text.now _ t a.out.now (omega (arith, c.put_void-arg-1.given)) c.put_void.new.out c.put_void.result
     c.put_void.ensures in
-    record { out_after = w.0; within = w.1; }
+    record { out_after = w.0; within = w.1 }
 
 pub returns-in-Unsafe : goal.returns-in-Unsafe
 returns-in-Unsafe c =
@@ -89,4 +88,4 @@ returns-in-Unsafe c =
     let t = trace-told (goal.at.returns-in-Unsafe c).In-Unsafe in
     let w = report-put a.text.now _ t.lines a.out.now (omega (arith, c.put_unsafe-arg-1.given)) c.put_unsafe.new.out
     c.put_unsafe.result c.put_unsafe.ensures in
-    record { out_after = w.0; within = w.1; }
+    record { out_after = w.0; within = w.1 }

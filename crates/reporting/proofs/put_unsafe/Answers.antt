@@ -1,7 +1,6 @@
 -- `put_unsafe` meets its contract: the line of the counts, and then the run.
 use mathlib.Core.Path.{sym, ap, subst}
 use native.Mathlib.Omega.{arith}
-use borrow.Author.Rules.{rules}
 use Rattle.reader.specs.Read.{reading_of}
 use Rattle.reader.specs.declared.Reading.{Reading}
 use Rattle.reporting.specs.working.Writing.{run_of, Printable}

@@ -1,6 +1,5 @@
 -- `put_void` meets its contract: the line of the counts, and then the verdict.
 use mathlib.Core.Path.{ap}
-use borrow.Author.Rules.{rules}
 use Rattle.lines.specs.Lines.{others, line}
 use Rattle.reader.specs.Read.{reading_of}
 use Rattle.reader.specs.declared.Reading.{Reading}

@@ -1,6 +1,5 @@
 -- `write_report` meets its contract: the search has room for every text, and its answer and sheet make the report.
 use native.Mathlib.Omega.{arith}
-use borrow.Author.Rules.{rules}
 use Rattle.reporting.proofs.write_report.Goals as goal
 
 pub put_report-requires : goal.put_report-requires

@@ -1,5 +1,4 @@
 -- `put_count_lines` meets its contract: the total, and then the counts of the table.
-use borrow.Author.Rules.{rules}
 use native.Mathlib.Omega.{arith}
 use lib.Pow.{pow_pos}
 use Rattle.notation.specs.Bytes.{bytes}

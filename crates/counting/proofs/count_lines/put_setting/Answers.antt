@@ -1,5 +1,4 @@
 -- `put_setting` meets its contract: its word is the line's.
-use borrow.Author.Rules.{rules}
 use Rattle.notation.specs.Bytes.{bytes}
 use Rattle.counting.proofs.count_lines.put_setting.Goals as goal
 

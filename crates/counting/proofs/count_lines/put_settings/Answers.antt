@@ -1,11 +1,6 @@
 -- `put_settings` meets its contract: the lines of the settings before j stand there.
-use borrow.Author.Rules.{rules}
-use Prim.Native.Nat.{◌-◌, ◌≤◌}
-use mathlib.Core.Logic.{⊎_elim}
 use native.Mathlib.Omega.{arith}
-use Rattle.lines.specs.Puts.{Puts}
 use Rattle.lines.proofs.Stores.{keeps}
-use Rattle.counting.specs.working.Counting.{table_lines}
 use Rattle.counting.proofs.TableLines.{lines-begun, lines-done, line_none, line-room, line-put}
 use Rattle.counting.proofs.count_lines.put_settings.Goals as goal
 use Rattle.counting.proofs.count_lines.put_settings.Goals.{then-n-gt0, else-n-gt0}
@@ -29,15 +24,15 @@ put_setting-end-requires c =
 
 pub settings-preserved : goal.settings-preserved
 settings-preserved c = elim c.if-n-gt0.branch [
-    then-n-gt0 w ↦ (
-      omega arith,
-      line-put c.args.counts.now c.settings.j _ c.settings.invariant.1 c.count-n.ensures w.if-n-gt0.true w.put_setting-end.ensures w.out-is w.end-is,
-    )
+  | then-n-gt0 w ↦ (
+    omega arith,
+    line-put c.args.counts.now c.settings.j _ c.settings.invariant.1 c.count-n.ensures w.if-n-gt0.true w.put_setting-end.ensures w.out-is w.end-is,
+  )
   | else-n-gt0 w ↦ (
-      omega arith,
-      line_none c.args.counts.now c.settings.j _ c.settings.invariant.1 c.count-n.ensures w.if-n-gt0.false w.out-is w.end-is,
-    )
-  ]
+    omega arith,
+    line_none c.args.counts.now c.settings.j _ c.settings.invariant.1 c.count-n.ensures w.if-n-gt0.false w.out-is w.end-is,
+  )
+]
 
 pub shape_of-out : goal.shape_of-out
 shape_of-out c = keeps c.settings.invariant.1

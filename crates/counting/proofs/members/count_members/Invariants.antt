@@ -1,11 +1,8 @@
 -- `count_members` meets its contract: it has counted the bits of the bytes before i.
-use borrow.Author.Rules.{rules}
 use Prim.Native.Nat.{◌-◌, ◌*◌, ◌≤◌}
 use mathlib.Core.Path.{◌≡◌}
-use native.Mathlib.Omega.{arith}
 use Rattle.sheets.specs.working.SheetReading.{map_in}
 use Rattle.counting.specs.Counts.{ones_of}
-use Rattle.counting.proofs.MapBytes.{ones-begun, ones-read, ones-done}
 use Rattle.counting.proofs.members.count_members.Given as goal
 
 abbrev pub invariant-bytes : goal.invariant-bytes

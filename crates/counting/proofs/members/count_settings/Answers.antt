@@ -1,12 +1,10 @@
 -- `count_settings` meets its contract: the table has the counts of the states before s.
-use Prim.Native.Nat.{ℕ, ◌-◌, ◌≤◌, ◌<◌}
+use Prim.Native.Nat.{ℕ, ◌≤◌, ◌<◌}
 use mathlib.Core.Path.{◌≡◌, sym, ◌∙◌}
-use mathlib.Core.Logic.{⊎_elim}
 use native.Mathlib.Omega.{arith}
 use native.Mathlib.Nat.{mod-lt}
 use Rattle.sheets.specs.working.SheetReading.{map_in}
-use Rattle.counting.specs.Counts.{setting_of, count_at}
-use Rattle.counting.specs.working.Counting.{table}
+use Rattle.counting.specs.Counts.{setting_of}
 use Rattle.counting.proofs.Tables.{table-begun, table_done, not-counted, count_small, counted}
 use Rattle.counting.proofs.members.count_settings.Goals as goal
 use Rattle.counting.proofs.members.count_settings.Goals.{then-in_map, else-in_map}
@@ -56,13 +54,13 @@ bounds-counts-setting-then-in_map c = setting-small (goal.at.bounds-counts-setti
 
 pub states-preserved : goal.states-preserved
 states-preserved c = elim c.if-in_map.branch [
-    then-in_map w ↦ (
-      omega arith,
-      counted _ _ _ _ c.states.invariant.1 (sym c.in_map.ensures ∙ w.if-in_map.true) _
-          (small c.states.s c.requires.3 c.requires.4 w.setting_of-setting.ensures) w.setting_of-setting.ensures _ w.counts-is,
-    )
+  | then-in_map w ↦ (
+    omega arith,
+    counted _ _ _ _ c.states.invariant.1 (sym c.in_map.ensures ∙ w.if-in_map.true) _
+        (small c.states.s c.requires.3 c.requires.4 w.setting_of-setting.ensures) w.setting_of-setting.ensures _ w.counts-is,
+  )
   | else-in_map w ↦ (omega arith, not-counted _ _ _ _ c.states.invariant.1 (sym c.in_map.ensures ∙ w.if-in_map.false) _ w.counts-is)
-  ]
+]
 
 pub returns : goal.returns
 returns c = table_done _ _ _ _ _ c.states.invariant.0 (omega arith) c.states.invariant.1

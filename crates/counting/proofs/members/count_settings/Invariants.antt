@@ -1,13 +1,9 @@
 -- `count_settings` meets its contract: the table has the counts of the states before s.
-use Prim.Native.Nat.{ℕ, ◌-◌, ◌≤◌, ◌<◌}
-use mathlib.Core.Path.{◌≡◌, sym, ◌∙◌}
-use mathlib.Core.Logic.{⊎_elim}
-use native.Mathlib.Omega.{arith}
-use native.Mathlib.Nat.{mod-lt}
+use Prim.Native.Nat.{◌-◌, ◌≤◌}
+use mathlib.Core.Path.{◌≡◌}
 use Rattle.sheets.specs.working.SheetReading.{map_in}
-use Rattle.counting.specs.Counts.{setting_of, count_at}
+use Rattle.counting.specs.Counts.{count_at}
 use Rattle.counting.specs.working.Counting.{table}
-use Rattle.counting.proofs.Tables.{table-begun, table_done, not-counted, count_small, counted}
 use Rattle.counting.proofs.members.count_settings.Given as goal
 
 abbrev pub invariant-states : goal.invariant-states

@@ -1,6 +1,5 @@
 -- `put_record` meets its contract: the numbers that it reads are those of the step.
 use mathlib.Core.Path.{sym, subst}
-use borrow.Author.Rules.{rules}
 use Rattle.lines.specs.Puts.{Fits, Puts}
 use Rattle.reporting.proofs.Parts.{record-told, named-told}
 use Rattle.reporting.proofs.run.put_record.Goals as goal

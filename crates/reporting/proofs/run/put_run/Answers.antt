@@ -1,14 +1,13 @@
 -- `put_run` meets its contract: what writes the steps that are left, writes all of them from where the loop began.
-use Prim.Native.Nat.{◌+◌, ◌-◌, ◌*◌, ◌^◌, ◌<◌, ◌≤◌}
+use Prim.Native.Nat.{◌+◌, ◌*◌, ◌^◌, ◌<◌, ◌≤◌}
 use mathlib.Core.Path.{◌∙◌}
 use native.Mathlib.Omega.{arith}
 use lib.ListN.{length}
-use borrow.Author.Rules.{rules}
 use Rattle.notation.specs.Bytes.{bytes}
 use Rattle.lines.proofs.Stores.{keeps}
 use Rattle.reporting.specs.working.Writing.{header_end, steps_of}
 use Rattle.reporting.proofs.Parts.{verdict-room, start-room, steps-room, run-written}
-use Rattle.reporting.proofs.StepsLeft.{Going, begun, next-named, next_fits, went, done}
+use Rattle.reporting.proofs.StepsLeft.{begun, next-named, next_fits, went, done}
 use Rattle.reporting.proofs.run.put_run.Goals as goal
 use Rattle.reporting.proofs.run.put_run.Goals.{Start}
 

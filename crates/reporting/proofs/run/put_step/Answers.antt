@@ -1,5 +1,4 @@
 -- `put_step` meets its contract: its words, one behind the other, are the line.
-use borrow.Author.Rules.{rules}
 use Rattle.lines.proofs.Parts.{line-put, word-put, end-put, line_first, line-rest, word_first, word-rest, end_fits}
 use Rattle.notation.specs.Bytes.{bytes}
 use Rattle.reporting.proofs.run.put_step.Goals as goal
