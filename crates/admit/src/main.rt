@@ -2,40 +2,51 @@
 // It writes one line to standard output: `safe holds`, `trace holds`, the letter of the first failure, or `refused NUMBER PLACE`.
 // Without two arguments, or where a file can't be read, it writes nothing there, and a line to standard error. Where it can't write its answer, a line there says so too.
 // A program ends with status 0 whatever it found, so the line is the whole answer.
+#![tactic(auto)]
+
 use acceptance::test;
-use libc::STDERR_FILENO;
+use std::env::Env;
+use std::fs::Files;
+use std::io::Write;
+use streams::arguments::argument_count;
 use streams::files::read_argument;
 use streams::output::write_out;
+use streams::told::tell;
 use streams::whole::Got;
 use wording::put_line;
 
 // Writes the outcome's line to standard output.
-fn answer(text: &[u8], sheet: &[u8]) {
+fn answer(out: &mut impl Write, errors: &mut impl Write, text: &[u8], sheet: &[u8]) {
     let mut line = [0u8; 64];
     let n = put_line(&mut line, test(text, sheet));
-    write_out(b"admit", &line[..n]);
+    write_out(out, errors, b"admit", &line[..n]);
 }
 
 // Reads the text and the sheet into their rooms, and answers.
-fn admit_into(text: &mut [u8], sheet: &mut [u8]) {
-    let first = read_argument(b"admit", 1, text);
-    let Got::Bytes(n) = first else {
+fn admit_into<R: Env + Files>(
+    rt: &R,
+    out: &mut impl Write,
+    errors: &mut impl Write,
+    text: &mut [u8],
+    sheet: &mut [u8],
+) {
+    let Got::Bytes(n) = read_argument(rt, errors, b"admit", 1, text) else {
         return;
     };
-    let second = read_argument(b"admit", 2, sheet);
-    let Got::Bytes(m) = second else {
+    let Got::Bytes(m) = read_argument(rt, errors, b"admit", 2, sheet) else {
         return;
     };
-    answer(&text[..n], &sheet[..m]);
+    answer(out, errors, &text[..n], &sheet[..m]);
 }
 
 // The rooms have a byte more than the longest text and the longest sheet that the test takes, so it refuses a longer one itself.
-fn main() {
-    if os::arg_count() != 3 {
-        io::write_all(STDERR_FILENO, b"usage: admit TEXT SHEET\n");
+fn main(rt: HostRuntime) {
+    let mut errors = rt.stderr();
+    if argument_count(&rt) != 3 {
+        tell(&mut errors, b"usage: admit TEXT SHEET\n");
         return;
     }
     let mut text = [0u8; 16385];
     let mut sheet = [0u8; 65537];
-    admit_into(&mut text, &mut sheet);
+    admit_into(&rt, &mut rt.stdout(), &mut errors, &mut text, &mut sheet);
 }

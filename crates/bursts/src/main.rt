@@ -4,6 +4,8 @@
 // Where the sheet is no trace that passes it writes the line of the test instead, and for a width of 0 or above 4,095 `refused 16 0`.
 // Without three arguments, where WIDTH is no decimal number or where a file can't be read, it writes nothing to standard output, and a line to standard error.
 // Where the lines can't be written, one there says so too.
+#![tactic(auto)]
+
 mod width;
 
 ghost use Rattle.std.specs.Prelude.{◌≡◌, ◌≤◌, length};
@@ -21,12 +23,16 @@ ghost use Rattle.bursts.specs.working.Writing.{line_for, Listed, table_in, table
 
 use conditions::outcome::Outcome;
 use evaluation::numbers::count;
-use libc::STDERR_FILENO;
 use lines::{put, put_number, put_refusal};
 use names::{Names, put_title};
 use reader::read;
+use std::env::Env;
+use std::fs::Files;
+use std::io::Write;
+use streams::arguments::{argument, argument_count};
 use streams::files::read_argument;
 use streams::output::write_out;
+use streams::told::tell;
 use streams::whole::Got;
 use width::{Width, width_in};
 use windows::record::{Answer, Counts as CommandCounts, Question};
@@ -158,44 +164,56 @@ fn put_bursts(out: &mut Lines, text: &[u8], sheet: &[u8], width: usize) -> usize
 }
 
 // Writes the lines to standard output.
-fn answer(text: &[u8], sheet: &[u8], width: usize) {
+fn answer(out: &mut impl Write, errors: &mut impl Write, text: &[u8], sheet: &[u8], width: usize) {
     let mut lines = [0u8; 1280];
     let n = put_bursts(&mut lines, text, sheet, width);
-    write_out(b"bursts", &lines[..n]);
+    write_out(out, errors, b"bursts", &lines[..n]);
 }
 
 // Reads the text and the sheet into their rooms, and answers.
-fn answer_into(text: &mut [u8], sheet: &mut [u8], width: usize) {
-    let first = read_argument(b"bursts", 1, text);
-    let Got::Bytes(n) = first else {
+fn answer_into<R: Env + Files>(
+    rt: &R,
+    out: &mut impl Write,
+    errors: &mut impl Write,
+    text: &mut [u8],
+    sheet: &mut [u8],
+    width: usize,
+) {
+    let Got::Bytes(n) = read_argument(rt, errors, b"bursts", 1, text) else {
         return;
     };
-    let second = read_argument(b"bursts", 2, sheet);
-    let Got::Bytes(m) = second else {
+    let Got::Bytes(m) = read_argument(rt, errors, b"bursts", 2, sheet) else {
         return;
     };
-    answer(&text[..n], &sheet[..m], width);
+    answer(out, errors, &text[..n], &sheet[..m], width);
 }
 
 // The width that the third argument says.
-fn width_given() -> Width {
-    let mut argument = [0u8; 131072];
-    let n = os::arg(3, &mut argument);
-    width_in(&argument[..n])
+fn width_given(rt: &impl Env) -> Width {
+    let mut room = [0u8; 131072];
+    let n = argument(rt, 3, &mut room);
+    width_in(&room[..n])
 }
 
 // The rooms have a byte more than the longest text and the longest sheet that the test takes, so it refuses a longer one itself.
-fn main() {
-    if os::arg_count() != 4 {
-        io::write_all(STDERR_FILENO, b"usage: bursts TEXT SHEET WIDTH\n");
+fn main(rt: HostRuntime) {
+    let mut errors = rt.stderr();
+    if argument_count(&rt) != 4 {
+        tell(&mut errors, b"usage: bursts TEXT SHEET WIDTH\n");
         return;
     }
-    let given = width_given();
-    let Width::Of(width) = given else {
-        io::write_all(STDERR_FILENO, b"bursts: WIDTH is no decimal number\n");
+    let Width::Of(width) = width_given(&rt) else {
+        tell(&mut errors, b"bursts: WIDTH is no decimal number\n");
         return;
     };
     let mut text = [0u8; 16385];
     let mut sheet = [0u8; 65537];
-    answer_into(&mut text, &mut sheet, width);
+    answer_into(
+        &rt,
+        &mut rt.stdout(),
+        &mut errors,
+        &mut text,
+        &mut sheet,
+        width,
+    );
 }

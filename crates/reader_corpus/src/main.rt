@@ -1,11 +1,14 @@
 // Reads texts from standard input, and writes an answer line for each.
 // A text comes as its length in digits, a newline, its bytes and a newline. At anything else the input ends.
 // An answer is `refused NUMBER PLACE`, or `model` and the whole flat form.
+#![tactic(auto)]
+
 ghost use Rattle.std.specs.Prelude.{◌+◌, ◌*◌, ◌≤◌, length};
 ghost use Rattle.io.specs.Counts.{IsPrefixLen};
 
 use lines::{put, put_number, put_refusal};
 use reader::{Answer, Code, read};
+use std::io::{Read, Write};
 use streams::bounds::{at_most, fitting};
 use streams::input::{Head, Rest, whole_text};
 use streams::output::write_out;
@@ -145,31 +148,44 @@ fn put_answer(line: &mut Line, text: &[u8]) -> usize
 }
 
 // Writes the answer line for a text of n bytes, or for what there was room for; whether it could.
-fn answer(text: &[u8], n: usize) -> bool {
+fn answer(out: &mut impl Write, errors: &mut impl Write, text: &[u8], n: usize) -> bool {
     let mut line = [0u8; 45031];
     let k = fitting(n, text);
     let end = put_answer(&mut line, &text[..k]);
-    write_out(b"reader_corpus", &line[..end])
+    write_out(out, errors, b"reader_corpus", &line[..end])
 }
 
 // The next text and its answer.
-fn answer_one(block: &mut Block, text: &mut Room, from: Rest) -> Step {
-    let got = whole_text(block, from, text);
+fn answer_one(
+    input: &mut impl Read,
+    out: &mut impl Write,
+    errors: &mut impl Write,
+    block: &mut Block,
+    text: &mut Room,
+    from: Rest,
+) -> Step {
+    let got = whole_text(input, block, from, text);
     let Head::Length(n, rest) = got else {
         return Step::End;
     };
-    if !answer(text, n) {
+    if !answer(out, errors, text, n) {
         return Step::End;
     }
     Step::Answered(rest)
 }
 
 // All texts. Nothing says that the input ends, so the turns are counted.
-fn answer_all(block: &mut Block, text: &mut Room) {
+fn answer_all(
+    input: &mut impl Read,
+    out: &mut impl Write,
+    errors: &mut impl Write,
+    block: &mut Block,
+    text: &mut Room,
+) {
     let mut rest = Rest { at: 0, end: 0 };
     let mut turns = u64::MAX;
     'texts: while 0 < turns {
-        let done = answer_one(block, text, rest);
+        let done = answer_one(input, out, errors, block, text, rest);
         let Step::Answered(after) = done else {
             return;
         };
@@ -178,8 +194,14 @@ fn answer_all(block: &mut Block, text: &mut Room) {
     }
 }
 
-fn main() {
+fn main(rt: HostRuntime) {
     let mut block = [0u8; 65536];
     let mut text = [0u8; 32768];
-    answer_all(&mut block, &mut text);
+    answer_all(
+        &mut rt.stdin(),
+        &mut rt.stdout(),
+        &mut rt.stderr(),
+        &mut block,
+        &mut text,
+    );
 }

@@ -1,91 +1,76 @@
 // Reads a text from standard input and writes its report to standard output.
 // With the argument --progress a search that takes long is told of on standard error while it lasts, in one line that is taken away at its end.
 // Handed another argument, or where the input can't be read, it writes nothing to standard output, and a line to standard error. Where the report can't be written, a line there says so too.
+#![tactic(auto)]
+
 mod progress;
 
-use libc::STDERR_FILENO;
 use progress::search_showing;
 use reporting::{put_report, write_report};
+use std::env::Env;
+use std::io::{Read, Write};
+use streams::arguments::{argument, argument_count};
 use streams::output::write_out;
+use streams::told::tell;
 use streams::whole::{Got, read_in};
 
 // Writes the report of a text to standard output.
-fn report(text: &[u8]) {
+fn report(out: &mut impl Write, errors: &mut impl Write, text: &[u8]) {
     let mut first = [0u16; 4096];
     let mut second = [0u16; 4096];
     let mut sheet = [0u8; 40967];
-    let mut out = [0u8; 147457];
-    let n = write_report(text, &mut first, &mut second, &mut sheet, &mut out);
-    write_out(b"report", &out[..n]);
+    let mut written = [0u8; 147457];
+    let n = write_report(text, &mut first, &mut second, &mut sheet, &mut written);
+    write_out(out, errors, b"report", &written[..n]);
 }
 
 // The same, with progress.
-fn report_showing(text: &[u8]) {
+fn report_showing(out: &mut impl Write, errors: &mut impl Write, text: &[u8]) {
     let mut first = [0u16; 4096];
     let mut second = [0u16; 4096];
     let mut sheet = [0u8; 40967];
-    let mut out = [0u8; 147457];
-    let found = search_showing(text, &mut first, &mut second, &mut sheet);
-    let n = put_report(text, found, &sheet, &mut out);
-    write_out(b"report", &out[..n]);
+    let mut written = [0u8; 147457];
+    let found = search_showing(errors, text, &mut first, &mut second, &mut sheet);
+    let n = put_report(text, found, &sheet, &mut written);
+    write_out(out, errors, b"report", &written[..n]);
 }
 
 // Reads the text into its room, and reports.
-fn report_into(text: &mut [u8], showing: bool) {
-    let got = read_in(b"report", text);
-    let Got::Bytes(n) = got else {
+fn report_into(
+    input: &mut impl Read,
+    out: &mut impl Write,
+    errors: &mut impl Write,
+    text: &mut [u8],
+    showing: bool,
+) {
+    let Got::Bytes(n) = read_in(input, errors, b"report", text) else {
         return;
     };
     if showing {
-        report_showing(&text[..n]);
+        report_showing(out, errors, &text[..n]);
     } else {
-        report(&text[..n]);
+        report(out, errors, &text[..n]);
     }
-}
-
-fn tell_usage() {
-    io::write_all(STDERR_FILENO, b"usage: report [--progress] < TEXT\n");
-}
-
-// Whether two strings of bytes are the same.
-fn same(a: &[u8], b: &[u8]) -> bool {
-    if a.len() != b.len() {
-        return false;
-    }
-    let mut i: usize = 0;
-    'bytes: while i < a.len() {
-        if a[i] != b[i] {
-            return false;
-        }
-        i += 1;
-    }
-    true
 }
 
 // Whether the one argument asks for progress.
-fn asks_progress() -> bool {
-    let mut argument = io::buffer();
-    let n = os::arg(1, &mut argument);
-    same(&argument[..n], b"--progress")
+fn asks_progress(rt: &impl Env) -> bool {
+    let mut room = [0u8; 4096];
+    let n = argument(rt, 1, &mut room);
+    &room[..n] == b"--progress"
 }
 
 // The room has a byte more than the longest text, so a longer one is refused by the search itself.
-fn answer(showing: bool) {
+fn answer(input: &mut impl Read, out: &mut impl Write, errors: &mut impl Write, showing: bool) {
     let mut text = [0u8; 16385];
-    report_into(&mut text, showing);
+    report_into(input, out, errors, &mut text, showing);
 }
 
-fn main() {
-    let count = os::arg_count();
-    if count == 1 {
-        answer(false);
-        return;
+fn main(rt: HostRuntime) {
+    let mut errors = rt.stderr();
+    match argument_count(&rt) {
+        1 => answer(&mut rt.stdin(), &mut rt.stdout(), &mut errors, false),
+        2 if asks_progress(&rt) => answer(&mut rt.stdin(), &mut rt.stdout(), &mut errors, true),
+        _ => tell(&mut errors, b"usage: report [--progress] < TEXT\n"),
     }
-    if count == 2 {
-        if asks_progress() {
-            answer(true);
-            return;
-        }
-    }
-    tell_usage();
 }

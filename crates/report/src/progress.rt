@@ -4,11 +4,12 @@ ghost use Rattle.reporting.specs.working.Reporting.{Searched};
 ghost use Rattle.search.specs.Answers.{pause_for};
 ghost use Rattle.report.specs.working.Underway.{Underway};
 
-use libc::STDERR_FILENO;
 use reporting::{Sheet, Table};
 use reserving::{Reservation, reserve};
 use search::position::{Paused, Position, open};
 use search::search;
+use std::io::Write;
+use streams::told::tell;
 use verdicts::finding::Finding;
 
 // A portion has about so many trials: a search of fewer is over before anybody reads a line.
@@ -47,26 +48,18 @@ fn portions_of(text: &[u8]) -> Portions {
     }
 }
 
-// A number on standard error.
-fn show_number(n: usize) {
-    io::print_decimal(STDERR_FILENO, n as u64);
-}
-
-// How far the search is, in place of the line before.
-fn show(expanded: usize, met: usize, all: usize) {
-    io::write_all(STDERR_FILENO, b"\rreport: ");
-    show_number(expanded);
-    io::write_all(STDERR_FILENO, b" of at most ");
-    show_number(all);
-    io::write_all(STDERR_FILENO, b" states expanded, ");
-    show_number(met);
-    io::write_all(STDERR_FILENO, b" met");
+// How far the search is, in place of the line before. Where it can't be shown, the search goes on all the same.
+fn show(errors: &mut impl Write, expanded: usize, met: usize, all: usize) {
+    let _ = write!(
+        errors,
+        "\rreport: {expanded} of at most {all} states expanded, {met} met"
+    );
 }
 
 // The line is taken away, if one was shown: a portion was then counted.
-fn clear_line(left: usize) {
+fn clear_line(errors: &mut impl Write, left: usize) {
     if left < PORTIONS {
-        io::write_all(STDERR_FILENO, b"\r\x1b[K");
+        tell(errors, b"\r\x1b[K");
     }
 }
 
@@ -89,7 +82,13 @@ fn next_position(
 }
 
 // Portions up to the end. It is told how far the search is after each that did not come there.
-fn search_on(start: Position, text: &[u8], first: &mut Table, second: &mut Table) -> Position
+fn search_on(
+    errors: &mut impl Write,
+    start: Position,
+    text: &[u8],
+    first: &mut Table,
+    second: &mut Table,
+) -> Position
     requires { Underway text.now (pause_for start) first.old second.old }
     ensures { Underway text.now (pause_for result) first.new second.new }
 {
@@ -101,22 +100,23 @@ fn search_on(start: Position, text: &[u8], first: &mut Table, second: &mut Table
     'portions: while 0 < left {
         position = next_position(position, states, text, first, second);
         if position.broke {
-            clear_line(left);
+            clear_line(errors, left);
             return position;
         }
         if position.met <= position.expanded {
-            clear_line(left);
+            clear_line(errors, left);
             return position;
         }
-        show(position.expanded, position.met, all);
+        show(errors, position.expanded, position.met, all);
         left -= 1;
     }
-    clear_line(left);
+    clear_line(errors, left);
     position
 }
 
 // The search of a text, whose answer and sheet make its report. Where it is refused, a search in one go tells so.
 pub fn search_showing(
+    errors: &mut impl Write,
     text: &[u8],
     first: &mut Table,
     second: &mut Table,
@@ -128,7 +128,7 @@ pub fn search_showing(
     match opened {
         Paused::Refused(_, _) => search(text, first, second, sheet),
         Paused::At(start) => {
-            let position = search_on(start, text, first, second);
+            let position = search_on(errors, start, text, first, second);
             position.finish(text, first, second, sheet)
         }
     }

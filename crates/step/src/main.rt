@@ -3,6 +3,8 @@
 // Then bytes of standard input ask for moves: `f` forward, `b` back, `0` to the beginning. Every other byte is passed over.
 // A move is answered at once, with the record after it: `moved PLACE STATE`, `end PLACE STATE` where it leads nowhere, `foreign PLACE STATE` if the record were none of the trace.
 // Without two arguments, or where a file can't be read, it writes nothing to standard output, and a line to standard error. Where it can't write a line, one there says so too, and it ends.
+#![tactic(auto)]
+
 ghost use Rattle.std.specs.Prelude.{◌≡◌, ◌≤◌, length};
 ghost use Rattle.std.proofs.lemmas.List.Edits.{sets};
 ghost use Rattle.io.specs.Counts.{IsPrefixLen};
@@ -11,14 +13,18 @@ ghost use Rattle.player.specs.Answers.{wording_of, opening_for};
 ghost use Rattle.step.specs.Keys.{asked_by, record_then, GoesOn};
 ghost use Rattle.step.specs.Lines.{record_line, line_of, opening_line};
 
-use libc::STDERR_FILENO;
 use lines::put_numbers_line;
 use player::moves::open_player;
 use player::record::{Answer, Direction, Opened, Player};
 use player::values::move_of;
+use std::env::Env;
+use std::fs::Files;
+use std::io::{Read, Write};
+use streams::arguments::argument_count;
 use streams::files::read_argument;
 use streams::input::{Next, Rest, next_byte};
 use streams::output::write_out;
+use streams::told::tell;
 use streams::whole::Got;
 use wording::{Line, put_line};
 
@@ -93,21 +99,33 @@ fn put_opening(line: &mut Line, opened: Opened) -> usize
 }
 
 // Writes the line of an answer; whether it could.
-fn write_answer(answer: Answer, player: Player) -> bool {
+fn write_answer(
+    out: &mut impl Write,
+    errors: &mut impl Write,
+    answer: Answer,
+    player: Player,
+) -> bool {
     let mut line = [0u8; 64];
     let n = put_answer(&mut line, answer, player);
-    write_out(b"step", &line[..n])
+    write_out(out, errors, b"step", &line[..n])
 }
 
 // Writes the line of an opening; whether it could.
-fn write_opening(opened: Opened) -> bool {
+fn write_opening(out: &mut impl Write, errors: &mut impl Write, opened: Opened) -> bool {
     let mut line = [0u8; 64];
     let n = put_opening(&mut line, opened);
-    write_out(b"step", &line[..n])
+    write_out(out, errors, b"step", &line[..n])
 }
 
 // Makes the move that a byte asks for, if it asks for one, and writes its line.
-fn answer_byte(b: u8, player: Player, text: &[u8], sheet: &[u8]) -> Turn
+fn answer_byte(
+    out: &mut impl Write,
+    errors: &mut impl Write,
+    b: u8,
+    player: Player,
+    text: &[u8],
+    sheet: &[u8],
+) -> Turn
     ensures { GoesOn result (record_then (asked_by b) text.now sheet.now player) }
 {
     let asked = asked_by(b);
@@ -117,23 +135,31 @@ fn answer_byte(b: u8, player: Player, text: &[u8], sheet: &[u8]) -> Turn
     let moved = move_of(direction, player, text, sheet);
     let answer = moved.answer;
     let after = moved.player;
-    if !write_answer(answer, after) {
+    if !write_answer(out, errors, answer, after) {
         return Turn::Unwritten;
     }
     Turn::On(after)
 }
 
 // Answers the bytes of standard input as they come. Nothing says that the input ends, so they are counted.
-fn walk(block: &mut Block, first: Player, text: &[u8], sheet: &[u8]) {
+fn walk(
+    input: &mut impl Read,
+    out: &mut impl Write,
+    errors: &mut impl Write,
+    block: &mut Block,
+    first: Player,
+    text: &[u8],
+    sheet: &[u8],
+) {
     let mut player = first;
     let mut rest = Rest { at: 0, end: 0 };
     let mut left = MOST_BYTES;
     'bytes: while 0 < left {
-        let got = next_byte(block, rest);
+        let got = next_byte(input, block, rest);
         let Next::Byte(b, after) = got else {
             return;
         };
-        let turn = answer_byte(b, player, text, sheet);
+        let turn = answer_byte(out, errors, b, player, text, sheet);
         let Turn::On(next) = turn else {
             return;
         };
@@ -144,38 +170,57 @@ fn walk(block: &mut Block, first: Player, text: &[u8], sheet: &[u8]) {
 }
 
 // Opens a player, and walks where there is a trace.
-fn play(text: &[u8], sheet: &[u8]) {
+fn play(
+    input: &mut impl Read,
+    out: &mut impl Write,
+    errors: &mut impl Write,
+    text: &[u8],
+    sheet: &[u8],
+) {
     let opened = open_player(text, sheet);
-    if !write_opening(opened) {
+    if !write_opening(out, errors, opened) {
         return;
     }
     let Opened::At(player) = opened else {
         return;
     };
     let mut block = [0u8; 65536];
-    walk(&mut block, player, text, sheet);
+    walk(input, out, errors, &mut block, player, text, sheet);
 }
 
 // Reads the text and the sheet into their rooms, and plays.
-fn play_into(text: &mut [u8], sheet: &mut [u8]) {
-    let first = read_argument(b"step", 1, text);
-    let Got::Bytes(n) = first else {
+fn play_into<R: Env + Files>(
+    rt: &R,
+    input: &mut impl Read,
+    out: &mut impl Write,
+    errors: &mut impl Write,
+    text: &mut [u8],
+    sheet: &mut [u8],
+) {
+    let Got::Bytes(n) = read_argument(rt, errors, b"step", 1, text) else {
         return;
     };
-    let second = read_argument(b"step", 2, sheet);
-    let Got::Bytes(m) = second else {
+    let Got::Bytes(m) = read_argument(rt, errors, b"step", 2, sheet) else {
         return;
     };
-    play(&text[..n], &sheet[..m]);
+    play(input, out, errors, &text[..n], &sheet[..m]);
 }
 
 // The rooms have a byte more than the longest text and the longest sheet that the test takes, so it refuses a longer one itself.
-fn main() {
-    if os::arg_count() != 3 {
-        io::write_all(STDERR_FILENO, b"usage: step TEXT SHEET\n");
+fn main(rt: HostRuntime) {
+    let mut errors = rt.stderr();
+    if argument_count(&rt) != 3 {
+        tell(&mut errors, b"usage: step TEXT SHEET\n");
         return;
     }
     let mut text = [0u8; 16385];
     let mut sheet = [0u8; 65537];
-    play_into(&mut text, &mut sheet);
+    play_into(
+        &rt,
+        &mut rt.stdin(),
+        &mut rt.stdout(),
+        &mut errors,
+        &mut text,
+        &mut sheet,
+    );
 }

@@ -1,6 +1,8 @@
 // Reads texts, each with a state and a choice word, from standard input, and writes an answer line for each.
 // A text comes as its length in digits, a newline, its bytes and a newline; the state and the word each as digits and a newline. At anything else the input ends.
 // An answer is `refused NUMBER PLACE`, or `values`, the value and the passes of each expression in text order, `passes` and their sum.
+#![tactic(auto)]
+
 ghost use Rattle.std.specs.Prelude.{◌≡◌, ◌+◌, ◌*◌, ◌≤◌, length};
 ghost use Rattle.io.specs.Counts.{IsPrefixLen};
 
@@ -8,6 +10,7 @@ use evaluation::machine::value;
 use evaluation::numbers::count;
 use lines::{put, put_number, put_refusal};
 use reader::{Answer, Code, read};
+use std::io::{Read, Write};
 use streams::bounds::{at_most, fitting};
 use streams::input::{Head, Rest, text_length, whole_text};
 use streams::output::write_out;
@@ -164,11 +167,17 @@ fn put_answer(line: &mut Line, text: &[u8], point: Point) -> usize
 }
 
 // Writes the answer line for a text of n bytes, or for what there was room for; whether it could.
-fn answer(text: &[u8], n: usize, point: Point) -> bool {
+fn answer(
+    out: &mut impl Write,
+    errors: &mut impl Write,
+    text: &[u8],
+    n: usize,
+    point: Point,
+) -> bool {
     let mut line = [0u8; 86051];
     let k = fitting(n, text);
     let end = put_answer(&mut line, &text[..k], point);
-    write_out(b"value_corpus", &line[..end])
+    write_out(out, errors, b"value_corpus", &line[..end])
 }
 
 // A state is below 4,096 and a word below 256; greater numbers are cut.
@@ -180,31 +189,44 @@ fn point_at(state: usize, word: usize) -> Point {
 }
 
 // The next text with its state and word, and the answer.
-fn answer_one(block: &mut Block, text: &mut Room, from: Rest) -> Step {
-    let got = whole_text(block, from, text);
+fn answer_one(
+    input: &mut impl Read,
+    out: &mut impl Write,
+    errors: &mut impl Write,
+    block: &mut Block,
+    text: &mut Room,
+    from: Rest,
+) -> Step {
+    let got = whole_text(input, block, from, text);
     let Head::Length(n, behind) = got else {
         return Step::End;
     };
-    let first = text_length(block, behind);
+    let first = text_length(input, block, behind);
     let Head::Length(state, between) = first else {
         return Step::End;
     };
-    let second = text_length(block, between);
+    let second = text_length(input, block, between);
     let Head::Length(word, rest) = second else {
         return Step::End;
     };
-    if !answer(text, n, point_at(state, word)) {
+    if !answer(out, errors, text, n, point_at(state, word)) {
         return Step::End;
     }
     Step::Answered(rest)
 }
 
 // All texts. Nothing says that the input ends, so the turns are counted.
-fn answer_all(block: &mut Block, text: &mut Room) {
+fn answer_all(
+    input: &mut impl Read,
+    out: &mut impl Write,
+    errors: &mut impl Write,
+    block: &mut Block,
+    text: &mut Room,
+) {
     let mut rest = Rest { at: 0, end: 0 };
     let mut turns = u64::MAX;
     'texts: while 0 < turns {
-        let done = answer_one(block, text, rest);
+        let done = answer_one(input, out, errors, block, text, rest);
         let Step::Answered(after) = done else {
             return;
         };
@@ -213,8 +235,14 @@ fn answer_all(block: &mut Block, text: &mut Room) {
     }
 }
 
-fn main() {
+fn main(rt: HostRuntime) {
     let mut block = [0u8; 65536];
     let mut text = [0u8; 32768];
-    answer_all(&mut block, &mut text);
+    answer_all(
+        &mut rt.stdin(),
+        &mut rt.stdout(),
+        &mut rt.stderr(),
+        &mut block,
+        &mut text,
+    );
 }
