@@ -76,14 +76,12 @@ fn answer_all(
     sheet: &mut Sheet,
 ) {
     let mut rest = Rest { at: 0, end: 0 };
-    let mut turns = u64::MAX;
-    'pairs: while 0 < turns {
+    'pairs: for _ in 0..u64::MAX {
         let done = answer_one(input, out, errors, block, text, sheet, rest);
         let Step::Answered(after) = done else {
             return;
         };
         rest = after;
-        turns -= 1;
     }
 }
 

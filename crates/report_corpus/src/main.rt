@@ -66,14 +66,12 @@ fn report_all(
     text: &mut Room,
 ) {
     let mut rest = Rest { at: 0, end: 0 };
-    let mut turns = u64::MAX;
-    'texts: while 0 < turns {
+    'texts: for _ in 0..u64::MAX {
         let done = report_one(input, out, errors, block, text, rest);
         let Step::Reported(after) = done else {
             return;
         };
         rest = after;
-        turns -= 1;
     }
 }
 

@@ -153,8 +153,7 @@ fn walk(
 ) {
     let mut player = first;
     let mut rest = Rest { at: 0, end: 0 };
-    let mut left = MOST_BYTES;
-    'bytes: while 0 < left {
+    'bytes: for _ in 0..MOST_BYTES {
         let got = next_byte(input, block, rest);
         let Next::Byte(b, after) = got else {
             return;
@@ -165,7 +164,6 @@ fn walk(
         };
         player = next;
         rest = after;
-        left -= 1;
     }
 }
 

@@ -224,14 +224,12 @@ fn answer_all(
     text: &mut Room,
 ) {
     let mut rest = Rest { at: 0, end: 0 };
-    let mut turns = u64::MAX;
-    'texts: while 0 < turns {
+    'texts: for _ in 0..u64::MAX {
         let done = answer_one(input, out, errors, block, text, rest);
         let Step::Answered(after) = done else {
             return;
         };
         rest = after;
-        turns -= 1;
     }
 }
 
