@@ -10,6 +10,7 @@ pub mod BurstLaws
 pub mod StepRecords
 pub mod SurveysTold
 pub mod SurveyNumbers
+pub mod Surveyed
 pub mod CountsTold
 pub mod CountsRoom
 pub mod SurveyCases

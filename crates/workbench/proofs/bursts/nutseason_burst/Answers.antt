@@ -1,10 +1,6 @@
--- `nutseason_burst` meets its contract: the number of what `survey` replies, whose answers are bounded.
-use mathlib.Core.Path.{sym, subst}
-use Rattle.windows.specs.declared.record.Reply.{Reply}
-use Rattle.windows.specs.Questions.{wording_of}
-use Rattle.windows.specs.Promises.{Bounded}
-use Rattle.windows.proofs.SurveyNumbers.{surveys_bounded}
+-- `nutseason_burst` meets its contract: the number of what `survey` replies, by the law of its calls.
+use Rattle.windows.proofs.Surveyed.{calls_survey}
 use Rattle.workbench.proofs.bursts.nutseason_burst.Goals as goal
 
 pub reply_number-requires : goal.reply_number-requires
-reply_number-requires c = subst (λ (r : Reply). Bounded (wording_of r.answer)) (sym c.survey-reply.ensures.1) (surveys_bounded _ _ _ _)
+reply_number-requires c = (calls_survey _ _ _ _ _ _ c.survey-reply.ensures).0
