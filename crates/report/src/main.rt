@@ -57,7 +57,7 @@ fn report_into(
 fn asks_progress(rt: &impl Env) -> bool {
     let mut room = [0u8; 4096];
     let n = argument(rt, 1, &mut room);
-    &room[..n] == b"--progress"
+    &room[..n] == b"--progress".as_slice()
 }
 
 // The room has a byte more than the longest text, so a longer one is refused by the search itself.

@@ -1,5 +1,4 @@
 -- `answer_byte` meets its contract: it goes on from the record after what the byte asks for.
-use borrow.Author.Rules.{rules}
 use Rattle.step.proofs.KeysAsked.{stays_on, moves-on}
 use Rattle.step.proofs.answer_byte.Goals as goal
 

@@ -1,7 +1,6 @@
 -- `put_answer` meets its contract: each arm puts the line of the answer that it matched.
 use mathlib.Core.Path.{refl}
 use native.Mathlib.Omega.{arith}
-use borrow.Author.Rules.{rules}
 use Rattle.notation.specs.Bytes.{bytes}
 use Rattle.player.specs.declared.record.Answer.TheVariants.{Moved, AtEnd, Foreign, Told}
 use Rattle.player.specs.Answers.{wording_of}

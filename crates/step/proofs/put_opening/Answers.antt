@@ -1,7 +1,6 @@
 -- `put_opening` meets its contract: the line of the record, or of the test's outcome.
 use mathlib.Core.Path.{refl}
 use native.Mathlib.Omega.{arith}
-use borrow.Author.Rules.{rules}
 use Rattle.notation.specs.Bytes.{bytes}
 use Rattle.player.specs.declared.record.Opened.TheVariants.{At, Told}
 use Rattle.player.specs.Answers.{opening_for}

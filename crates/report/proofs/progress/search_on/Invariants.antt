@@ -1,0 +1,10 @@
+-- `search_on` meets its contract: after each portion the search is underway.
+use Rattle.search.specs.Answers.{pause_for}
+use Rattle.report.specs.working.Underway.{Underway}
+use Rattle.report.proofs.progress.search_on.Given as goal
+
+abbrev pub invariant-portions : goal.invariant-portions
+invariant-portions g l = Underway l.text (pause_for l.position) l.first l.second
+
+abbrev pub decreases-portions : goal.decreases-portions
+decreases-portions g l = l.left
