@@ -6,5 +6,7 @@ pub mod bounds;
 pub mod files;
 pub mod input;
 pub mod output;
+#[cfg(test)]
+mod tests;
 pub mod told;
 pub mod whole;
