@@ -1,5 +1,5 @@
 // Standard output, and what is said where it can't be written.
-ghost use Rattle.std.specs.Prelude.{IsTrue};
+ghost use Rattle.std.specs.Prelude.{◌≡◌, IsTrue};
 ghost use Rattle.std.specs.Io.KnownBytes.{Appends};
 
 use crate::told::tell_failure;
@@ -12,7 +12,8 @@ pub fn write_out<O: Write>(
     program: &[u8],
     bytes: &[u8],
 ) -> bool
-    ensures { IsTrue result → Appends (O.contents out.old) (O.contents out.new) bytes.now }
+    ensures written { IsTrue result → Appends (O.contents out.old) (O.contents out.new) bytes.now }
+    ensures silent { IsTrue result → errors.new ≡ errors.old }
 {
     match out.write_all(bytes) {
         Ok(()) => true,
