@@ -5,7 +5,6 @@ use Rattle.verdicts.specs.declared.finding.Finding.TheVariants.{Safe, Void, Unsa
 use Rattle.verdicts.specs.Answers.{wording_of}
 use Rattle.workbench.specs.Numbers.{search_number}
 use Rattle.workbench.proofs.Told.{safe-fits, void-fits, unsafe_fits, place-fits, number_of}
-use borrow.Author.Rules.{rules}
 use Rattle.workbench.proofs.finding_number.Goals as goal
 
 pub verdict_number-requires : goal.verdict_number-requires

@@ -5,7 +5,6 @@ use Rattle.reserving.specs.Answers.{wording_of}
 use Rattle.reserving.specs.Promises.{Bounded}
 use Rattle.reserving.proofs.Reserved.{reservations_bounded}
 use Rattle.workbench.specs.Needs.{told_of}
-use borrow.Author.Rules.{rules}
 use Rattle.workbench.proofs.nutseason_reserve.Goals as goal
 
 pub reservation_number-requires : goal.reservation_number-requires

@@ -5,7 +5,6 @@ use Rattle.verdicts.specs.Answers.{wording_of}
 use Rattle.pauses.specs.Promises.{FinishBounded}
 use Rattle.workbench.specs.Numbers.{search_number}
 use Rattle.workbench.proofs.Told.{search_bounded}
-use borrow.Author.Rules.{rules}
 use Rattle.workbench.proofs.nutseason_search.Goals as goal
 
 pub finding_number-requires : goal.finding_number-requires

@@ -5,7 +5,6 @@ use Rattle.windows.specs.Questions.{wording_of}
 use Rattle.windows.specs.declared.record.Answer.TheVariants.{Steps, Burst, Refused, Told}
 use Rattle.workbench.specs.Bursts.{survey_number}
 use Rattle.workbench.proofs.BurstsTold.{steps_fit_lem, burst-fits, refusal-fits, outcome_fits, number_as}
-use borrow.Author.Rules.{rules}
 use Rattle.workbench.proofs.bursts.answer_number.Goals as goal
 
 pub pack-requires : goal.pack-requires

@@ -1,6 +1,5 @@
 -- `counts_number` meets its contract: only after an answer with the number of steps are the counts put.
 use Rattle.workbench.proofs.BurstsTold.{bounded_as, few-entries, counts-put, burst_left, refusal_left, outcome_left, told_both}
-use borrow.Author.Rules.{rules}
 use Rattle.workbench.proofs.bursts.counts_number.Goals as goal
 
 pub returns-then-entries-lt16 : goal.returns-then-entries-lt16

@@ -1,10 +1,6 @@
 -- `put_counts` meets its contract: the counts before i stand in the list.
-use mathlib.Core.Path.{◌≡◌, refl}
-use Prim.Native.Nat.{◌-◌, ◌≤◌}
+use mathlib.Core.Path.{refl}
 use native.Mathlib.Omega.{arith}
-use borrow.Author.Rules.{rules}
-use lib.ListN.{length, take}
-use lib.Seq.{sets}
 use Rattle.workbench.proofs.BurstsTold.{put_next, put-length, put_in, all-put}
 use Rattle.workbench.proofs.bursts.put_counts.Goals as goal
 

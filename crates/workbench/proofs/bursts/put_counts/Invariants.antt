@@ -1,11 +1,8 @@
 -- `put_counts` meets its contract: the counts before i stand in the list.
-use mathlib.Core.Path.{◌≡◌, refl}
+use mathlib.Core.Path.{◌≡◌}
 use Prim.Native.Nat.{◌-◌, ◌≤◌}
-use native.Mathlib.Omega.{arith}
-use borrow.Author.Rules.{rules}
 use lib.ListN.{length, take}
 use lib.Seq.{sets}
-use Rattle.workbench.proofs.BurstsTold.{put_next, put-length, put_in, all-put}
 use Rattle.workbench.proofs.bursts.put_counts.Given as goal
 
 abbrev pub invariant-loop-i : goal.invariant-loop-i

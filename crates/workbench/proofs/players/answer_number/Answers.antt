@@ -4,7 +4,6 @@ use Rattle.player.specs.Answers.{wording_of}
 use Rattle.player.specs.declared.record.Answer.TheVariants.{Moved, AtEnd, Foreign, Told}
 use Rattle.workbench.specs.Players.{answer_number}
 use Rattle.workbench.proofs.PlayersTold.{answer-fits, answer_of_lem}
-use borrow.Author.Rules.{rules}
 use Rattle.workbench.proofs.players.answer_number.Goals as goal
 
 pub outcome_number-requires : goal.outcome_number-requires

@@ -1,6 +1,5 @@
 -- `moved_in` meets its contract: what is told of the move of the record that the list has.
 use Rattle.workbench.proofs.PlayersTold.{opened_bounded, moved_bounded, short-move, whole-move}
-use borrow.Author.Rules.{rules}
 use Rattle.workbench.proofs.players.moved_in.Goals as goal
 
 pub opened_number-requires : goal.opened_number-requires
@@ -12,7 +11,7 @@ returns-then-entries-lt2 c =
     let opened = c.open_player.ensures in
     let told = c.opened_number.ensures in
     let t = short-move _ _ _ _ _ _ c.if-entries-lt2.true _ opened.0 told.value told.left in
-    record { value = t.0; left = t.1; bytes = opened.1; }
+    record { value = t.0; left = t.1; bytes = opened.1 }
 
 pub moved_number-requires : goal.moved_number-requires
 moved_number-requires c =
@@ -23,4 +22,4 @@ returns c =
     let moved = c.move_of.ensures in
     let told = c.moved_number.ensures in
     let t = whole-move _ _ _ _ _ _ c.if-entries-lt2.false _ moved.0 told.value told.left in
-    record { value = t.0; left = t.1; bytes = moved.1; }
+    record { value = t.0; left = t.1; bytes = moved.1 }

@@ -4,7 +4,6 @@ use Rattle.player.specs.declared.record.Opened.{Opened}
 use Rattle.player.specs.Answers.{opening_for}
 use Rattle.workbench.specs.Players.{opening_told}
 use Rattle.workbench.proofs.PlayersTold.{opened_bounded}
-use borrow.Author.Rules.{rules}
 use Rattle.workbench.proofs.players.nutseason_player.Goals as goal
 
 pub opened_number-requires : goal.opened_number-requires

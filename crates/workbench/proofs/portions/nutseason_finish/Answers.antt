@@ -9,7 +9,6 @@ use Rattle.pauses.proofs.AnyCalls.{pauses_bounded}
 use Rattle.search.specs.Answers.{pause_for}
 use Rattle.workbench.specs.Numbers.{search_number}
 use Rattle.workbench.proofs.PositionsTold.{finish-same}
-use borrow.Author.Rules.{rules}
 use Rattle.workbench.proofs.portions.nutseason_finish.Goals as goal
 
 pub finding_number-requires : goal.finding_number-requires

@@ -5,7 +5,6 @@ use Rattle.questions.specs.Promises.{Bounded}
 use Rattle.questions.specs.declared.reply.Reply.{Reply}
 use Rattle.pauses.proofs.MetRefusals.{met_bounded}
 use Rattle.workbench.specs.Positions.{reply_number}
-use borrow.Author.Rules.{rules}
 use Rattle.workbench.proofs.portions.nutseason_met.Goals as goal
 
 pub reply_number-requires : goal.reply_number-requires

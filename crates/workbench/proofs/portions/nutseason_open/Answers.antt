@@ -5,7 +5,6 @@ use Rattle.pauses.specs.Promises.{Bounded}
 use Rattle.pauses.proofs.AnyCalls.{pauses_bounded}
 use Rattle.pauses.specs.working.Pausing.{nothing_left}
 use Rattle.workbench.specs.Positions.{paused_number}
-use borrow.Author.Rules.{rules}
 use Rattle.workbench.proofs.portions.nutseason_open.Goals as goal
 
 pub paused_number-requires : goal.paused_number-requires

@@ -8,7 +8,6 @@ use Rattle.pauses.proofs.AnyCalls.{pauses_bounded}
 use Rattle.search.specs.Answers.{pause_for}
 use Rattle.workbench.specs.Positions.{paused_number}
 use Rattle.workbench.proofs.PositionsTold.{portion-same}
-use borrow.Author.Rules.{rules}
 use Rattle.workbench.proofs.portions.nutseason_portion.Goals as goal
 
 pub paused_number-requires : goal.paused_number-requires

@@ -5,7 +5,6 @@ use Rattle.questions.specs.Promises.{Bounded}
 use Rattle.questions.specs.declared.reply.Reply.{Reply}
 use Rattle.questions.proofs.ReachedTells.{replies_bounded}
 use Rattle.workbench.specs.Positions.{reply_number}
-use borrow.Author.Rules.{rules}
 use Rattle.workbench.proofs.portions.nutseason_reached.Goals as goal
 
 pub reply_number-requires : goal.reply_number-requires

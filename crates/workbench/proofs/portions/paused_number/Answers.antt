@@ -3,7 +3,6 @@ use Rattle.search.specs.Answers.{wording_of}
 use Rattle.search.specs.declared.position.Paused.TheVariants.{At, Refused}
 use Rattle.workbench.specs.Positions.{paused_number}
 use Rattle.workbench.proofs.PositionsTold.{position-fits, place-fits, number_of}
-use borrow.Author.Rules.{rules}
 use Rattle.workbench.proofs.portions.paused_number.Goals as goal
 
 pub position_number-requires : goal.position_number-requires

@@ -2,7 +2,6 @@
 use mathlib.Core.Path.{◌∙◌}
 use native.Mathlib.Omega.{arith}
 use Rattle.workbench.proofs.PositionsTold.{number-broke, number-ended, number-paused}
-use borrow.Author.Rules.{rules}
 use Rattle.workbench.proofs.portions.position_number.Goals as goal
 
 pub returns-then-broke : goal.returns-then-broke

@@ -4,7 +4,6 @@ use Rattle.questions.specs.Answers.{wording_of}
 use Rattle.questions.specs.declared.reply.Reply.TheVariants.{Yes, No, Told}
 use Rattle.workbench.specs.Positions.{reply_number}
 use Rattle.workbench.proofs.PositionsTold.{outcome_fits, reply_of}
-use borrow.Author.Rules.{rules}
 use Rattle.workbench.proofs.portions.reply_number.Goals as goal
 
 pub outcome_number-requires : goal.outcome_number-requires
