@@ -25,8 +25,7 @@ fn put_settings(out: &mut [u8], at: usize, counts: &Counts, settings: usize) -> 
     let mut end = at;
     'settings: for j in 0..settings {
         let n = count(counts[j]);
-        let has_members = 0 < n;
-        if has_members {
+        if 0 < n {
             end = put_setting(out, end, j, n);
         }
     }

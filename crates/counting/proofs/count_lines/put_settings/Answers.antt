@@ -3,7 +3,7 @@ use native.Mathlib.Omega.{arith}
 use Rattle.lines.proofs.Stores.{keeps}
 use Rattle.counting.proofs.TableLines.{lines-begun, lines-done, line_none, line-room, line-put}
 use Rattle.counting.proofs.count_lines.put_settings.Goals as goal
-use Rattle.counting.proofs.count_lines.put_settings.Goals.{then-has_members, else-has_members}
+use Rattle.counting.proofs.count_lines.put_settings.Goals.{then-n-gt0, else-n-gt0}
 
 pub settings-init : goal.settings-init
 settings-init c =
@@ -19,18 +19,18 @@ bounds-counts-j c =
 
 pub put_setting-end-requires : goal.put_setting-end-requires
 put_setting-end-requires c =
-    line-room c.args.counts.now c.settings.j _ c.settings.invariant.1 c.count-n.ensures c.if-has_members.true
+    line-room c.args.counts.now c.settings.j _ c.settings.invariant.1 c.count-n.ensures c.if-n-gt0.true
     c.args.settings (omega arith) c.requires.1
 
 pub settings-preserved : goal.settings-preserved
-settings-preserved c = elim c.if-has_members.branch [
-  | then-has_members w ↦ (
+settings-preserved c = elim c.if-n-gt0.branch [
+  | then-n-gt0 w ↦ (
     omega arith,
-    line-put c.args.counts.now c.settings.j _ c.settings.invariant.1 c.count-n.ensures w.if-has_members.true w.put_setting-end.ensures w.out-is w.end-is,
+    line-put c.args.counts.now c.settings.j _ c.settings.invariant.1 c.count-n.ensures w.if-n-gt0.true w.put_setting-end.ensures w.out-is w.end-is,
   )
-  | else-has_members w ↦ (
+  | else-n-gt0 w ↦ (
     omega arith,
-    line_none c.args.counts.now c.settings.j _ c.settings.invariant.1 c.count-n.ensures w.if-has_members.false w.out-is w.end-is,
+    line_none c.args.counts.now c.settings.j _ c.settings.invariant.1 c.count-n.ensures w.if-n-gt0.false w.out-is w.end-is,
   )
 ]
 
