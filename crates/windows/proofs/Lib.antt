@@ -1,4 +1,5 @@
 -- Laws of windows, by subject.
+pub mod Walks
 pub mod FirstValues
 pub mod Occurrences
 pub mod EachCounted
@@ -11,6 +12,7 @@ pub mod StepRecords
 pub mod SurveysTold
 pub mod SurveyNumbers
 pub mod Surveyed
+pub mod Replies
 pub mod CountsTold
 pub mod CountsRoom
 pub mod SurveyCases
