@@ -1,5 +1,5 @@
 -- A record by value that is lent from a local: one walk for every function `fn f(player: Player, text: &[u8], sheet: &[u8]) -> Move { let mut lent = player; let answer = g(&mut lent, text, sheet); Move { player: lent, answer: answer } }`.
--- The walk knows of g only that it meets the contract of a record that is lent, `On move` of `Lent.antt`. So it holds of any key g and any `move`; a function's own proof is `by_value` at its own two.
+-- The walk knows of g only that it meets the contract of a record that is lent, `On move` of `Lent.antt`. So it holds of any key g and any `move`; a function's own proof is `by_value_as` at its own two.
 -- The local is lent to g for a lifetime of the call, and comes back moved.
 -- Assumes nothing.
 use mathlib.Core.Path.{◌≡◌, refl, subst}
@@ -185,3 +185,8 @@ by_value {𝓤 = 𝓤} 𝓛 moves 𝓣 g known =
     (Value 𝓤 moves) (WpFn 𝓤 𝓛.H 𝓣.C 𝓣.Λ (code_of g)) (WpFn-mono 𝓤 𝓛.H 𝓛.laws 𝓣 (code_of g))
     (walked 𝓛 f.ended stayed (Value 𝓤 moves) (WpFn 𝓤 𝓛.H 𝓣.C 𝓣.Λ (code_of g)) (λ κs. (LL.vals P.the_type P'.the_laws, (shr_slice_vals, (shr_slice_vals, tt)))) (λ κs. (LL.tells P.the_type P'.the_laws, (shr_slice_Tells (named 0) κs.0 u8, (shr_slice_Tells (named 1) κs.1.0 u8, tt))))
     (λ κs qs bounds a _ are. via 𝓤 _ (fst∗ 𝓤 _ (emp 𝓤)) (walk 𝓛 moves κs.0 κs.1.0 qs.0 qs.1.0 a.0 a.1.0 a.1.1.0 𝓣 g known are.0 are.1.0 are.1.1.0)))
+
+-- the same at a contract whose clauses are these, as a function's own
+pub by_value_as : {M : Type 1} {𝓤 : Ura M} (𝓛 : Logic 𝓤) (moves : Moves) (c : Clauses 𝓤 f.ended) → Value 𝓤 moves ≡ c → (𝓣 : Tables 𝓤 𝓛.H) (g : Callee) → Triple 𝓤 (𝓣.C g) (OnOf 𝓛 moves)
+    → Meets 𝓛 f.signature (WpFn 𝓤 𝓛.H 𝓣.C 𝓣.Λ (code_of g)) (closing 𝓛 f.ended c)
+by_value_as {𝓤 = 𝓤} 𝓛 moves c same 𝓣 g known = subst (λ (d : Clauses 𝓤 f.ended). Meets 𝓛 f.signature (WpFn 𝓤 𝓛.H 𝓣.C 𝓣.Λ (code_of g)) (closing 𝓛 f.ended d)) same (by_value 𝓛 moves 𝓣 g known)

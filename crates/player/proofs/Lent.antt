@@ -1,7 +1,7 @@
 -- A lent record that a move changes in place: one walk for every function `fn f(player: &mut Player, text: &[u8], sheet: &[u8]) -> Answer { let moved = g(text, sheet, *player); *player = moved.player; moved.answer }`.
--- The walk knows of g only that it meets `From move`: its result is `move text sheet player`. So it holds of any key g and any `move`; a function's own proof is `lent` at its own two.
+-- The walk knows of g only that it meets `From move`: its result is `move text sheet player`. So it holds of any key g and any `move`; a function's own proof is `lent_as` at its own two.
 -- Assumes nothing.
-use mathlib.Core.Path.{◌≡◌, refl, ap}
+use mathlib.Core.Path.{◌≡◌, refl, ap, subst}
 use Prim.Native.Nat.{ℕ}
 use mathlib.Core.List.{[], ◌∷◌, List}
 use lib.ListN.{length}
@@ -179,3 +179,8 @@ lent {𝓤 = 𝓤} 𝓛 moves 𝓣 g known =
     (walked 𝓛 on.ended stayed (On 𝓤 moves) (WpFn 𝓤 𝓛.H 𝓣.C 𝓣.Λ (code_of g)) (λ κs. (mut_vals, (shr_slice_vals, (shr_slice_vals, tt))))
     (λ κs. (mut_Tells (named 0) κs.0 P.the_row, (shr_slice_Tells (named 1) κs.1.0 u8, (shr_slice_Tells (named 2) κs.1.1.0 u8, tt))))
     (λ κs qs bounds a _ are. via 𝓤 _ (fst∗ 𝓤 _ (emp 𝓤)) (walk 𝓛 moves κs.0 κs.1.0 κs.1.1.0 qs.0 qs.1.0 qs.1.1.0 a.0.ref_ptr.0 a.0.ref_ptr.1 a.0.ghost_name a.0.now a.1.0 a.1.1.0 𝓣.C 𝓣.Λ (fm_of 𝓤 𝓛.H 𝓛.laws 𝓣) g known are.1.0 are.1.1.0)))
+
+-- the same at a contract whose clauses are these, as a function's own
+pub lent_as : {M : Type 1} {𝓤 : Ura M} (𝓛 : Logic 𝓤) (moves : Moves) (c : Clauses 𝓤 on.ended) → On 𝓤 moves ≡ c → (𝓣 : Tables 𝓤 𝓛.H) (g : Callee) → Triple 𝓤 (𝓣.C g) (FromOf 𝓛 moves)
+    → Meets 𝓛 on.signature (WpFn 𝓤 𝓛.H 𝓣.C 𝓣.Λ (code_of g)) (closing 𝓛 on.ended c)
+lent_as {𝓤 = 𝓤} 𝓛 moves c same 𝓣 g known = subst (λ (d : Clauses 𝓤 on.ended). Meets 𝓛 on.signature (WpFn 𝓤 𝓛.H 𝓣.C 𝓣.Λ (code_of g)) (closing 𝓛 on.ended d)) same (lent 𝓛 moves 𝓣 g known)
