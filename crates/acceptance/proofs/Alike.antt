@@ -3,19 +3,22 @@
 use mathlib.Core.Path.{◌≡◌, refl, sym, ap, ap₂, ◌∙◌}
 use mathlib.Core.Bool.{Bool, not, ◌&&◌}
 use mathlib.Core.List.{List}
-use Prim.Native.Nat.{ℕ, zero, suc, ◌+◌, ◌^◌, ◌<◌}
+use Prim.Native.Nat.{ℕ, zero, suc, ◌+◌, ◌-◌, ◌^◌, ◌<◌}
 use native.Mathlib.Omega.{arith}
 use lib.Dec.{eqb}
+use lib.ListN.{length, take, drop}
 use Rattle.meaning.specs.OneRow.{last_of}
 use Rattle.meaning.specs.Evidence.{in_map}
 use Rattle.meaning.specs.working.Conditions.{every, implies, words_stay, closed_at, test_void, test_a, test_b, test_c, test_e}
-use Rattle.sheets.specs.Sheets.{System, header_length, map_length}
+use Rattle.sheets.specs.Sheets.{System, header_length}
 use Rattle.sheets.specs.SheetTexts.{two_at, step_in}
-use Rattle.sheets.specs.working.SheetReading.{map_in, steps_in, step_count, sheet_of, StepsStand}
+use Rattle.sheets.specs.working.SheetReading.{steps_in, step_count, sheet_of, StepsStand}
 use Rattle.conditions.specs.working.Judging.{passed_answer, map_answer, walk, trace_answer, outcome_of}
 use Rattle.sheets.specs.working.Shapes.{shape_of}
 use Rattle.sheets.specs.declared.shapes.Shape.{Shape}
-use Rattle.sheets.specs.declared.shapes.Shape.TheVariants.{Bad, Map, Trace}
+use Rattle.sheets.specs.declared.shapes.Shape.TheVariants.{Map, Trace}
+use Rattle.std.specs.Prelude.{Result, Ok, Err}
+use Rattle.refusals.specs.declared.Refusal.{Refusal}
 use Rattle.sheets.proofs.SheetLaws.{step-parts}
 use Rattle.sheets.proofs.StarCounts.{sheet-alike}
 use Rattle.acceptance.proofs.TestWhole.{whole-refused, whole-map, whole-trace, trace-stands}
@@ -94,14 +97,14 @@ module _ (bits kind : ℕ) (counts : List ℕ) (commands : ℕ) (f f' : ℕ → 
         same : shape_of (sheet_of M b) ≡ shape_of (sheet_of N b)
         same = ap shape_of (sheet-alike bits kind counts commands f f' stars-alike b)
 
-        go : (x : Shape) → x ≡ shape_of (sheet_of M b) → outcome_of M b ≡ outcome_of N b
-        go (Bad k i) e = sym (whole-refused M b k i e) ∙ whole-refused N b k i (e ∙ same)
-        go Map e =
-            sym (whole-map M b e (map_length states) refl _ refl)
-            ∙ map-alike (map_in b (at + 6) (map_length states))
-            ∙ whole-map N b (e ∙ same) (map_length states) refl _ refl
-        go Trace e =
+        go : (x : Result Shape Refusal) → x ≡ shape_of (sheet_of M b) → outcome_of M b ≡ outcome_of N b
+        go (Err r) e = sym (whole-refused M b r e) ∙ whole-refused N b r (e ∙ same)
+        go (Ok Map) e =
+            sym (whole-map M b e _ refl)
+            ∙ ap Ok (map-alike (take (length b - (at + 6)) (drop (at + 6) b)))
+            ∙ whole-map N b (e ∙ same) _ refl
+        go (Ok Trace) e =
             let S = trace-stands M b e in
             sym (whole-trace M b e _ refl)
-            ∙ trace-alike (two_at b (at + 6)) (at + 8) (step_count b (at + 8)) S.start S.steps
+            ∙ ap Ok (trace-alike (two_at b (at + 6)) (at + 8) (step_count b (at + 8)) S.start S.steps)
             ∙ whole-trace N b (e ∙ same) _ refl

@@ -17,12 +17,16 @@ use Rattle.meaning.specs.Evidence.{Verdict, safe_by, void_by, unsafe_by, Kind, s
 use Rattle.meaning.proofs.Parametric.{claim}
 use Rattle.sheets.specs.Sheets.{system_of}
 use Rattle.sheets.specs.SheetTexts.{AreBytes}
-use Rattle.conditions.specs.Outcomes.{Wording, words, letter, returned, wording_of}
+use Rattle.conditions.specs.Outcomes.{Wording, words, letter, returned, Tested, wording_of}
 use Rattle.acceptance.specs.Promises.{answer_to, TestTells, PassTells, LetsPass, TextComesFirst, TestedWithoutCase, ClaimOfTest}
 use Rattle.conditions.specs.working.Judging.{outcome_of}
 use Rattle.acceptance.specs.working.Test.{test_in, test_of}
 use Rattle.conditions.specs.declared.outcome.Outcome.{Outcome}
-use Rattle.conditions.specs.declared.outcome.Outcome.TheVariants.{SafeHolds, Void, TraceHolds, FailsA, FailsB, FailsC, FailsD, FailsE, FailsF, Refused}
+use Rattle.std.specs.Prelude.{Ok, Err}
+use Rattle.refusals.specs.Reasons.{number_of, refusal_of}
+use Rattle.refusals.proofs.Numbers.{reason_told}
+use Rattle.refusals.proofs.Texts.{text_reason}
+use Rattle.conditions.specs.declared.outcome.Outcome.TheVariants.{SafeHolds, Void, TraceHolds, FailsA, FailsB, FailsC, FailsD, FailsE, FailsF}
 use Rattle.acceptance.proofs.TestMeans.{all-given}
 
 -- No two outcomes are called the same: the first letter tells the outcome.
@@ -33,26 +37,26 @@ named x =
     (cond (eqb x 116) TraceHolds
     (cond (eqb x 65) FailsA (cond (eqb x 66) FailsB (cond (eqb x 67) FailsC (cond (eqb x 68) FailsD (cond (eqb x 69) FailsE FailsF)))))))
 
-abbrev called_so : Wording → Outcome
-called_so (words s) = named (get_or (bytes s) 0 0)
-called_so (letter s) = named (get_or (bytes s) 0 0)
-called_so (returned n p) = Refused n p
+abbrev called_so : Wording → Tested
+called_so (words s) = Ok (named (get_or (bytes s) 0 0))
+called_so (letter s) = Ok (named (get_or (bytes s) 0 0))
+called_so (returned n p) = Err (refusal_of n p)
 
-called : (o : Outcome) → called_so (wording_of o) ≡ o
+pub called : (t : Tested) → called_so (wording_of t) ≡ t
 unfolding wording_of bytes
-called SafeHolds = refl
-called Void = refl
-called TraceHolds = refl
-called FailsA = refl
-called FailsB = refl
-called FailsC = refl
-called FailsD = refl
-called FailsE = refl
-called FailsF = refl
-called (Refused n p) = refl
+called (Ok SafeHolds) = refl
+called (Ok Void) = refl
+called (Ok TraceHolds) = refl
+called (Ok FailsA) = refl
+called (Ok FailsB) = refl
+called (Ok FailsC) = refl
+called (Ok FailsD) = refl
+called (Ok FailsE) = refl
+called (Ok FailsF) = refl
+called (Err r) = let e : refusal_of (number_of r.reason) r.place ≡ r = rw (reason_told r.reason) in ap Err e
 
 -- What tells where the outcome is given tells where its words are.
-in_words : (o x : Outcome) {P : Type 0} → (o ≡ x) ↔ P → (wording_of o ≡ wording_of x) ↔ P
+in_words : (o x : Tested) {P : Type 0} → (o ≡ x) ↔ P → (wording_of o ≡ wording_of x) ↔ P
 in_words o x h = (λ e. h.0 (sym (called o) ∙ ap called_so e ∙ called x), λ p. ap wording_of (h.1 p))
 
 -- The test of a text that says a model is the outcome for the model.
@@ -61,7 +65,7 @@ unfolding test_of test_in
 said text m s b =
     sym (ap (λ (o : N.Outcome). test_in o b) (says-answer s.says) ∙ ap (λ (n : Model). outcome_of (system_of n) b) s.meant)
 
-told : (o u x : Outcome) {P : Type 0} → o ≡ u → (o ≡ x) ↔ P → (wording_of u ≡ wording_of x) ↔ P
+told : (o u x : Tested) {P : Type 0} → o ≡ u → (o ≡ x) ↔ P → (wording_of u ≡ wording_of x) ↔ P
 told o u x e h = in_words u x (λ q. h.0 (e ∙ q), λ p. sym e ∙ h.1 p)
 
 pub test-tells : TestTells
@@ -70,16 +74,16 @@ test-tells text m says b bytes =
     let G = all-given m (all_regular text m says) b bytes in
     let e = said text m says b in
     record {
-      refusal = λ n p. told _ _ (Refused n p) e (G.refusal n p);
-      safe_holds = told _ _ SafeHolds e G.safe_holds;
-      void = told _ _ Void e G.void;
-      fails_a = told _ _ FailsA e G.fails_a;
-      fails_b = told _ _ FailsB e G.fails_b;
-      fails_c = told _ _ FailsC e G.fails_c;
-      trace_holds = told _ _ TraceHolds e G.trace_holds;
-      fails_d = told _ _ FailsD e G.fails_d;
-      fails_e = told _ _ FailsE e G.fails_e;
-      fails_f = told _ _ FailsF e G.fails_f;
+      refusal = λ n p. (λ o. (G.refusal n p).0 (ap wording_of e ∙ o), λ r. sym (ap wording_of e) ∙ (G.refusal n p).1 r);
+      safe_holds = told _ _ (Ok SafeHolds) e G.safe_holds;
+      void = told _ _ (Ok Void) e G.void;
+      fails_a = told _ _ (Ok FailsA) e G.fails_a;
+      fails_b = told _ _ (Ok FailsB) e G.fails_b;
+      fails_c = told _ _ (Ok FailsC) e G.fails_c;
+      trace_holds = told _ _ (Ok TraceHolds) e G.trace_holds;
+      fails_d = told _ _ (Ok FailsD) e G.fails_d;
+      fails_e = told _ _ (Ok FailsE) e G.fails_e;
+      fails_f = told _ _ (Ok FailsF) e G.fails_f;
     }
 
 pub pass-tells : PassTells
@@ -107,7 +111,9 @@ pass-tells text m says b bytes =
 
 pub text_comes_first : TextComesFirst
 unfolding test_of test_in wording_of
-text_comes_first text n i refused b = ap (λ (o : N.Outcome). wording_of (test_in o b)) (refused-answer refused)
+text_comes_first text n i refused b =
+    let e = refused-answer refused in
+    ap (λ (o : N.Outcome). wording_of (test_in o b)) e ∙ ap (λ (k : ℕ). returned k i) (text_reason text n i e)
 
 pub tested_without_case : TestedWithoutCase
 unfolding test_of

@@ -21,6 +21,7 @@ use Rattle.meaning.specs.Evidence.{in_map}
 use Rattle.meaning.specs.working.Conditions.{every, implies, test_void, test_a, test_b, words_stay, closed_at, test_c, test_e}
 use Rattle.sheets.specs.Sheets.{map_length}
 use Rattle.sheets.specs.SheetTexts.{two_at, four_at, is_record, same_counts, unused_clear, step_in, step_fits}
+use Rattle.refusals.specs.Reasons.{number_of, reason_of}
 use Rattle.conditions.specs.Outcomes.{wording_of}
 use Rattle.sheets.specs.working.SheetReading.{demand, either, map_in, map_at, steps_in, steps_at, step_count, trace_at, body_at, sheet_in}
 use Rattle.conditions.specs.working.Judging.{passed_answer, map_answer, walk, trace_answer, answer_in, judge, outcome_of}
@@ -36,7 +37,7 @@ unfolding bytes in_lower_case same_word reserved word_in word_token same_kind al
     in_map every implies test_void test_a test_b words_stay closed_at test_c test_e
     map_length two_at four_at is_record same_counts unused_clear step_in step_fits
     demand either map_in map_at steps_in steps_at step_count trace_at body_at sheet_in
-    passed_answer map_answer walk trace_answer answer_in judge outcome_of test_in test_of wording_of
+    passed_answer map_answer walk trace_answer answer_in judge outcome_of test_in test_of wording_of number_of reason_of
 answering = tt
 
 -- The answers to all rows, and what is expected in all rows.

@@ -1,6 +1,6 @@
 -- Each outcome of the test is given exactly where its conditions say.
 -- Assumes nothing.
-use mathlib.Core.Path.{◌≡◌, refl, sym, ap, ◌∙◌}
+use mathlib.Core.Path.{◌≡◌, refl, sym, ap, ◌∙◌, subst}
 use mathlib.Core.Logic.{◌↔◌}
 use mathlib.Core.Bool.{Bool, true, false, cond, true≢false}
 use mathlib.Core.List.{List}
@@ -13,19 +13,23 @@ use Rattle.meaning.specs.Meaning.{CanStart}
 use Rattle.meaning.specs.OneRow.{One, state_count, starts, breaks, next, TraceStep, last_of}
 use Rattle.meaning.specs.Evidence.{safe, trace, ConditionA, ConditionB, ConditionC, ConditionD, ConditionE, ConditionF, StepFits, IsVoid}
 use Rattle.sheets.specs.Sheets.{System, size, system_of}
-use Rattle.sheets.specs.SheetTexts.{NumbersFit, AreBytes, SheetSays, SheetRefused}
+use Rattle.sheets.specs.SheetTexts.{NumbersFit, AreBytes, SheetSays, SheetRefused, too_long, misplaced, out_of_range}
 use Rattle.acceptance.specs.Promises.{MapThat, TraceThat}
 use Rattle.meaning.specs.working.Conditions.{test_void, test_a, test_b, test_c, test_e}
 use Rattle.sheets.specs.working.SheetReading.{Reading, refused, holds, sheet_of}
 use Rattle.conditions.specs.working.Judging.{passed_answer, map_answer, walk, trace_answer, answer_in, judge, outcome_of}
+use Rattle.std.specs.Prelude.{Ok}
+use Rattle.refusals.specs.Reasons.{number_of, reason_of}
+use Rattle.refusals.proofs.Numbers.{number_told}
+use Rattle.conditions.specs.Outcomes.{returned, wording_of}
 use Rattle.conditions.specs.declared.outcome.Outcome.{Outcome}
-use Rattle.conditions.specs.declared.outcome.Outcome.TheVariants.{SafeHolds, Void, TraceHolds, FailsA, FailsB, FailsC, FailsD, FailsE, FailsF, Refused}
+use Rattle.conditions.specs.declared.outcome.Outcome.TheVariants.{SafeHolds, Void, TraceHolds, FailsA, FailsB, FailsC, FailsD, FailsE, FailsF}
 use Rattle.meaning.proofs.Accept.{all-tests_tell, can_start}
 use Rattle.evaluation.proofs.Powers.{pow_small}
 use Rattle.sheets.proofs.SheetRefusals.{refused_iff_reads}
 use Rattle.sheets.proofs.SheetSplit.{says_iff_reads}
 
--- What an outcome is about, 0 for a map, 1 for a trace, 2 for neither; and which of its three conditions failed, if one did.
+-- What an outcome is about, 0 for a map, 1 for a trace; and which of its three conditions failed, if one did.
 kind : Outcome → ℕ
 kind SafeHolds = 0
 kind Void = 0
@@ -36,7 +40,6 @@ kind TraceHolds = 1
 kind FailsD = 1
 kind FailsE = 1
 kind FailsF = 1
-kind (Refused n p) = 2
 
 failed : Outcome → ℕ
 failed SafeHolds = 0
@@ -48,7 +51,6 @@ failed TraceHolds = 0
 failed FailsD = 1
 failed FailsE = 2
 failed FailsF = 3
-failed (Refused n p) = 4
 
 -- The first of three tests that fails.
 unfoldable first_of : Bool → Bool → Bool → ℕ
@@ -120,36 +122,61 @@ no_iff : (t : Bool) (P : Type 0) → (t ≡ true) ↔ P → (t ≡ false) ↔ (�
 no_iff true P i = (λ e. absurd (true≢false e), λ n. absurd (n (i.0 refl)))
 no_iff false P i = (λ e p. true≢false (sym (i.1 p)), λ n. refl)
 
+-- The words of an outcome are no refusal.
+outcome-words : (o : Outcome) (n p : ℕ) → wording_of (Ok o) ≡ returned n p → ⊥
+unfolding wording_of
+outcome-words SafeHolds n p e = cc
+outcome-words Void n p e = cc
+outcome-words TraceHolds n p e = cc
+outcome-words FailsA n p e = cc
+outcome-words FailsB n p e = cc
+outcome-words FailsC n p e = cc
+outcome-words FailsD n p e = cc
+outcome-words FailsE n p e = cc
+outcome-words FailsF n p e = cc
+
 -- What was read where an outcome was given.
 module _ (M : System) (b : List ℕ) where
   given : (r : Reading) → sheet_of M b ≡ r → outcome_of M b ≡ judge M r
   unfolding outcome_of
   given r e = ap (judge M) e
 
-  refused-kind : (n p : ℕ) → sheet_of M b ≡ refused n p → kind (outcome_of M b) ≡ 2
-  unfolding judge kind
-  refused-kind n p e = ap kind (given (refused n p) e)
-
-  map-kind : (map : List ℕ) → sheet_of M b ≡ holds (safe map) → kind (outcome_of M b) ≡ 0
+  map-kind : (map : List ℕ) → sheet_of M b ≡ holds (safe map) → (o : Outcome) → outcome_of M b ≡ Ok o → kind o ≡ 0
   unfolding judge
-  map-kind map e = ap kind (given (holds (safe map)) e) ∙ (map-answered M map).0
+  map-kind map e o q =
+      let z : answer_in M (safe map) ≡ o = let y = given (holds (safe map)) e in cc in
+      ap kind (sym z) ∙ (map-answered M map).0
 
-  trace-kind : (s : ℕ) (xs : List TraceStep) → sheet_of M b ≡ holds (trace s xs) → kind (outcome_of M b) ≡ 1
+  trace-kind : (s : ℕ) (xs : List TraceStep) → sheet_of M b ≡ holds (trace s xs) → (o : Outcome) → outcome_of M b ≡ Ok o → kind o ≡ 1
   unfolding judge
-  trace-kind s xs e = ap kind (given (holds (trace s xs)) e) ∙ (trace-answered M s xs).0
+  trace-kind s xs e o q =
+      let z : answer_in M (trace s xs) ≡ o = let y = given (holds (trace s xs)) e in cc in
+      ap kind (sym z) ∙ (trace-answered M s xs).0
 
-  refused-back : (n p : ℕ) → outcome_of M b ≡ Refused n p → (r : Reading) → sheet_of M b ≡ r → sheet_of M b ≡ refused n p
-  unfolding judge kind
-  refused-back n p o (refused k q) e = let z = given (refused k q) e in cc
-  refused-back n p o (holds (safe map)) e = let z : kind (outcome_of M b) ≡ 2 = ap kind o in absurd (omega (arith, z, map-kind map e))
-  refused-back n p o (holds (trace s xs)) e = let z : kind (outcome_of M b) ≡ 2 = ap kind o in absurd (omega (arith, z, trace-kind s xs e))
+  -- A sheet is refused with one of two numbers, which the wording keeps.
+  refusal-number : (n p : ℕ) → SheetRefused M b n p → number_of (reason_of n) ≡ n
+  refusal-number n p (too_long h) = number_told 9 (omega arith) (omega arith)
+  refusal-number n p (misplaced c m e) = number_told 9 (omega arith) (omega arith)
+  refusal-number n p (out_of_range c a h) = number_told 10 (omega arith) (omega arith)
 
-  pub refusal-means : (n p : ℕ) → (outcome_of M b ≡ Refused n p) ↔ SheetRefused M b n p
+  refusal-worded : (n p : ℕ) → SheetRefused M b n p → wording_of (outcome_of M b) ≡ returned n p
+  unfolding judge wording_of
+  refusal-worded n p r =
+      ap wording_of (given (refused n p) ((refused_iff_reads M b n p).0 r)) ∙ ap (λ (k : ℕ). returned k p) (refusal-number n p r)
+
+  refused-back : (n p : ℕ) → wording_of (outcome_of M b) ≡ returned n p → (r : Reading) → sheet_of M b ≡ r → SheetRefused M b n p
   unfolding judge
-  refusal-means n p = (
-    λ o. (refused_iff_reads M b n p).1 (refused-back n p o (sheet_of M b) refl),
-    λ r. given (refused n p) ((refused_iff_reads M b n p).0 r),
-  )
+  refused-back n p o (refused k q) e =
+      let r = (refused_iff_reads M b k q).1 e in
+      let z : returned k q ≡ returned n p = sym (refusal-worded k q r) ∙ o in
+      let y : k ≡ n = cc in
+      let x : q ≡ p = cc in
+      subst (λ (j : ℕ). SheetRefused M b n j) x (subst (λ (i : ℕ). SheetRefused M b i q) y r)
+  refused-back n p o (holds x) e =
+      absurd (outcome-words (answer_in M x) n p (sym (ap wording_of (given (holds x) e)) ∙ o))
+
+  pub refusal-means : (n p : ℕ) → (wording_of (outcome_of M b) ≡ returned n p) ↔ SheetRefused M b n p
+  refusal-means n p = (λ o. refused-back n p o (sheet_of M b) refl, refusal-worded n p)
 
   module _ (few : NumbersFit M) (bytes : AreBytes b) where
     abbrev MapSaid : Outcome → Type 0
@@ -158,30 +185,30 @@ module _ (M : System) (b : List ℕ) where
     abbrev TraceSaid : Outcome → Type 0
     TraceSaid o = (s : ℕ) × (xs : List TraceStep) × SheetSays M b (trace s xs) × (answer_in M (trace s xs) ≡ o)
 
-    map-from : (o : Outcome) → kind o ≡ 0 → outcome_of M b ≡ o → (r : Reading) → sheet_of M b ≡ r → MapSaid o
+    map-from : (o : Outcome) → kind o ≡ 0 → outcome_of M b ≡ Ok o → (r : Reading) → sheet_of M b ≡ r → MapSaid o
     unfolding judge
-    map-from o k q (refused n p) e = absurd (omega (arith, k, ap kind q, refused-kind n p e))
-    map-from o k q (holds (safe map)) e = (map, (says_iff_reads M few b bytes (safe map)).1 e, sym (given (holds (safe map)) e) ∙ q)
-    map-from o k q (holds (trace s xs)) e = absurd (omega (arith, k, ap kind q, trace-kind s xs e))
+    map-from o k q (refused n p) e = let y = given (refused n p) e in cc
+    map-from o k q (holds (safe map)) e = (map, (says_iff_reads M few b bytes (safe map)).1 e, let y = given (holds (safe map)) e in cc)
+    map-from o k q (holds (trace s xs)) e = absurd (omega (arith, k, trace-kind s xs e o q))
 
-    trace-from : (o : Outcome) → kind o ≡ 1 → outcome_of M b ≡ o → (r : Reading) → sheet_of M b ≡ r → TraceSaid o
+    trace-from : (o : Outcome) → kind o ≡ 1 → outcome_of M b ≡ Ok o → (r : Reading) → sheet_of M b ≡ r → TraceSaid o
     unfolding judge
-    trace-from o k q (refused n p) e = absurd (omega (arith, k, ap kind q, refused-kind n p e))
-    trace-from o k q (holds (safe map)) e = absurd (omega (arith, k, ap kind q, map-kind map e))
-    trace-from o k q (holds (trace s xs)) e = (s, xs, (says_iff_reads M few b bytes (trace s xs)).1 e, sym (given (holds (trace s xs)) e) ∙ q)
+    trace-from o k q (refused n p) e = let y = given (refused n p) e in cc
+    trace-from o k q (holds (safe map)) e = absurd (omega (arith, k, map-kind map e o q))
+    trace-from o k q (holds (trace s xs)) e = (s, xs, (says_iff_reads M few b bytes (trace s xs)).1 e, let y = given (holds (trace s xs)) e in cc)
 
-    map_gives : (o : Outcome) (map : List ℕ) → SheetSays M b (safe map) → answer_in M (safe map) ≡ o → outcome_of M b ≡ o
+    map_gives : (o : Outcome) (map : List ℕ) → SheetSays M b (safe map) → answer_in M (safe map) ≡ o → outcome_of M b ≡ Ok o
     unfolding judge
-    map_gives o map w e = given (holds (safe map)) ((says_iff_reads M few b bytes (safe map)).0 w) ∙ e
+    map_gives o map w e = given (holds (safe map)) ((says_iff_reads M few b bytes (safe map)).0 w) ∙ ap Ok e
 
-    trace-gives : (o : Outcome) (s : ℕ) (xs : List TraceStep) → SheetSays M b (trace s xs) → answer_in M (trace s xs) ≡ o → outcome_of M b ≡ o
+    trace-gives : (o : Outcome) (s : ℕ) (xs : List TraceStep) → SheetSays M b (trace s xs) → answer_in M (trace s xs) ≡ o → outcome_of M b ≡ Ok o
     unfolding judge
-    trace-gives o s xs w e = given (holds (trace s xs)) ((says_iff_reads M few b bytes (trace s xs)).0 w) ∙ e
+    trace-gives o s xs w e = given (holds (trace s xs)) ((says_iff_reads M few b bytes (trace s xs)).0 w) ∙ ap Ok e
 
 -- An outcome over the model's system, where it is known when contents have it.
 module _ (m : Model) (few : NumbersFit (system_of m)) (b : List ℕ) (bytes : AreBytes b) where
   map_iff : (o : Outcome) → kind o ≡ 0 → (P : List ℕ → Type 0)
-      → ((map : List ℕ) → (answer_in (system_of m) (safe map) ≡ o) ↔ P map) → (outcome_of (system_of m) b ≡ o) ↔ MapThat m b P
+      → ((map : List ℕ) → (answer_in (system_of m) (safe map) ≡ o) ↔ P map) → (outcome_of (system_of m) b ≡ Ok o) ↔ MapThat m b P
   map_iff o k P i = (
     λ q. let t = map-from (system_of m) b few bytes o k q (sheet_of (system_of m) b) refl in (t.0, t.1, (i t.0).0 t.2),
     λ t. map_gives (system_of m) b few bytes o t.0 t.1 ((i t.0).1 t.2),
@@ -189,7 +216,7 @@ module _ (m : Model) (few : NumbersFit (system_of m)) (b : List ℕ) (bytes : Ar
 
   trace_iff : (o : Outcome) → kind o ≡ 1 → (P : ℕ → List TraceStep → Type 0)
       → ((s : ℕ) (xs : List TraceStep) → Every (StepFits m) xs → (answer_in (system_of m) (trace s xs) ≡ o) ↔ P s xs)
-      → (outcome_of (system_of m) b ≡ o) ↔ TraceThat m b P
+      → (outcome_of (system_of m) b ≡ Ok o) ↔ TraceThat m b P
   trace_iff o k P i = (
     λ q. let t = trace-from (system_of m) b few bytes o k q (sheet_of (system_of m) b) refl in (t.0, t.1, t.2, (i t.0 t.1 t.2.fits.1).0 t.3),
     λ t. trace-gives (system_of m) b few bytes o t.0 t.1 t.2 ((i t.0 t.1 t.2.fits.1).1 t.3),
@@ -312,16 +339,16 @@ numbers_fit m g =
 
 -- Each outcome for the bytes b, and exactly where it is given.
 pub record Given (m : Model) (b : List ℕ) : Type 0 where
-  pub refusal : (n p : ℕ) → (outcome_of (system_of m) b ≡ Refused n p) ↔ SheetRefused (system_of m) b n p
-  pub safe_holds : (outcome_of (system_of m) b ≡ SafeHolds) ↔ MapThat m b λ map. ConditionA m map × ConditionB m map × ConditionC m map × CanStart m One
-  pub void : (outcome_of (system_of m) b ≡ Void) ↔ MapThat m b λ map. ConditionA m map × ConditionB m map × ConditionC m map × IsVoid m
-  pub fails_a : (outcome_of (system_of m) b ≡ FailsA) ↔ MapThat m b λ map. ¬ (ConditionA m map)
-  pub fails_b : (outcome_of (system_of m) b ≡ FailsB) ↔ MapThat m b λ map. ConditionA m map × ¬ (ConditionB m map)
-  pub fails_c : (outcome_of (system_of m) b ≡ FailsC) ↔ MapThat m b λ map. ConditionA m map × ConditionB m map × ¬ (ConditionC m map)
-  pub trace_holds : (outcome_of (system_of m) b ≡ TraceHolds) ↔ TraceThat m b λ s xs. ConditionD m s × ConditionE m s xs × ConditionF m s xs
-  pub fails_d : (outcome_of (system_of m) b ≡ FailsD) ↔ TraceThat m b λ s xs. ¬ (ConditionD m s)
-  pub fails_e : (outcome_of (system_of m) b ≡ FailsE) ↔ TraceThat m b λ s xs. ConditionD m s × ¬ (ConditionE m s xs)
-  pub fails_f : (outcome_of (system_of m) b ≡ FailsF) ↔ TraceThat m b λ s xs. ConditionD m s × ConditionE m s xs × ¬ (ConditionF m s xs)
+  pub refusal : (n p : ℕ) → (wording_of (outcome_of (system_of m) b) ≡ returned n p) ↔ SheetRefused (system_of m) b n p
+  pub safe_holds : (outcome_of (system_of m) b ≡ Ok SafeHolds) ↔ MapThat m b λ map. ConditionA m map × ConditionB m map × ConditionC m map × CanStart m One
+  pub void : (outcome_of (system_of m) b ≡ Ok Void) ↔ MapThat m b λ map. ConditionA m map × ConditionB m map × ConditionC m map × IsVoid m
+  pub fails_a : (outcome_of (system_of m) b ≡ Ok FailsA) ↔ MapThat m b λ map. ¬ (ConditionA m map)
+  pub fails_b : (outcome_of (system_of m) b ≡ Ok FailsB) ↔ MapThat m b λ map. ConditionA m map × ¬ (ConditionB m map)
+  pub fails_c : (outcome_of (system_of m) b ≡ Ok FailsC) ↔ MapThat m b λ map. ConditionA m map × ConditionB m map × ¬ (ConditionC m map)
+  pub trace_holds : (outcome_of (system_of m) b ≡ Ok TraceHolds) ↔ TraceThat m b λ s xs. ConditionD m s × ConditionE m s xs × ConditionF m s xs
+  pub fails_d : (outcome_of (system_of m) b ≡ Ok FailsD) ↔ TraceThat m b λ s xs. ¬ (ConditionD m s)
+  pub fails_e : (outcome_of (system_of m) b ≡ Ok FailsE) ↔ TraceThat m b λ s xs. ConditionD m s × ¬ (ConditionE m s xs)
+  pub fails_f : (outcome_of (system_of m) b ≡ Ok FailsF) ↔ TraceThat m b λ s xs. ConditionD m s × ConditionE m s xs × ¬ (ConditionF m s xs)
 
 pub all-given : (m : Model) → Regular m → (b : List ℕ) → AreBytes b → Given m b
 unfolding kind

@@ -14,25 +14,26 @@ use Rattle.notation.specs.working.Machine as N
 use Rattle.notation.specs.working.Answer.{answer}
 use Rattle.meaning.specs.Meaning.{command_at, idle}
 use Rattle.meaning.proofs.Lists.{every-at}
-use Rattle.reader.specs.declared.Answer.{Answer}
-use Rattle.reader.specs.declared.Answer.TheVariants as A
 use Rattle.reader.specs.declared.Code.{Code}
-use Rattle.reader.specs.declared.Reading.{Reading}
-use Rattle.reader.specs.Read.{filled, code_of, reading_in, reading_of}
-use Rattle.reader.specs.working.Commands.{arrays}
-use Rattle.reader.specs.working.Whole.{zeros}
+use Rattle.reader.specs.Read.{filled, code_of, reading_of, code_in, read_code}
+use Rattle.reader.specs.working.Whole.{counted}
 use Rattle.reader.proofs.Arrays.{filled-front}
-use Rattle.reader.proofs.ReadTexts.{ReadAs, read_as, refused_as, read_regular, regular}
+use Rattle.statements.specs.declared.cursor.Ledger.{Ledger}
+use Rattle.reader.proofs.ReadTexts.{ReadAs, read_as, refused_as, regular}
 use Rattle.evaluation.specs.Promises.{Computes}
 use Rattle.evaluation.specs.declared.plan.Plan.{Plan}
+use Rattle.evaluation.specs.declared.one_row.OneRow.{OneRow}
 use Rattle.evaluation.specs.working.CodeSystem.{stars_in, Sound}
 use Rattle.evaluation.proofs.FlatForms.{flat_computes, ends-counted, mapped}
 use Rattle.sheets.specs.Sheets.{system_of}
 use Rattle.sheets.specs.working.FlatSystem.{system_in}
 use Rattle.conditions.specs.working.Judging.{outcome_of}
-use Rattle.acceptance.specs.working.Test.{test_in, test_of, plan_of, ReadInto}
-use Rattle.conditions.specs.declared.outcome.Outcome.{Outcome}
-use Rattle.conditions.specs.declared.outcome.Outcome.TheVariants.{Refused}
+use Rattle.acceptance.specs.working.Test.{TableOf, test_in, test_of, plan_of, plan_in, ReadInto}
+use Rattle.conditions.specs.Outcomes.{Tested}
+use Rattle.std.specs.Prelude.{Result, Ok, Err}
+use Rattle.refusals.specs.declared.Refusal.{Refusal}
+use Rattle.refusals.specs.Reasons.{number_of, refusal_of}
+use Rattle.refusals.proofs.Numbers.{reason_told}
 use Rattle.acceptance.proofs.Alike.{outcome_alike}
 
 -- The flat form of a model in arrays is ready for the test, and the outcome over it is that of the model.
@@ -86,58 +87,79 @@ pub record Said (text : List ℕ) (c : Code) : Type 0 where
   pub flat : Flat c model
   pub test : (b : List ℕ) → outcome_of (system_of model) b ≡ test_of text b
 
-module _ (text : List ℕ) {told : Answer} {plan : Plan} {ops : List ℕ} (P : ReadInto text told plan ops) where
-  -- What was read, in terms of the answer alone.
-  pub read_of : A.Read ≡ told → ReadAs text (reading_of text).code
-  read_of h = read_as text (reading_of text) refl (h ∙ P.answered)
-
-  pub refused_of : (n i : ℕ) → A.Refused n i ≡ told → answer text ≡ N.refused n i
-  refused_of n i h = refused_as text (reading_of text) refl n i (h ∙ P.answered)
-
-  was_read_lem : A.Read ≡ told → Said text (reading_of text).code
+module _ (text : List ℕ) (c : Code) (e : Ok c ≡ reading_of text) where
+  was_read_lem : Said text c
   unfolding test_in test_of
-  was_read_lem h =
-      let R = read_of h in
+  was_read_lem =
+      let R = read_as text c e in
       record {
         model = model_of R.tree;
-        flat = subst (λ (c : Code). Flat c (model_of R.tree)) (sym R.code) (flat (model_of R.tree) (regular R) (names_of R.tree));
-        test = λ c. sym (ap (λ (o : N.Outcome). test_in o c) R.told);
+        flat = subst (λ (d : Code). Flat d (model_of R.tree)) (sym R.code) (flat (model_of R.tree) (regular R) (names_of R.tree));
+        test = λ b. sym (ap (λ (o : N.Outcome). test_in o b) R.told);
       }
 
-  pub read_sound : A.Read ≡ told → Sound plan
-  read_sound h = subst Sound (sym P.planned) (was_read_lem h).flat.sound
+  -- The plan of what was read is within the limits.
+  pub code_sound : Sound (plan_of c)
+  code_sound = was_read_lem.flat.sound
 
-  -- The outcome for a text that was read is that over its code, and for one that was refused it is the refusal.
-  pub test_read : A.Read ≡ told → (b : List ℕ) (o : Outcome) → o ≡ outcome_of (system_in ops plan) b → o ≡ test_of text b
-  test_read h b o q =
-      let s = was_read_lem h in
-      q
-      ∙ ap (λ (l : List ℕ). outcome_of (system_in l plan) b) P.coded
-      ∙ ap (λ (p : Plan). outcome_of (system_in (reading_of text).code.ops p) b) P.planned
-      ∙ s.flat.same b
-      ∙ s.test b
+-- The code that a plan is of, and the refusal that was told in its place.
+plan_code : (x : Result Code Refusal) (plan : Plan) → plan_in x ≡ Ok plan → (Ok (code_in x) ≡ x) × (plan ≡ plan_of (code_in x))
+plan_code (Ok c) plan e = (refl, cc)
+plan_code (Err r) plan e = (cc, cc)
 
-  pub test-refused : (b : List ℕ) (n i : ℕ) → A.Refused n i ≡ told → Refused n i ≡ test_of text b
-  unfolding test_in test_of
-  test-refused b n i h = sym (ap (λ (o : N.Outcome). test_in o b) (refused_of n i h))
+plan_refusal : (x : Result Code Refusal) (r : Refusal) → plan_in x ≡ Err r → Err r ≡ x
+plan_refusal (Ok c) r e = cc
+plan_refusal (Err s) r e = cc
 
--- A plan has at most 12 bits, where nothing was read too.
-few_in : (text : List ℕ) (o : N.Outcome) → answer text ≡ o → (reading_in o).code.shared + (reading_in o).code.row ≤ 12
-unfolding reading_in code_of layout_of
-few_in text (N.read x) q = (read_regular text x q).few_names
-few_in text (N.refused n i) q = omega arith
+module _ (text : List ℕ) {told : Result Plan Refusal} {ops : List ℕ} (P : ReadInto text told ops) where
+  -- What was read, in terms of the plan alone.
+  module _ (plan : Plan) (h : told ≡ Ok plan) where
+    code_read : (Ok (read_code text) ≡ reading_of text) × (plan ≡ plan_of (read_code text))
+    code_read = plan_code (reading_of text) plan (sym P.planned ∙ h)
 
-pub few_bits_lem : (text : List ℕ) (c : Code) → c ≡ (reading_of text).code → c.shared + c.row ≤ 12
-few_bits_lem text c e = subst (λ (d : Code). d.shared + d.row ≤ 12) (sym e) (few_in text (answer text) refl)
+    pub read_of : ReadAs text (read_code text)
+    read_of = read_as text (read_code text) code_read.0
 
--- What the reader answers, as code words and a plan; and the arrays of zeros that it asks for.
-pub read_into : (text : List ℕ) (r : Reading) → r ≡ reading_of text → ReadInto text r.answer (plan_of r.code) r.code.ops
-read_into text r e =
-    record {
-      answered = ap (λ (z : Reading). z.answer) e;
-      planned = ap (λ (z : Reading). plan_of z.code) e;
-      coded = ap (λ (z : Reading). z.code.ops) e;
-    }
+    pub plan_read : plan ≡ plan_of (read_code text)
+    plan_read = code_read.1
 
-pub all-zeros : (ops : List ℕ) → ops ≡ replicate 2048 0 → arrays (replicate 56 0) ops (replicate 20 0) (replicate 16 0) ≡ zeros
-all-zeros ops h = ap (λ (o : List ℕ). arrays (replicate 56 0) o (replicate 20 0) (replicate 16 0)) h
+    pub read_sound : Sound plan
+    read_sound = subst Sound (sym plan_read) (code_sound text (read_code text) code_read.0)
+
+    -- The outcome for a text that was read is that over its code.
+    pub test_read : (b : List ℕ) (o : Tested) → o ≡ outcome_of (system_in ops plan) b → o ≡ test_of text b
+    test_read b o q =
+        let s = was_read_lem text (read_code text) code_read.0 in
+        q
+        ∙ ap (λ (l : List ℕ). outcome_of (system_in l plan) b) P.coded
+        ∙ ap (λ (p : Plan). outcome_of (system_in (read_code text).ops p) b) plan_read
+        ∙ s.flat.same b
+        ∙ s.test b
+
+  -- What was refused, in terms of the refusal alone; the outcome is that refusal.
+  module _ (r : Refusal) (h : told ≡ Err r) where
+    pub refused_of : (n i : ℕ) × (answer text ≡ N.refused n i) × (r ≡ refusal_of n i)
+    refused_of =
+        let e : refusal_of (number_of r.reason) r.place ≡ r = rw (reason_told r.reason) in
+        (number_of r.reason, r.place, refused_as text r (plan_refusal (reading_of text) r (sym P.planned ∙ h)), sym e)
+
+    pub test-refused : (b : List ℕ) → Err r ≡ test_of text b
+    unfolding test_in test_of
+    test-refused b = ap Err refused_of.3 ∙ sym (ap (λ (o : N.Outcome). test_in o b) refused_of.2)
+
+-- Counts that were read are those of a plan within the limits.
+pub few_bits_lem : (text : List ℕ) (l : Ledger) → Ok l ≡ counted (reading_of text) → l.shared + l.row ≤ 12
+few_bits_lem text l h = go (reading_of text) refl h
+  where
+    go : (x : Result Code Refusal) → x ≡ reading_of text → Ok l ≡ counted x → l.shared + l.row ≤ 12
+    go (Ok c) e q =
+        let z : l ≡ record { shared = c.shared; row = c.row; commands = c.commands } = cc in
+        subst (λ (k : Ledger). k.shared + k.row ≤ 12) (sym z) (code_sound text c e).few_bits
+    go (Err r) e q = cc
+
+-- A table that was read has the plan and the code words that were read; a refusal in its place is the text's.
+pub table_read : (text : List ℕ) {r : Result OneRow Refusal} → TableOf text r → (t : OneRow) → r ≡ Ok t → ReadInto text (Ok t.plan) t.ops.now
+table_read text P t h = subst (TableOf text) h P
+
+pub table_refused : (text : List ℕ) {r : Result OneRow Refusal} → TableOf text r → (e : Refusal) → r ≡ Err e → ReadInto text (Err e) (read_code text).ops
+table_refused text P e h = record { planned = subst (TableOf text) h P; coded = refl }

@@ -5,14 +5,11 @@
 #![tactic(auto)]
 
 use acceptance::test;
-use std::env::Env;
-use std::fs::Files;
 use std::io::Write;
 use streams::arguments::argument_count;
 use streams::files::read_argument;
 use streams::output::write_out;
 use streams::told::tell;
-use streams::whole::Got;
 use wording::put_line;
 
 // Writes the outcome's line to standard output.
@@ -22,31 +19,19 @@ fn answer(out: &mut impl Write, errors: &mut impl Write, text: &[u8], sheet: &[u
     write_out(out, errors, b"admit", &line[..n]);
 }
 
-// Reads the text and the sheet into their rooms, and answers.
-fn admit_into<R: Env + Files>(
-    rt: &R,
-    out: &mut impl Write,
-    errors: &mut impl Write,
-    text: &mut [u8],
-    sheet: &mut [u8],
-) {
-    let Got::Bytes(n) = read_argument(rt, errors, b"admit", 1, text) else {
-        return;
-    };
-    let Got::Bytes(m) = read_argument(rt, errors, b"admit", 2, sheet) else {
-        return;
-    };
-    answer(out, errors, &text[..n], &sheet[..m]);
-}
-
 // The rooms have a byte more than the longest text and the longest sheet that the test takes, so it refuses a longer one itself.
 fn main(rt: HostRuntime) {
     let mut errors = rt.stderr();
     if argument_count(&rt) != 3 {
-        tell(&mut errors, b"usage: admit TEXT SHEET\n");
-        return;
+        return tell(&mut errors, b"usage: admit TEXT SHEET\n");
     }
     let mut text = [0u8; 16385];
     let mut sheet = [0u8; 65537];
-    admit_into(&rt, &mut rt.stdout(), &mut errors, &mut text, &mut sheet);
+    let Some(n) = read_argument(&rt, &mut errors, b"admit", 1, &mut text) else {
+        return;
+    };
+    let Some(m) = read_argument(&rt, &mut errors, b"admit", 2, &mut sheet) else {
+        return;
+    };
+    answer(&mut rt.stdout(), &mut errors, &text[..n], &sheet[..m]);
 }

@@ -1,13 +1,13 @@
--- The loop over the commands: what is left to write, and what writes it.
+-- The lines of the commands, one command more at a time.
 -- Assumes nothing.
 use mathlib.Core.Path.{◌≡◌, refl, sym, ap, ◌∙◌, subst}
-use mathlib.Core.List.{List, [], ◌++◌}
+use mathlib.Core.List.{List, ◌++◌, append_assoc, append-nil}
 use Prim.Native.Nat.{ℕ, zero, suc, ◌+◌, ◌-◌, ◌*◌, ◌<◌, ◌≤◌}
 use native.Mathlib.Omega.{arith}
 use lib.ListN.{length, length-append}
-use Rattle.io.specs.Counts.{IsPrefixLen}
-use Rattle.lines.specs.Puts.{Fits, Puts}
-use Rattle.lines.proofs.Stores.{none, behind, keeps, first_fits, rest-fits, front-counts}
+use Rattle.lines.specs.declared.Writer.{Writer}
+use Rattle.lines.specs.Writers.{HasRoom, Writes}
+use Rattle.lines.proofs.Writers.{nothing, behind, first-room, rest-room}
 use Rattle.bursts.specs.Lines.{lines_from}
 
 -- The same lines, one by one.
@@ -18,60 +18,46 @@ same_lines f g k (suc n) h =
     ap (λ l. l ++ lines_from f (k + 1) n) (h k (omega arith))
     ∙ ap (λ l. g k ++ l) (same_lines f g (k + 1) n (λ j below. h j (omega (arith, below))))
 
--- The lines of n commands, none longer than 80 bytes; those before command i are written.
-module _ (line_of : ℕ → List ℕ) (n : ℕ) where
-  abbrev rest : ℕ → List ℕ
-  rest i = lines_from line_of i (n - i)
+-- None longer than 80 bytes.
+pub lines-short : (line_of : ℕ → List ℕ) (n : ℕ) → ((k : ℕ) → k < n → length (line_of k) ≤ 80) → (k m : ℕ) → k + m ≤ n → length (lines_from line_of k m) ≤ 80 * m
+unfolding lines_from
+lines-short line_of n short k zero h = omega arith
+lines-short line_of n short k (suc m) h =
+    omega (arith, length-append (line_of k) (lines_from line_of (k + 1) m), short k (omega arith), lines-short line_of n short (k + 1) m (omega arith))
 
-  rest-next : (i : ℕ) → i < n → rest i ≡ line_of i ++ rest (i + 1)
+module _ (line_of : ℕ → List ℕ) where
+  -- Those before command m, and those from it on.
+  parted : (k m d : ℕ) → lines_from line_of k (m + d) ≡ lines_from line_of k m ++ lines_from line_of (k + m) d
   unfolding lines_from
-  rest-next i h = let e : n - i ≡ suc (n - (i + 1)) = omega arith in ap (lines_from line_of i) e
+  parted k zero d =
+      let e : 0 + d ≡ d = omega arith in
+      let f : k ≡ k + 0 = omega arith in
+      ap (lines_from line_of k) e ∙ ap (λ j. lines_from line_of j d) f
+  parted k (suc m) d =
+      let e : suc m + d ≡ suc (m + d) = omega arith in
+      let f : k + 1 + m ≡ k + suc m = omega arith in
+      ap (lines_from line_of k) e
+      ∙ ap (λ l. line_of k ++ l) (parted (k + 1) m d ∙ ap (λ j. lines_from line_of (k + 1) m ++ lines_from line_of j d) f)
+      ∙ sym (append_assoc (line_of k) (lines_from line_of (k + 1) m) (lines_from line_of (k + suc m) d))
 
-  rest_none : (i : ℕ) → n ≤ i → rest i ≡ []
+  pub lines-begun : {out : Writer} → Writes out (lines_from line_of 0 0) out
   unfolding lines_from
-  rest_none i h = let e : n - i ≡ 0 = omega arith in ap (lines_from line_of i) e
+  lines-begun = nothing
 
-  pub lines-short : ((k : ℕ) → k < n → length (line_of k) ≤ 80) → (k m : ℕ) → k + m ≤ n → length (lines_from line_of k m) ≤ 80 * m
-  unfolding lines_from
-  lines-short short k zero h = omega arith
-  lines-short short k (suc m) h =
-      omega (arith, length-append (line_of k) (lines_from line_of (k + 1) m), short k (omega arith), lines-short short (k + 1) m (omega arith))
+  -- Where the lines before command i are put, its own is next.
+  module _ {s t : Writer} (i : ℕ) (P : Writes s (lines_from line_of 0 i) t) (v : List ℕ) (same : v ≡ line_of i) where
+    more : lines_from line_of 0 (i + 1) ≡ lines_from line_of 0 i ++ v
+    unfolding lines_from
+    more =
+        let z : 0 + i ≡ i = omega arith in
+        parted 0 i 1 ∙ ap (λ l. lines_from line_of 0 i ++ l) (append-nil (line_of (0 + i)) ∙ ap line_of z ∙ sym same)
 
-  pub record Going (out₀ : List ℕ) (end₀ : ℕ) (out : List ℕ) (end i : ℕ) : Type 0 where
-    pub within : i ≤ n
-    pub long : length out ≡ length out₀
-    pub room : Fits out end (rest i)
-    -- what writes the rest from here on writes all of it from where the loop began
-    pub back : (x : List ℕ) (r : ℕ) → Puts out end (rest i) x r → Puts out₀ end₀ (lines_from line_of 0 n) x r
+    pub next-room : (n : ℕ) → i < n → HasRoom s (lines_from line_of 0 n) → HasRoom t v
+    next-room n h f =
+        let e : n ≡ i + 1 + (n - (i + 1)) = omega arith in
+        let all : lines_from line_of 0 n ≡ lines_from line_of 0 (i + 1) ++ lines_from line_of (0 + (i + 1)) (n - (i + 1)) = ap (lines_from line_of 0) e ∙ parted 0 (i + 1) (n - (i + 1)) in
+        let some = first-room (lines_from line_of 0 (i + 1)) (lines_from line_of (0 + (i + 1)) (n - (i + 1))) (subst (HasRoom s) all f) in
+        rest-room v P (subst (HasRoom s) more some)
 
-  pub begun : {out : List ℕ} → n ≤ 16 → 1280 ≤ length out → ((k : ℕ) → k < n → length (line_of k) ≤ 80) → Going out 0 out 0 0
-  begun {out} few long short =
-      record {
-        within = omega arith;
-        long = refl;
-        room = record { room = omega (arith, lines-short short 0 (n - 0) (omega arith)) };
-        back = λ x r P. let e : n - 0 ≡ n = omega arith in subst (λ m. Puts out 0 (lines_from line_of 0 m) x r) e P;
-      }
-
-  module _ {out₀ out : List ℕ} {end₀ end i : ℕ} (G : Going out₀ end₀ out end i) where
-    module _ (h : i < n) (v : List ℕ) (same : v ≡ line_of i) where
-      next-room : Fits out end (v ++ rest (i + 1))
-      next-room = subst (Fits out end) (rest-next i h ∙ ap (λ l. l ++ rest (i + 1)) (sym same)) G.room
-
-      pub next_fits : Fits out end v
-      next_fits = first_fits v (rest (i + 1)) next-room
-
-      pub went : {x : List ℕ} {r : ℕ} → Puts out end v x r → Going out₀ end₀ x r (i + 1)
-      went {x} {r} P =
-          record {
-            within = omega arith;
-            long = keeps P ∙ G.long;
-            room = rest-fits (rest (i + 1)) P next-room;
-            back = λ y s Q. G.back y s (subst (λ l. Puts out end l y s) (sym (rest-next i h ∙ ap (λ l. l ++ rest (i + 1)) (sym same))) (behind P Q));
-          }
-
-    pub done : n ≤ i → Puts out₀ end₀ (lines_from line_of 0 n) out end
-    done h = G.back out end (subst (λ l. Puts out end l out end) (sym (rest_none i h)) none)
-
-  pub table-counts : {l x : List ℕ} {r : ℕ} → n ≤ 16 → 1280 ≤ length l → ((k : ℕ) → k < n → length (line_of k) ≤ 80) → Puts l 0 (lines_from line_of 0 n) x r → IsPrefixLen r x
-  table-counts {l} {x} {r} few long short P = front-counts x l (lines_from line_of 0 n) r P.stored (omega (arith, P.ends, lines-short short 0 n (omega arith)))
+    pub next-put : {u : Writer} → Writes t v u → Writes s (lines_from line_of 0 (i + 1)) u
+    next-put {u} Q = subst (λ l. Writes s l u) (sym more) (behind P Q)

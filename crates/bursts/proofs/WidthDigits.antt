@@ -1,6 +1,7 @@
 -- The digits of a width, read one after the other.
 -- Assumes nothing.
 use mathlib.Core.Bool.{true, false}
+use mathlib.Core.Logic.{◌⊎◌, inl, inr}
 use mathlib.Core.List.{List, [], ◌∷◌}
 use mathlib.Core.Path.{◌≡◌, refl, sym, ap, ◌∙◌}
 use Prim.Native.Nat.{ℕ, suc, ◌+◌, ◌-◌, ◌*◌, ◌≤◌, ◌<◌}
@@ -8,8 +9,8 @@ use native.Mathlib.Omega.{arith}
 use lib.ListN.{length, get_or, drop, drop_of_length-le}
 use lib.Seq.{drop-cons}
 use borrow.Author.Tests.{lt-ltb, le-ltb}
+use Rattle.std.specs.Prelude.{Some, None}
 use Rattle.bursts.specs.Widths.{all_digits, number_from, capped, width_in}
-use Rattle.bursts.specs.declared.width.Width.TheVariants.{Of, Unread}
 
 -- Digits behind numbers that are not told apart say numbers that are not told apart.
 number-capped : (bs : List ℕ) (n m : ℕ) → capped n ≡ capped m → capped (number_from n bs) ≡ capped (number_from m bs)
@@ -20,20 +21,20 @@ number-capped (b ∷ bs) n m e =
     number-capped bs (n * 10 + (b - 48)) (m * 10 + (b - 48)) f
 
 -- No bytes say no width, and neither do bytes with one that is no digit.
-pub empty_unread : (bs : List ℕ) → length bs ≡ 0 → Unread ≡ width_in bs
+pub empty_unread : (bs : List ℕ) → length bs ≡ 0 → None ≡ width_in bs
 unfolding width_in
 empty_unread [] h = refl
 empty_unread (b ∷ bs) h = absurd (omega (arith, h))
 
-other_unread : (bs : List ℕ) → all_digits bs ≡ false → Unread ≡ width_in bs
+other_unread : (bs : List ℕ) → all_digits bs ≡ false → None ≡ width_in bs
 unfolding width_in
 other_unread [] e = refl
 other_unread (b ∷ bs) e = rw e refl
 
-digits-read : (bs : List ℕ) (n : ℕ) → 0 < length bs → all_digits bs ≡ true → n ≡ capped (number_from 0 bs) → Of n ≡ width_in bs
+digits-read : (bs : List ℕ) (n : ℕ) → 0 < length bs → all_digits bs ≡ true → n ≡ capped (number_from 0 bs) → Some n ≡ width_in bs
 unfolding width_in
 digits-read [] n h e f = absurd (omega (arith, h))
-digits-read (b ∷ bs) n h e f = rw e (ap Of f)
+digits-read (b ∷ bs) n h e f = rw e (ap (λ k. Some k) f)
 
 -- The bytes before place i are digits and say n: what is left says what all of them say.
 pub record Reads (bs : List ℕ) (n i : ℕ) : Type 0 where
@@ -55,13 +56,10 @@ module _ (bs : List ℕ) (n i : ℕ) (R : Reads bs n i) where
     left : drop i bs ≡ byte ∷ drop (i + 1) bs
     left = let e : suc i ≡ i + 1 = omega arith in drop-cons bs i 0 h ∙ ap (λ k. byte ∷ drop k bs) e
 
-    pub below-digits : byte < 48 → Unread ≡ width_in bs
+    pub other_byte : (byte < 48) ⊎ (57 < byte) → None ≡ width_in bs
     unfolding all_digits
-    below-digits l = other_unread bs (sym R.digits ∙ ap all_digits left ∙ rw (lt-ltb byte 48 l) refl)
-
-    pub above_digits : 48 ≤ byte → 57 < byte → Unread ≡ width_in bs
-    unfolding all_digits
-    above_digits l g = other_unread bs (sym R.digits ∙ ap all_digits left ∙ rw (le-ltb byte 48 l, lt-ltb 57 byte g) refl)
+    other_byte (inl l) = other_unread bs (sym R.digits ∙ ap all_digits left ∙ rw (lt-ltb byte 48 l) refl)
+    other_byte (inr g) = other_unread bs (sym R.digits ∙ ap all_digits left ∙ rw (le-ltb byte 48 (omega arith), lt-ltb 57 byte g) refl)
 
     pub next : 48 ≤ byte → byte ≤ 57 → (m : ℕ) → m ≡ capped (n * 10 + (byte - 48)) → Reads bs m (i + 1)
     unfolding all_digits number_from
@@ -75,7 +73,7 @@ module _ (bs : List ℕ) (n i : ℕ) (R : Reads bs n i) where
           number = number-capped (drop (i + 1) bs) m (n * 10 + (byte - 48)) f ∙ sym (ap (λ l. capped (number_from n l)) left) ∙ R.number;
         }
 
-  pub all_read : length bs ≤ i → Of n ≡ width_in bs
+  pub all_read : length bs ≤ i → Some n ≡ width_in bs
   unfolding all_digits number_from
   all_read h =
       let none : drop i bs ≡ [] = drop_of_length-le bs {i = i} h in

@@ -1,8 +1,6 @@
 -- A width as the digits of a decimal number.
 -- Assumes nothing.
-use Rattle.std.specs.Prelude.{Bool, true, false, cond, List, [], ◌∷◌, ℕ, ◌+◌, ◌-◌, ◌*◌, min, ltb}
-use Rattle.bursts.specs.declared.width.Width.{Width}
-use Rattle.bursts.specs.declared.width.Width.TheVariants.{Of, Unread}
+use Rattle.std.specs.Prelude.{Bool, true, false, cond, List, [], ◌∷◌, ℕ, ◌+◌, ◌-◌, ◌*◌, min, ltb, Option, Some, None}
 
 -- Whether every byte is a digit.
 unfoldable pub all_digits : List ℕ → Bool
@@ -19,6 +17,6 @@ abbrev pub capped : ℕ → ℕ
 capped n = min n 4096
 
 -- The width that bytes say: at least one digit and nothing else.
-unfoldable pub width_in : List ℕ → Width
-width_in [] = Unread
-width_in (b ∷ bs) = cond (all_digits (b ∷ bs)) (Of (capped (number_from 0 (b ∷ bs)))) Unread
+unfoldable pub width_in : List ℕ → Option ℕ
+width_in [] = None
+width_in (b ∷ bs) = cond (all_digits (b ∷ bs)) (Some (capped (number_from 0 (b ∷ bs)))) None

@@ -8,24 +8,22 @@
 
 mod width;
 
-ghost use Rattle.std.specs.Prelude.{◌≡◌, ◌≤◌, length};
+ghost use Rattle.std.specs.Prelude.{◌≡◌, length};
 ghost use Rattle.io.specs.Counts.{IsPrefixLen};
 ghost use Rattle.sheets.specs.SheetTexts.{AreBytes};
 ghost use Rattle.windows.specs.Questions.{wording_of};
 ghost use Rattle.windows.specs.Promises.{counts_after};
 ghost use Rattle.windows.specs.working.Surveying.{blanks};
 ghost use Rattle.windows.specs.declared.record.Question.TheVariants.{Steps};
-ghost use Rattle.lines.specs.Puts.{Fits, Puts};
-ghost use Rattle.wording.specs.Lines.{line_of};
-ghost use Rattle.names.specs.working.Arrays.{name_in, Named};
+ghost use Rattle.lines.specs.Puts.{Puts};
+ghost use Rattle.lines.specs.Writers.{HasRoom, Writes};
 ghost use Rattle.bursts.specs.Lines.{burst_line};
 ghost use Rattle.bursts.specs.working.Writing.{line_for, Listed, table_in, table_of, with_width, bursts_of};
 
-use conditions::outcome::Outcome;
-use evaluation::numbers::count;
-use lines::{put, put_number, put_refusal};
-use names::{Names, put_title};
-use reader::read;
+use lines::Writer;
+use names::name;
+use reader::{Code, read};
+use refusals::Reason;
 use std::env::Env;
 use std::fs::Files;
 use std::io::Write;
@@ -33,134 +31,89 @@ use streams::arguments::{argument, argument_count};
 use streams::files::read_argument;
 use streams::output::write_out;
 use streams::told::tell;
-use streams::whole::Got;
-use width::{Width, width_in};
-use windows::record::{Answer, Counts as CommandCounts, Question};
+use width::width_in;
+use windows::record::{Answer, Counts as CommandCounts, Question, Unanswered};
 use windows::values::survey_of;
-use wording::put_line;
+use wording::put_declined;
 
 // Room for 16 lines, each a name of at most 16 bytes, three numbers of at most 20 digits behind spaces, and a newline.
 type Lines = [u8; 1280];
 
-// The line of the command with name i: how often it occurs, the most times in a stretch, and the place of the first such stretch.
-fn put_burst_line(
-    out: &mut [u8],
-    at: usize,
-    text: &[u8],
-    names: &Names,
-    i: usize,
-    occurs: usize,
-    most: usize,
-    place: usize,
-) -> usize
-    requires { Named text.now names.now i × Fits out.old at (burst_line (name_in text.now names.now i) occurs most place) }
-    ensures { Puts out.old at (burst_line (name_in text.now names.now i) occurs most place) out.new result }
+// The line of a command: its name, how often it occurs, the most times in a stretch, and the place of the first such stretch.
+fn put_burst_line(out: &mut Writer, called: &[u8], occurs: usize, most: usize, place: usize)
+    requires { HasRoom out.old (burst_line called.now occurs most place) }
+    ensures { Writes out.old (burst_line called.now occurs most place) out.new }
 {
-    let named = put_title(out, at, text, names, i);
-    let counted = put_number(out, named, occurs);
-    let reached = put_number(out, counted, most);
-    let placed = put_number(out, reached, place);
-    put(out, placed, b"\n")
+    out.put(called);
+    out.put_number(occurs);
+    out.put_number(most);
+    out.put_number(place);
+    out.put(b"\n");
 }
 
-// The line of what is answered about the command with name i. Only a burst has one.
-fn put_answer(
-    out: &mut [u8],
-    at: usize,
-    text: &[u8],
-    names: &Names,
-    i: usize,
-    occurs: usize,
-    answer: Answer,
-) -> usize
-    requires { Named text.now names.now i × Fits out.old at (line_for (name_in text.now names.now i) occurs (wording_of answer)) }
-    ensures { Puts out.old at (line_for (name_in text.now names.now i) occurs (wording_of answer)) out.new result }
+// The line of what is answered about a command. Only a burst has one.
+#[tactic(auto, using(lines::proofs::Writers::nothing), unfolding(crate::specs::working::Writing::line_for, windows::specs::Questions::wording_of))]
+fn put_answer(out: &mut Writer, called: &[u8], occurs: usize, answer: Result<Answer, Unanswered>)
+    requires { HasRoom out.old (line_for called.now occurs (wording_of answer)) }
+    ensures { Writes out.old (line_for called.now occurs (wording_of answer)) out.new }
 {
     match answer {
-        Answer::Steps(_) => at,
-        Answer::Burst(most, place) => {
-            put_burst_line(out, at, text, names, i, occurs, most, place)
-        }
-        Answer::Refused(_) => at,
-        Answer::Told(_) => at,
+        Ok(Answer::Burst(most, place)) => put_burst_line(out, called, occurs, most, place),
+        Ok(Answer::Steps(_)) => {}
+        Err(Unanswered::Refused(_)) => {}
+        Err(Unanswered::Declined(_)) => {}
     }
 }
 
-// The lines of the commands, whose names begin with name `base`, at the front.
-fn put_table(
-    out: &mut [u8],
-    text: &[u8],
-    sheet: &[u8],
-    names: &Names,
-    base: usize,
-    commands: usize,
-    counts: &CommandCounts,
-    width: usize,
-) -> usize
-    requires { Listed text.now names.now base commands × (1280 ≤ length out.old) }
-    ensures puts { Puts out.old 0 (table_in text.now names.now base counts.now sheet.now width commands) out.new result }
-    ensures within { IsPrefixLen result out.new }
+// The lines of the commands with these counts. Their names stand behind the others.
+fn put_table(out: &mut Writer, text: &[u8], sheet: &[u8], code: &Code, counts: &[u16], width: usize)
+    requires { Listed text.now code.now (length counts.now) × HasRoom out.old (table_in text.now code.now counts.now sheet.now width) }
+    ensures { Writes out.old (table_in text.now code.now counts.now sheet.now width) out.new }
 {
-    let mut end: usize = 0;
-    let mut k: usize = 0;
-    'commands: while k < commands {
+    let base = code.shared + code.row;
+    'commands: for (k, n) in counts.iter().enumerate() {
         let reply = survey_of(text, sheet, Question::Burst(k, width));
-        let answer = reply.answer;
-        let occurs = count(counts[k]);
-        end = put_answer(out, end, text, names, base + k, occurs, answer);
-        k += 1;
+        let called = name(text, &code.names, base + k);
+        put_answer(out, called, usize::from(*n), reply.answer);
     }
-    end
 }
 
 // The lines of all commands of a trace that passes; a width out of range is refused.
-fn put_commands(
-    out: &mut Lines,
-    text: &[u8],
-    sheet: &[u8],
-    counts: &CommandCounts,
-    width: usize,
-) -> usize
-    requires { counts.now ≡ counts_after Steps text.now sheet.now blanks }
-    ensures puts { Puts out.old 0 (with_width width (table_of text.now sheet.now width)) out.new result }
-    ensures within { IsPrefixLen result out.new }
+fn put_commands(out: &mut Writer, text: &[u8], sheet: &[u8], counts: &CommandCounts, width: usize)
+    requires { (counts.now ≡ counts_after Steps text.now sheet.now blanks) × HasRoom out.old (with_width width (table_of text.now sheet.now width)) }
+    ensures { Writes out.old (with_width width (table_of text.now sheet.now width)) out.new }
 {
-    if width == 0 {
-        return put_refusal(out, 0, 16, 0);
+    if width == 0 || 4095 < width {
+        out.put_refusal(Reason::BadWidth.at(0));
+        return;
     }
-    if 4095 < width {
-        return put_refusal(out, 0, 16, 0);
-    }
-    let code = read(text).code;
-    let names = code.names;
-    let base = code.shared + code.row;
-    put_table(out, text, sheet, &names, base, code.commands, counts, width)
+    let Ok(code) = read(text) else {
+        return;
+    };
+    put_table(out, text, sheet, &code, &counts[..code.commands], width);
 }
 
-// The line of an outcome of the test at the front.
-fn put_outcome(out: &mut Lines, outcome: Outcome) -> usize
-    ensures puts { Puts out.old 0 (line_of outcome) out.new result }
-    ensures within { IsPrefixLen result out.new }
+// All that is written of a text, a sheet and a width.
+fn put_all(out: &mut Writer, text: &[u8], sheet: &[u8], width: usize)
+    requires { HasRoom out.old (bursts_of text.now sheet.now width) }
+    ensures { Writes out.old (bursts_of text.now sheet.now width) out.new × AreBytes sheet.now }
 {
-    let mut line = [0u8; 64];
-    let n = put_line(&mut line, outcome);
-    put(out, 0, &line[..n])
+    let reply = survey_of(text, sheet, Question::Steps);
+    match reply.answer {
+        Ok(_) => put_commands(out, text, sheet, &reply.counts, width),
+        Err(Unanswered::Refused(reason)) => out.put_refusal(reason.at(0)),
+        Err(Unanswered::Declined(declined)) => put_declined(out, declined),
+    }
 }
 
-// Puts at the front all that is written of a text, a sheet and a width; how long it is.
+// Puts it at the front; how long it is.
 fn put_bursts(out: &mut Lines, text: &[u8], sheet: &[u8], width: usize) -> usize
     ensures puts { Puts out.old 0 (bursts_of text.now sheet.now width) out.new result × AreBytes sheet.now }
     ensures within { IsPrefixLen result out.new }
 {
-    let reply = survey_of(text, sheet, Question::Steps);
-    let answer = reply.answer;
-    let counts = reply.counts;
-    match answer {
-        Answer::Steps(_) => put_commands(out, text, sheet, &counts, width),
-        Answer::Burst(_, _) => put_commands(out, text, sheet, &counts, width),
-        Answer::Refused(number) => put_refusal(out, 0, number, 0),
-        Answer::Told(outcome) => put_outcome(out, outcome),
-    }
+    let mut lines = Writer::new(out);
+    put_all(&mut lines, text, sheet, width);
+    lines.len()
 }
 
 // Writes the lines to standard output.
@@ -179,17 +132,17 @@ fn answer_into<R: Env + Files>(
     sheet: &mut [u8],
     width: usize,
 ) {
-    let Got::Bytes(n) = read_argument(rt, errors, b"bursts", 1, text) else {
+    let Some(n) = read_argument(rt, errors, b"bursts", 1, text) else {
         return;
     };
-    let Got::Bytes(m) = read_argument(rt, errors, b"bursts", 2, sheet) else {
+    let Some(m) = read_argument(rt, errors, b"bursts", 2, sheet) else {
         return;
     };
     answer(out, errors, &text[..n], &sheet[..m], width);
 }
 
 // The width that the third argument says.
-fn width_given(rt: &impl Env) -> Width {
+fn width_given(rt: &impl Env) -> Option<usize> {
     let mut room = [0u8; 131072];
     let n = argument(rt, 3, &mut room);
     width_in(&room[..n])
@@ -202,7 +155,7 @@ fn main(rt: HostRuntime) {
         tell(&mut errors, b"usage: bursts TEXT SHEET WIDTH\n");
         return;
     }
-    let Width::Of(width) = width_given(&rt) else {
+    let Some(width) = width_given(&rt) else {
         tell(&mut errors, b"bursts: WIDTH is no decimal number\n");
         return;
     };

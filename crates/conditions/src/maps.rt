@@ -1,93 +1,64 @@
-// The conditions A, B and C on a map, whose n bytes stand in the sheet from p on, and whether there is a start state.
-ghost use Rattle.std.specs.Prelude.{◌≡◌, ◌+◌, ◌*◌, ◌^◌, ◌<◌, ◌≤◌, length};
-ghost use Rattle.std.proofs.Math.Seq.{slice};
-ghost use Rattle.meaning.specs.Evidence.{in_map};
-ghost use Rattle.meaning.specs.working.Conditions.{every, test_void, test_a, test_b, test_c, closed_at};
-ghost use Rattle.evaluation.specs.working.Batches.{after_of};
-ghost use Rattle.evaluation.specs.working.CodeSystem.{starts_in, breaks_in, next_in, stars_in, Sound};
-ghost use Rattle.sheets.specs.working.SheetReading.{map_in};
-ghost use Rattle.sheets.specs.working.FlatSystem.{system_in};
+// The conditions A, B and C on a map, and whether there is a start state.
+ghost use Rattle.std.specs.Prelude.{◌≡◌, cond, ◌+◌, ◌*◌, ◌^◌, ◌<◌, ◌≤◌, length, Some, None};
+ghost use Rattle.meaning.specs.working.Conditions.{test_void, test_a, test_b, test_c, words_stay, closed_at};
+ghost use Rattle.evaluation.specs.working.CodeSystem.{starts_in, breaks_in, next_in, stars_in};
+ghost use Rattle.sheets.specs.working.FlatSystem.{system_at};
 ghost use Rattle.conditions.specs.working.Judging.{map_answer};
 
 use crate::outcome::Outcome;
 use evaluation::lanes::{fill, first_rows, pick};
 use evaluation::numbers::power;
-use evaluation::one_row::{breaks, segment, starts, word_count};
-use evaluation::plan::Plan;
+use evaluation::one_row::OneRow;
 use sheets::fields::in_map;
 
-// What is found of the start states: whether all are members, and whether there is none.
-#[derive(Clone, Copy)]
-struct StartStates {
-    inside: bool,
-    none: bool,
-}
-
-// A: every start state is a member. Whether there is one at all is seen in the same pass.
-fn holds_a(b: &[u8], p: usize, n: usize, ops: &[u16; 2048], plan: Plan) -> StartStates
-    requires { (p + n ≤ length b.now) × (2 ^ plan.bits ≤ 8 * n) × Sound plan }
-    ensures inside_value { result.inside ≡ test_a (2 ^ plan.bits) (starts_in ops.now plan.ends) (map_in b.now p n) }
-    ensures void { result.none ≡ test_void (2 ^ plan.bits) (starts_in ops.now plan.ends) }
+// A: whether every start state is a member, if there is a start state.
+#[tactic(auto, using(evaluation::proofs::Powers::pow_small, crate::proofs::Loops::every_none, crate::proofs::Loops::every_more), unfolding(meaning::specs::working::Conditions::test_void, meaning::specs::working::Conditions::test_a, meaning::specs::working::Conditions::implies))]
+fn holds_a(map: &[u8], table: &OneRow) -> Option<bool>
+    requires { 2 ^ table.now.plan.bits ≤ 8 * length map.now }
+    ensures { result ≡ cond (test_void (2 ^ table.now.plan.bits) (starts_in table.now.ops.now table.now.plan.ends)) None (Some (test_a (2 ^ table.now.plan.bits) (starts_in table.now.ops.now table.now.plan.ends) map.now)) }
 {
-    let states = power(plan.bits);
-    let mut none = true;
-    'states: for s in 0..states {
-        if starts(ops, plan, s) {
-            none = false;
-            let member = in_map(b, p, n, s);
-            if !member {
-                return StartStates {
-                    inside: false,
-                    none: false,
-                };
+    let mut found = None;
+    'states: for s in 0..power(table.plan.bits) {
+        if table.starts(s) {
+            if !in_map(map, s) {
+                return Some(false);
             }
+            found = Some(true);
         }
     }
-    StartStates {
-        inside: true,
-        none: none,
-    }
+    found
 }
 
 // B: no member violates `keep`.
-fn holds_b(b: &[u8], p: usize, n: usize, ops: &[u16; 2048], plan: Plan) -> bool
-    requires { (p + n ≤ length b.now) × (2 ^ plan.bits ≤ 8 * n) × Sound plan }
-    ensures { result ≡ test_b (2 ^ plan.bits) (breaks_in ops.now plan.ends) (map_in b.now p n) }
+fn holds_b(map: &[u8], table: &OneRow) -> bool
+    requires { 2 ^ table.now.plan.bits ≤ 8 * length map.now }
+    ensures { result ≡ test_b (2 ^ table.now.plan.bits) (breaks_in table.now.ops.now table.now.plan.ends) map.now }
 {
-    let states = power(plan.bits);
-    'states: for s in 0..states {
-        if in_map(b, p, n, s) {
-            if breaks(ops, plan, s) {
-                return false;
-            }
-        }
-    }
-    true
+    (0..power(table.plan.bits)).all(|s| !in_map(map, s) || !table.breaks(s))
 }
 
-// Whether the code from..to of a command leads from s to members under all of its words.
-fn words_stay(
-    b: &[u8],
-    p: usize,
-    n: usize,
-    bits: usize,
-    ops: &[u16; 2048],
-    from: usize,
-    to: usize,
-    words: usize,
-    s: usize,
-) -> bool
-    requires { (p + n ≤ length b.now) × (2 ^ bits ≤ 8 * n) × (bits ≤ 12) × (from ≤ to) × (to ≤ 2048) × (words ≤ 256) × (s < 2 ^ bits) }
-    ensures { result ≡ every words (λ w. in_map (map_in b.now p n) (after_of (slice from to ops.now) s bits w)) }
+// Whether command k leads from s to members under all of its words.
+#[tactic(auto, using(evaluation::proofs::Powers::pow_small))]
+fn words_stay(map: &[u8], table: &OneRow, s: usize, k: usize) -> bool
+    requires { (2 ^ table.now.plan.bits ≤ 8 * length map.now) × (s < 2 ^ table.now.plan.bits) × (k < table.now.plan.commands) }
+    ensures { result ≡ words_stay (next_in table.now.ops.now table.now.plan.ends table.now.plan.bits) map.now s k (2 ^ stars_in table.now.plan.stars k) }
 {
+    let code = table.segment(4 + k);
     let state = s as u32;
-    let mut rows = first_rows(ops, from, to, state, bits);
-    'words: for w in 0..words {
-        let word = w as u32;
-        fill(&mut rows, ops, from, to, state, bits, word);
+    let ops = table.ops;
+    let mut rows = first_rows(ops, code.from, code.to, state, table.plan.bits);
+    'words: for word in 0..table.word_count(k) as u32 {
+        fill(
+            &mut rows,
+            ops,
+            code.from,
+            code.to,
+            state,
+            table.plan.bits,
+            word,
+        );
         let after = pick(&rows, word % 64) as usize;
-        let member = in_map(b, p, n, after);
-        if !member {
+        if !in_map(map, after) {
             return false;
         }
     }
@@ -95,66 +66,38 @@ fn words_stay(
 }
 
 // Whether all commands under all words lead from s to members.
-fn closed_at(b: &[u8], p: usize, n: usize, ops: &[u16; 2048], plan: Plan, s: usize) -> bool
-    requires { (p + n ≤ length b.now) × (2 ^ plan.bits ≤ 8 * n) × (s < 2 ^ plan.bits) × Sound plan }
-    ensures { result ≡ closed_at plan.commands (stars_in plan.stars) (next_in ops.now plan.ends plan.bits) (map_in b.now p n) s }
+fn closed_at(map: &[u8], table: &OneRow, s: usize) -> bool
+    requires { (2 ^ table.now.plan.bits ≤ 8 * length map.now) × (s < 2 ^ table.now.plan.bits) }
+    ensures { result ≡ closed_at table.now.plan.commands (stars_in table.now.plan.stars) (next_in table.now.ops.now table.now.plan.ends table.now.plan.bits) map.now s }
 {
-    let commands = plan.commands;
-    'commands: for k in 0..commands {
-        let code = segment(plan, 4 + k);
-        let stay = words_stay(
-            b,
-            p,
-            n,
-            plan.bits,
-            ops,
-            code.from,
-            code.to,
-            word_count(plan, k),
-            s,
-        );
-        if !stay {
-            return false;
-        }
-    }
-    true
+    (0..table.plan.commands).all(|k| words_stay(map, table, s, k))
 }
 
 // C: no step leads out of the map.
-fn holds_c(b: &[u8], p: usize, n: usize, ops: &[u16; 2048], plan: Plan) -> bool
-    requires { (p + n ≤ length b.now) × (2 ^ plan.bits ≤ 8 * n) × Sound plan }
-    ensures { result ≡ test_c (2 ^ plan.bits) plan.commands (stars_in plan.stars) (next_in ops.now plan.ends plan.bits) (map_in b.now p n) }
+fn holds_c(map: &[u8], table: &OneRow) -> bool
+    requires { 2 ^ table.now.plan.bits ≤ 8 * length map.now }
+    ensures { result ≡ test_c (2 ^ table.now.plan.bits) table.now.plan.commands (stars_in table.now.plan.stars) (next_in table.now.ops.now table.now.plan.ends table.now.plan.bits) map.now }
 {
-    let states = power(plan.bits);
-    'states: for s in 0..states {
-        if in_map(b, p, n, s) {
-            let closed = closed_at(b, p, n, ops, plan, s);
-            if !closed {
-                return false;
-            }
-        }
-    }
-    true
+    (0..power(table.plan.bits)).all(|s| !in_map(map, s) || closed_at(map, table, s))
 }
 
 // The outcome for a map: the first of the three that fails, if one does, and else void where there is no start state.
-pub fn test_map(b: &[u8], p: usize, n: usize, ops: &[u16; 2048], plan: Plan) -> Outcome
-    requires { (p + n ≤ length b.now) × (2 ^ plan.bits ≤ 8 * n) × Sound plan }
-    ensures { result ≡ map_answer (system_in ops.now plan) (map_in b.now p n) }
+#[tactic(auto, using(crate::proofs::Loops::void_a), unfolding(crate::specs::working::Judging::map_answer, crate::specs::working::Judging::passed_answer))]
+pub fn test_map(map: &[u8], table: &OneRow) -> Outcome
+    requires { 2 ^ table.now.plan.bits ≤ 8 * length map.now }
+    ensures { result ≡ map_answer (system_at table.now) map.now }
 {
-    let begun = holds_a(b, p, n, ops, plan);
-    if !begun.inside {
+    let starts_inside = holds_a(map, table);
+    if starts_inside == Some(false) {
         return Outcome::FailsA;
     }
-    let kept = holds_b(b, p, n, ops, plan);
-    if !kept {
+    if !holds_b(map, table) {
         return Outcome::FailsB;
     }
-    let closed = holds_c(b, p, n, ops, plan);
-    if !closed {
+    if !holds_c(map, table) {
         return Outcome::FailsC;
     }
-    if begun.none {
+    if starts_inside.is_none() {
         return Outcome::Void;
     }
     Outcome::SafeHolds

@@ -12,6 +12,8 @@ use lib.Pow.{shr-shr}
 use lib.ListN.{length, get_or, take}
 use lib.Seq.{take-suc, take-length, get_or-append-add}
 use lib.Count.{ones, ones_step}
+use Rattle.std.specs.List.{sum_by}
+use Rattle.std.proofs.lemmas.List.Sums.{sum_by-cons}
 use Rattle.notation.specs.Regular.{sum_over}
 use Rattle.notation.proofs.Members.{sum-append}
 use Rattle.meaning.specs.Bits.{bit}
@@ -54,12 +56,18 @@ byte_ones x h =
     let e : length (below 8 (bit x)) + ones 0 ≡ length (below 8 (bit x)) = omega arith in
     sym (ones_below x 8 ∙ ap (λ k. length (below 8 (bit x)) + ones k) z ∙ e)
 
-pub ones-one : (x : ℕ) → ones_of (x ∷ []) ≡ ones x
+-- They are summed up byte by byte.
+pub ones-summed : (l : List ℕ) → sum_by ones l ≡ ones_of l
+unfolding sum_over
+ones-summed [] = refl
+ones-summed (x ∷ xs) = sum_by-cons ones x xs ∙ ap (λ k. ones x + k) (ones-summed xs)
+
+ones-one : (x : ℕ) → ones_of (x ∷ []) ≡ ones x
 unfolding sum_over
 ones-one x = omega arith
 
 -- One byte more.
-pub ones-next : (l : List ℕ) (i : ℕ) → i < length l → ones_of (take (i + 1) l) ≡ ones_of (take i l) + ones (get_or l i 0)
+ones-next : (l : List ℕ) (i : ℕ) → i < length l → ones_of (take (i + 1) l) ≡ ones_of (take i l) + ones (get_or l i 0)
 ones-next l i h =
     ap (λ k. ones_of (take k l)) (add-one i) ∙ ap ones_of (take-suc l i 0 h) ∙ sum-append ones (take i l) (get_or l i 0 ∷ [])
     ∙ ap (λ k. ones_of (take i l) + k) (ones-one (get_or l i 0))

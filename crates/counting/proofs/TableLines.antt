@@ -7,12 +7,14 @@ use Prim.Native.Nat.{ℕ, zero, suc, ◌+◌, ◌-◌, ◌≤◌, ◌<◌}
 use native.Mathlib.Omega.{arith}
 use native.Mathlib.Numerals.{add-one}
 use lib.Dec.{ltb}
-use lib.ListN.{length, get_or, length-append}
+use lib.ListN.{length, get_or, take, length-append}
+use lib.Seq.{get_or-take, length-take-le}
 use borrow.Author.Tests.{lt-ltb, le-ltb}
 use Rattle.notation.specs.Regular.{Every}
 use Rattle.notation.proofs.Members.{weaken}
-use Rattle.lines.specs.Puts.{Fits, Puts}
-use Rattle.lines.proofs.Stores.{none, behind, rest-fits}
+use Rattle.lines.specs.declared.Writer.{Writer}
+use Rattle.lines.specs.Writers.{HasRoom, Writes}
+use Rattle.lines.proofs.Writers.{nothing, behind, rest-room}
 use Rattle.exploration.specs.Members.{below}
 use Rattle.counting.specs.CountLines.{setting_line, setting_lines}
 use Rattle.counting.specs.working.Counting.{table, table_lines}
@@ -45,6 +47,16 @@ table-lines f counts k T h =
     ∙ lines-alike (λ j. get_or counts j 0) f js
     (weaken (λ (j : ℕ). j < k) (λ (j : ℕ). get_or counts j 0 ≡ f j) there js (each_below (λ j. ltb 0 (f j)) k k (omega arith)))
 
+-- The lines of the first so many counts are those of a table that ends there.
+pub first-lines : (counts : List ℕ) (k : ℕ) → k ≤ length counts → table_lines (take k counts) (length (take k counts)) ≡ table_lines counts k
+first-lines counts k h =
+    let js = below k (λ j. ltb 0 (get_or counts j 0)) in
+    let there : (j : ℕ) → j < k → get_or (take k counts) j 0 ≡ get_or counts j 0 = λ j l. get_or-take k counts j 0 l in
+    ap (table_lines (take k counts)) (length-take-le k counts h)
+    ∙ ap (setting_lines (λ j. get_or (take k counts) j 0)) (alike (λ j. ltb 0 (get_or (take k counts) j 0)) (λ j. ltb 0 (get_or counts j 0)) k (λ j l. ap (ltb 0) (there j l)))
+    ∙ lines-alike (λ j. get_or (take k counts) j 0) (λ j. get_or counts j 0) js
+    (weaken (λ (j : ℕ). j < k) (λ (j : ℕ). get_or (take k counts) j 0 ≡ get_or counts j 0) there js (each_below (λ j. ltb 0 (get_or counts j 0)) k k (omega arith)))
+
 module _ (counts : List ℕ) where
   abbrev value : ℕ → ℕ
   value j = get_or counts j 0
@@ -67,22 +79,18 @@ module _ (counts : List ℕ) where
         lines_grow j d,
       )
 
-  pub lines-begun : {l : List ℕ} {at : ℕ} → Puts l at (table_lines counts 0) l at
+  pub lines-begun : {out : Writer} → Writes out (table_lines counts 0) out
   unfolding below setting_lines
-  lines-begun = none
+  lines-begun = nothing
 
-  pub lines-done : {l x : List ℕ} {at r : ℕ} (j k : ℕ) → j ≤ k → k ≤ j → Puts l at (table_lines counts j) x r → Puts l at (table_lines counts k) x r
-  lines-done {l} {x} {at} {r} j k h g P = let q : j ≡ k = omega arith in subst (λ i. Puts l at (table_lines counts i) x r) q P
-
-  module _ {l x : List ℕ} {at r : ℕ} (j n : ℕ) (P : Puts l at (table_lines counts j) x r) (q : n ≡ value j) where
+  module _ {s t : Writer} (j n : ℕ) (P : Writes s (table_lines counts j) t) (q : n ≡ value j) where
     -- A setting that does not occur has no line.
-    pub line_none : n ≤ 0 → {y : List ℕ} {s : ℕ} → y ≡ x → s ≡ r → Puts l at (table_lines counts (j + 1)) y s
-    line_none h {y} {s} a b =
+    pub line_none : n ≤ 0 → Writes s (table_lines counts (j + 1)) t
+    line_none h =
         let z : ltb 0 (value j) ≡ false = le-ltb 0 (value j) (omega arith) in
         let e : table_lines counts (j + 1) ≡ table_lines counts j =
         lines_more j ∙ ap (λ b. table_lines counts j ++ cond b (setting_line j (value j)) []) z ∙ append-nil (table_lines counts j) in
-        subst (λ k. Puts l at (table_lines counts (j + 1)) y k) (sym b)
-        (subst (λ z. Puts l at (table_lines counts (j + 1)) z r) (sym a) (subst (λ v. Puts l at v x r) (sym e) P))
+        subst (λ v. Writes s v t) (sym e) P
 
     module _ (h : 0 < n) where
       one_more : table_lines counts (j + 1) ≡ table_lines counts j ++ setting_line j n
@@ -91,14 +99,12 @@ module _ (counts : List ℕ) where
           lines_more j ∙ ap (λ b. table_lines counts j ++ cond b (setting_line j (value j)) []) z ∙ ap (λ k. table_lines counts j ++ setting_line j k) (sym q)
 
       -- One that occurs has one, and there is room for it.
-      pub line-room : (k : ℕ) → j < k → Fits l at (table_lines counts k) → Fits x r (setting_line j n)
+      pub line-room : (k : ℕ) → j < k → HasRoom s (table_lines counts k) → HasRoom t (setting_line j n)
       line-room k g F =
           let d : j + 1 + (k - (j + 1)) ≡ k = omega arith in
           let short : length (table_lines counts (j + 1)) ≤ length (table_lines counts k) =
           subst (λ i. length (table_lines counts (j + 1)) ≤ length (table_lines counts i)) d (lines_grow (j + 1) (k - (j + 1))) in
-          rest-fits (setting_line j n) P (record { room = omega (arith, F.room, short, ap length one_more) })
+          rest-room (setting_line j n) P (record { room = omega (arith, F.room, short, ap length one_more) })
 
-      pub line-put : {y z : List ℕ} {s t : ℕ} → Puts x r (setting_line j n) y s → z ≡ y → t ≡ s → Puts l at (table_lines counts (j + 1)) z t
-      line-put {y} {z} {s} {t} Q a b =
-          subst (λ k. Puts l at (table_lines counts (j + 1)) z k) (sym b)
-          (subst (λ o. Puts l at (table_lines counts (j + 1)) o s) (sym a) (subst (λ v. Puts l at v y s) (sym one_more) (behind P Q)))
+      pub line-put : {u : Writer} → Writes t (setting_line j n) u → Writes s (table_lines counts (j + 1)) u
+      line-put {u} Q = subst (λ v. Writes s v u) (sym one_more) (behind P Q)

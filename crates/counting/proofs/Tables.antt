@@ -20,7 +20,7 @@ pub table_at : (f : ℕ → ℕ) (j : ℕ) → j < 256 → get_or (table f) j 0 
 unfolding table
 table_at f j h = first-at 256 f 0 j h
 
-table-length : (f : ℕ → ℕ) → length (table f) ≡ 256
+pub table-length : (f : ℕ → ℕ) → length (table f) ≡ 256
 unfolding table
 table-length f = first-length 256 f
 
@@ -32,9 +32,6 @@ module _ (settings : ℕ) (bytes : List ℕ) where
   pub table-begun : replicate 256 0 ≡ table (count_at 0 settings bytes)
   unfolding below table
   table-begun = refl
-
-  pub table_done : (counts : List ℕ) (s n : ℕ) → s ≤ n → n ≤ s → counts ≡ table (count_at s settings bytes) → counts ≡ table (count_at n settings bytes)
-  table_done counts s n h g T = let q : s ≡ n = omega arith in T ∙ ap (λ k. table (count_at k settings bytes)) q
 
   count-more : (s j : ℕ) → count_at (s + 1) settings bytes j ≡ count_at s settings bytes j + cond (in_map bytes s && eqb (setting_of settings s) j) 1 0
   count-more s j = more (λ t. in_map bytes t && eqb (setting_of settings t) j) s

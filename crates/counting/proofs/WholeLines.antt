@@ -3,23 +3,23 @@
 use mathlib.Core.Path.{◌≡◌, sym, ap, ◌∙◌, subst}
 use mathlib.Core.List.{List, ◌++◌}
 use Prim.Native.Nat.{ℕ, ◌^◌, ◌≤◌}
-use Rattle.sheets.specs.working.SheetReading.{map_in}
-use Rattle.lines.specs.Puts.{Fits, Puts}
-use Rattle.lines.proofs.Stores.{behind, first_fits, rest-fits}
+use native.Mathlib.Omega.{arith}
+use lib.ListN.{length, take}
+use Rattle.lines.specs.declared.Writer.{Writer}
+use Rattle.lines.specs.Writers.{HasRoom, Writes}
+use Rattle.lines.proofs.Writers.{behind, first-room, rest-room}
 use Rattle.counting.specs.Counts.{count_at, settings_in, ones_of}
 use Rattle.counting.specs.CountLines.{states_line, setting_lines, count_lines}
 use Rattle.counting.specs.working.Counting.{table, table_lines, Countable}
 use Rattle.counting.proofs.MapBytes.{few_settings, total-told}
-use Rattle.counting.proofs.TableLines.{table-lines}
+use Rattle.counting.proofs.Tables.{table-length}
+use Rattle.counting.proofs.TableLines.{table-lines, first-lines}
 
 -- The table of counts, from the number of states that it was made for.
 pub counts-told : (settings : ℕ) (map counts : List ℕ) {states k : ℕ} → states ≡ k → counts ≡ table (count_at states settings map) → counts ≡ table (count_at k settings map)
 counts-told settings map counts e T = T ∙ ap (λ s. table (count_at s settings map)) e
 
-module _ (bits shared : ℕ) (b : List ℕ) (p n : ℕ) (S : Countable bits shared b p n) where
-  abbrev map : List ℕ
-  map = map_in b p n
-
+module _ {bits shared : ℕ} {map : List ℕ} (S : Countable bits shared map) where
   abbrev at : ℕ → ℕ
   at = count_at (2 ^ bits) (2 ^ shared) map
 
@@ -28,24 +28,28 @@ module _ (bits shared : ℕ) (b : List ℕ) (p n : ℕ) (S : Countable bits shar
 
   split : (total : ℕ) → total ≡ ones_of map → count_lines (2 ^ bits) (2 ^ shared) map ≡ states_line total ++ rest
   unfolding count_lines
-  split total e = ap (λ k. states_line k ++ rest) (sym (total-told bits shared b p n S total e))
+  split total e = ap (λ k. states_line k ++ rest) (sym (total-told S total e))
 
-  module _ {out : List ℕ} {from : ℕ} (total : ℕ) (e : total ≡ ones_of map) where
-    fits : Fits out from (count_lines (2 ^ bits) (2 ^ shared) map) → Fits out from (states_line total ++ rest)
-    fits f = subst (Fits out from) (split total e) f
+  module _ {out : Writer} (total : ℕ) (e : total ≡ ones_of map) where
+    room : HasRoom out (count_lines (2 ^ bits) (2 ^ shared) map) → HasRoom out (states_line total ++ rest)
+    room f = subst (HasRoom out) (split total e) f
 
-    pub total-room : Fits out from (count_lines (2 ^ bits) (2 ^ shared) map) → Fits out from (states_line total)
-    total-room f = first_fits (states_line total) rest (fits f)
+    pub total-room : HasRoom out (count_lines (2 ^ bits) (2 ^ shared) map) → HasRoom out (states_line total)
+    total-room f = first-room (states_line total) rest (room f)
 
-    module _ {x : List ℕ} {r : ℕ} (P : Puts out from (states_line total) x r) (settings : ℕ) (s : settings ≡ 2 ^ shared)
+    module _ {next : Writer} (P : Writes out (states_line total) next) (settings : ℕ) (s : settings ≡ 2 ^ shared)
         (counts : List ℕ) (T : counts ≡ table (count_at (2 ^ bits) settings map)) where
-      lines : table_lines counts settings ≡ rest
+      pub few : settings ≤ length counts
+      few = omega (arith, s, few_settings S, ap length T ∙ table-length (count_at (2 ^ bits) settings map))
+
+      lines : table_lines (take settings counts) (length (take settings counts)) ≡ rest
       lines =
-          ap (table_lines counts) s
-          ∙ table-lines at counts (2 ^ shared) (T ∙ ap (λ k. table (count_at (2 ^ bits) k map)) s) (few_settings bits shared b p n S)
+          first-lines counts settings few
+          ∙ ap (table_lines counts) s
+          ∙ table-lines at counts (2 ^ shared) (T ∙ ap (λ k. table (count_at (2 ^ bits) k map)) s) (few_settings S)
 
-      pub settings_room : Fits out from (count_lines (2 ^ bits) (2 ^ shared) map) → (settings ≤ 256) × Fits x r (table_lines counts settings)
-      settings_room f = (subst (λ k. k ≤ 256) (sym s) (few_settings bits shared b p n S), subst (Fits x r) (sym lines) (rest-fits rest P (fits f)))
+      pub settings_room : HasRoom out (count_lines (2 ^ bits) (2 ^ shared) map) → HasRoom next (table_lines (take settings counts) (length (take settings counts)))
+      settings_room f = subst (HasRoom next) (sym lines) (rest-room rest P (room f))
 
-      pub all-put : {y : List ℕ} {t : ℕ} → Puts x r (table_lines counts settings) y t → Puts out from (count_lines (2 ^ bits) (2 ^ shared) map) y t
-      all-put {y} {t} Q = subst (λ l. Puts out from l y t) (sym (split total e)) (behind P (subst (λ l. Puts x r l y t) lines Q))
+      pub all-put : {end : Writer} → Writes next (table_lines (take settings counts) (length (take settings counts))) end → Writes out (count_lines (2 ^ bits) (2 ^ shared) map) end
+      all-put {end} Q = subst (λ l. Writes out l end) (sym (split total e)) (behind P (subst (λ l. Writes next l end) lines Q))

@@ -1,29 +1,19 @@
 -- A batch's rows serve the 64 words from a multiple of 64.
 -- Assumes nothing.
-use Prim.Native.Nat.{ℕ, zero, suc, ◌+◌, ◌-◌, ◌*◌, ◌/◌, ◌%◌, ◌^◌, ◌≤◌, ◌<◌}
+use Prim.Native.Nat.{ℕ, zero, suc, ◌+◌, ◌*◌, ◌/◌, ◌%◌, ◌^◌, ◌≤◌, ◌<◌}
 use mathlib.Core.Path.{◌≡◌, refl, ap, ◌∙◌, subst}
 use mathlib.Core.List.{List}
 use native.Mathlib.Omega.{arith}
 use lib.Dec.{eqb, ltb}
-use lib.ListN.{length, replicate, take, drop}
-use lib.Seq.{slice}
+use lib.ListN.{length, replicate}
 use mathlib.Core.Bool.{Bool, true, false, cond, ◌&&◌}
 use borrow.Author.Tests.{eq-eqb, ne_eqb, lt-ltb, le-ltb}
 use Rattle.evaluation.specs.Promises.{LanesAgree}
 use Rattle.evaluation.specs.working.CodeMachine.{run_of, start_of}
-use Rattle.evaluation.specs.working.Cells.{run_cells, no_tops}
-use Rattle.evaluation.specs.working.Ends.{start_cells, row_of, fills, pick_of}
+use Rattle.evaluation.specs.working.Ends.{row_of, fills, pick_of}
 use Rattle.evaluation.specs.working.Batches.{after_of, cells_at, filled_of}
-use Rattle.evaluation.proofs.CodeRuns.{part}
 use Rattle.evaluation.proofs.LaneRows.{Have, picked_right}
 use Rattle.evaluation.proofs.LaneEnds.{fills-at, fills-length}
-
--- The cells after the code words from..to, which a program lends.
-pub cells_right : (ops : List ℕ) (from to s n b : ℕ) {first after : List ℕ} → first ≡ start_cells n s → after ≡ run_cells (take (to - from) (drop from ops)) b no_tops first
-    → after ≡ cells_at (slice from to ops) s n b
-unfolding cells_at
-cells_right ops from to s n b {first = cells} e q =
-    q ∙ ap (λ (os : List ℕ). run_cells os b no_tops cells) (part ops from to) ∙ ap (run_cells (slice from to ops) b no_tops) e
 
 -- Before the word w the rows are those of its batch, unless w begins another one.
 pub record Ready (os : List ℕ) (s n w : ℕ) (rows : List ℕ) : Type 0 where

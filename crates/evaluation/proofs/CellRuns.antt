@@ -1,57 +1,20 @@
 -- A run on 64 words, one code word at a time: the tops stay within their stacks.
 -- Assumes nothing.
-use Prim.Native.Nat.{ℕ, ◌+◌, ◌/◌, ◌≤◌, ◌<◌}
+use Prim.Native.Nat.{ℕ, ◌+◌, ◌/◌, ◌<◌}
 use mathlib.Core.Path.{◌≡◌, ap}
 use mathlib.Core.List.{List}
 use native.Mathlib.Omega.{arith}
 use lib.Dec.{eqb}
 use lib.ListN.{length, get_or, drop}
-use borrow.Author.Tests.{ne_eqb}
 use Rattle.evaluation.specs.declared.lanes.Tops.{Tops}
-use Rattle.evaluation.specs.working.Cells.{run_cells, cells_of, tops_of, tops_kind, cells_kind}
+use Rattle.evaluation.specs.working.Cells.{run_cells, cells_of, tops_of, tops_kind}
 use Rattle.meaning.proofs.Lists.{taken}
-use Rattle.evaluation.proofs.CodeRuns.{next_word, no_word}
+use Rattle.evaluation.proofs.CodeRuns.{next_word}
 
--- A code word of another kind does nothing.
-pub tops_other : (k sp mp : ℕ) → 9 < k → tops_kind k sp mp ≡ record { sp = sp; mp = mp }
-unfolding tops_kind
-tops_other k sp mp h =
-    rw (
-      ne_eqb k 0 (λ q. omega arith),
-      ne_eqb k 1 (λ q. omega arith),
-      ne_eqb k 2 (λ q. omega arith),
-      ne_eqb k 3 (λ q. omega arith),
-      ne_eqb k 4 (λ q. omega arith),
-      ne_eqb k 5 (λ q. omega arith),
-      ne_eqb k 6 (λ q. omega arith),
-      ne_eqb k 7 (λ q. omega arith),
-      ne_eqb k 8 (λ q. omega arith),
-      ne_eqb k 9 (λ q. omega arith),
-    )
-
-pub cells_other : (k j b sp mp : ℕ) (c : List ℕ) → 9 < k → cells_kind k j b sp mp c ≡ c
-unfolding cells_kind
-cells_other k j b sp mp c h =
-    rw (
-      ne_eqb k 0 (λ q. omega arith),
-      ne_eqb k 1 (λ q. omega arith),
-      ne_eqb k 2 (λ q. omega arith),
-      ne_eqb k 3 (λ q. omega arith),
-      ne_eqb k 4 (λ q. omega arith),
-      ne_eqb k 5 (λ q. omega arith),
-      ne_eqb k 6 (λ q. omega arith),
-      ne_eqb k 7 (λ q. omega arith),
-      ne_eqb k 8 (λ q. omega arith),
-      ne_eqb k 9 (λ q. omega arith),
-    )
-
--- The code words from place i on: one and those behind it, and none.
+-- The code words from place i on: one, and those behind it.
 module _ (ops : List ℕ) (i b : ℕ) (t : Tops) (c : List ℕ) where
   pub turn : i < length ops → run_cells (drop i ops) b t c ≡ run_cells (drop (i + 1) ops) b (tops_of (get_or ops i 0) t) (cells_of (get_or ops i 0) b t c)
   turn h = ap (λ (l : List ℕ). run_cells l b t c) (next_word ops i h)
-
-  pub done : length ops ≤ i → run_cells (drop i ops) b t c ≡ c
-  done h = ap (λ (l : List ℕ). run_cells l b t c) (no_word ops i h)
 
 -- The tops are within their stacks.
 abbrev pub In : Tops → Type 0

@@ -1,13 +1,15 @@
 -- What the operations on cells do in one lane.
 -- Assumes nothing.
-use Prim.Native.Nat.{ℕ, zero, suc, ◌+◌, ◌-◌, ◌*◌, ◌/◌, ◌%◌, ◌^◌, ◌<◌, min, max}
+use Prim.Native.Nat.{ℕ, zero, suc, ◌+◌, ◌-◌, ◌*◌, ◌/◌, ◌%◌, ◌^◌, ◌<◌, min}
 use mathlib.Core.Path.{◌≡◌, refl, sym, ap, ◌∙◌}
 use mathlib.Core.Bool.{true}
 use native.Mathlib.Omega.{arith}
+use native.Mathlib.Nat.{mod-eq_of_lt}
 use lib.Dec.{eqb}
-use lib.Bits.{bit_and, bit_or, bit_xor, and_shr, and_step, or_shr, or_step, xor_shr, xor_step, differ}
+use lib.Bits.{and_mask, xor_add_and, bit_and, bit_xor}
 use lib.Pow.{shr-shr}
 use borrow.Author.Tests.{eqb-true, ne_eqb}
+use Rattle.std.proofs.lemmas.Nat.Bits.{bit_at_and, bit_at_xor, bit_at_ones, bit_at-zero}
 use Rattle.meaning.specs.working.Digits.{digit}
 use Rattle.evaluation.specs.working.Cells.{ones, star_of}
 use Rattle.meaning.specs.working.Conditions.{every}
@@ -17,50 +19,25 @@ use Rattle.meaning.proofs.Accept.{below}
 pub same_lanes : (x : ℕ) (f : ℕ → ℕ) → every 64 (λ l. eqb (digit x l) (f l)) ≡ true → (l : ℕ) → l < 64 → digit x l ≡ f l
 same_lanes x f h l b = eqb-true (digit x l) (f l) (below 64 (λ i. eqb (digit x i) (f i)) h l b)
 
--- ---- the operations
-
-pub lane_and : (a b l : ℕ) → digit (bit_and a b) l ≡ min (digit a l) (digit b l)
-lane_and a b l = ap (λ (x : ℕ). x % 2) (and_shr a b l ∙ and_step (a / 2 ^ l) (b / 2 ^ l)) ∙ odd (bit_and (a / 2 ^ l / 2) (b / 2 ^ l / 2)) (digit a l) (digit b l) (omega arith)
-  where
-    odd : (q x y : ℕ) → x < 2 → (q * 2 + min x y) % 2 ≡ min x y
-    odd q x y h = omega arith
-
-pub lane_or : (a b l : ℕ) → digit (bit_or a b) l ≡ max (digit a l) (digit b l)
-lane_or a b l = ap (λ (x : ℕ). x % 2) (or_shr a b l ∙ or_step (a / 2 ^ l) (b / 2 ^ l)) ∙ odd (bit_or (a / 2 ^ l / 2) (b / 2 ^ l / 2)) (digit a l) (digit b l) (omega arith) (omega arith)
-  where
-    odd : (q x y : ℕ) → x < 2 → y < 2 → (q * 2 + max x y) % 2 ≡ max x y
-    odd q x y h k = omega arith
-
-pub lane_xor : (a b l : ℕ) → digit (bit_xor a b) l ≡ (digit a l + digit b l) % 2
-lane_xor a b l = ap (λ (x : ℕ). x % 2) (xor_shr a b l ∙ xor_step (a / 2 ^ l) (b / 2 ^ l)) ∙ odd (bit_xor (a / 2 ^ l / 2) (b / 2 ^ l / 2)) (digit a l) (digit b l) (omega arith) (omega arith)
-  where
-    differing : (x y : ℕ) → x < 2 → y < 2 → differ x y ≡ (x + y) % 2
-    differing zero zero h k = refl
-    differing zero (suc zero) h k = refl
-    differing (suc zero) zero h k = refl
-    differing (suc zero) (suc zero) h k = refl
-    differing (suc (suc x)) y h k = absurd (omega arith)
-    differing zero (suc (suc y)) h k = absurd (omega arith)
-    differing (suc zero) (suc (suc y)) h k = absurd (omega arith)
-
-    odd : (q x y : ℕ) → x < 2 → y < 2 → (q * 2 + differ x y) % 2 ≡ (x + y) % 2
-    odd q x y h k = rw (differing x y h k) (omega arith)
-
 -- ---- constants
 
 pub lane_ones : (l : ℕ) → l < 64 → digit ones l ≡ 1
-unfolding every
-lane_ones = same_lanes ones (λ l. 1) refl
+lane_ones l h = bit_at_ones 64 l h
+
+-- What the code writes as `!a`.
+pub not_lanes : (a : ℕ) → a < 2 ^ 64 → ones - a ≡ bit_xor a ones
+not_lanes a h =
+    let whole : bit_and a ones ≡ a = and_mask a 64 ∙ mod-eq_of_lt h in
+    omega (arith, xor_add_and a ones)
 
 pub lane_not : (a l : ℕ) → l < 64 → digit (bit_xor a ones) l ≡ 1 - digit a l
-lane_not a l h = lane_xor a ones l ∙ ap (λ (x : ℕ). (digit a l + x) % 2) (lane_ones l h) ∙ flip (digit a l) (omega arith)
+lane_not a l h = bit_at_xor a ones l ∙ ap (λ (x : ℕ). (digit a l + x) % 2) (lane_ones l h) ∙ flip (digit a l) (omega arith)
   where
     flip : (x : ℕ) → x < 2 → (x + 1) % 2 ≡ 1 - x
     flip x h = omega arith
 
 pub lane_zero : (l : ℕ) → l < 64 → digit 0 l ≡ 0
-unfolding every
-lane_zero = same_lanes 0 (λ l. 0) refl
+lane_zero l h = bit_at-zero l
 
 -- 0 or all ones.
 pub lane_all : (b l : ℕ) → b < 2 → l < 64 → digit (b * ones) l ≡ b
@@ -71,14 +48,14 @@ lane_all (suc (suc b)) l h k = absurd (omega arith)
 -- Old where the mask is off, new where it is on.
 pub lane_store_on : (o v m l : ℕ) → digit m l ≡ 1 → digit (bit_xor o (bit_and (bit_xor o v) m)) l ≡ digit v l
 lane_store_on o v m l h =
-    rw (lane_xor o (bit_and (bit_xor o v) m) l, lane_and (bit_xor o v) m l, lane_xor o v l, h) (go (digit o l) (digit v l) (omega arith) (omega arith))
+    rw (bit_at_xor o (bit_and (bit_xor o v) m) l, bit_at_and (bit_xor o v) m l, bit_at_xor o v l, h) (go (digit o l) (digit v l) (omega arith) (omega arith))
   where
     go : (x y : ℕ) → x < 2 → y < 2 → (x + min ((x + y) % 2) 1) % 2 ≡ y
     go x y p q = omega arith
 
 pub lane_store_off : (o v m l : ℕ) → digit m l ≡ 0 → digit (bit_xor o (bit_and (bit_xor o v) m)) l ≡ digit o l
 lane_store_off o v m l h =
-    rw (lane_xor o (bit_and (bit_xor o v) m) l, lane_and (bit_xor o v) m l, lane_xor o v l, h) (go (digit o l) (digit v l) (omega arith) (omega arith))
+    rw (bit_at_xor o (bit_and (bit_xor o v) m) l, bit_at_and (bit_xor o v) m l, bit_at_xor o v l, h) (go (digit o l) (digit v l) (omega arith) (omega arith))
   where
     go : (x y : ℕ) → x < 2 → y < 2 → (x + min ((x + y) % 2) 0) % 2 ≡ x
     go x y p q = omega arith

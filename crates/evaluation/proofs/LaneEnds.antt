@@ -6,7 +6,7 @@ use mathlib.Core.List.{List}
 use mathlib.Core.Logic.{◌⊎◌, inl, inr}
 use native.Mathlib.Omega.{arith}
 use native.Mathlib.Nat.{pow-suc, add-mul, mul_assoc, mul_comm, add_assoc, eq-or-lt_of_le, lt_of_lt_of_le, mod-one}
-use native.Mathlib.Numerals.{add-one, one-add}
+use native.Mathlib.Numerals.{one-add}
 use native.Mathlib.Decide.{dec_lt}
 use lib.Pow.{pow_mono, mod-pow-add}
 use lib.ListN.{length, get_or, set, replicate, length-set}
@@ -23,14 +23,6 @@ use Rattle.evaluation.proofs.LaneRuns.{Both, run_lane}
 -- ---- the beginning
 
 module _ (f : ℕ → ℕ) where
-  pub fills_none : (c : List ℕ) → c ≡ fills f 0 c
-  unfolding fills
-  fills_none c = refl
-
-  pub fills-next : (i : ℕ) (c d : List ℕ) → c ≡ fills f i d → set c i (f i) ≡ fills f (i + 1) d
-  unfolding fills
-  fills-next i c d e = rw (add-one) (ap (λ (x : List ℕ). set x i (f i)) e)
-
   pub fills-length : (n : ℕ) (c : List ℕ) → length (fills f n c) ≡ length c
   unfolding fills
   fills-length zero c = refl
@@ -114,9 +106,6 @@ module _ (n s l : ℕ) (hn : n ≤ 32) (hs : s < 2 ^ n) (hl : l < 64) where
 
 -- The digits from the top down: what is read so far, then what is left.
 module _ (f : ℕ → ℕ) where
-  pub sum_none : (n : ℕ) → 0 * 2 ^ n + sum_of f n ≡ sum_of f n
-  sum_none n = omega arith
-
   pub sum_done : (r : ℕ) → r * 2 ^ 0 + sum_of f 0 ≡ r
   unfolding sum_of
   sum_done r = omega arith

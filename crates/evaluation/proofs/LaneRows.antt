@@ -150,16 +150,10 @@ picked_right os rows b s n l hn hs hl have =
 pub row_room : (x n i : ℕ) → 0 < i → i ≤ n → n ≤ 16 → x + fours ≤ 2 ^ (n - i) * fours → x * 2 % 2 ^ 64 ≡ x * 2
 row_room x n i h k b s = let g : 2 ^ (n - i) ≤ 2 ^ 15 = pow_mono {i = n - i} {j = 15} (omega arith) in mod-eq_of_lt (omega arith)
 
-pub row_fits : (x m n i : ℕ) → 0 < i → i ≤ n → n ≤ 16 → m ≤ fours → x + fours ≤ 2 ^ (n - i) * fours → x * 2 + m < 2 ^ 64
-row_fits x m n i h k b q s = let g : 2 ^ (n - i) ≤ 2 ^ 15 = pow_mono {i = n - i} {j = 15} (omega arith) in omega arith
-
 pub row_more : (x m n i : ℕ) → 0 < i → i ≤ n → m ≤ fours → x + fours ≤ 2 ^ (n - i) * fours → x * 2 + m + fours ≤ 2 ^ (n - (i - 1)) * fours
 row_more x m n i h k q s =
     let e : n - (i - 1) ≡ suc (n - i) = omega arith in
     rw (e, pow-suc 2 (n - i)) (omega arith)
-
-pub row_first : (n : ℕ) → 0 + fours ≤ 2 ^ (n - n) * fours
-row_first n = let e : n - n ≡ 0 = omega arith in rw e (omega arith)
 
 pub row-bits : (x r : ℕ) → bit_and (x / 2 ^ r) fours ≤ fours
 row-bits x r = and_le_r (x / 2 ^ r) fours

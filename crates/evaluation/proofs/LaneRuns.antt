@@ -10,14 +10,13 @@ use lib.Bits.{bit_and, bit_or, bit_xor}
 use lib.ListN.{get_or, set}
 use lib.Seq.{get_or-set_other}
 use borrow.Author.Tests.{ne_eqb, eq-eqb}
+use Rattle.std.proofs.lemmas.Nat.Bits.{bit_at_and, bit_at_or}
 use Rattle.evaluation.specs.declared.machine.Machine.{Machine}
 use Rattle.evaluation.specs.working.CodeMachine.{node_kind, kind_of, step_of, run_of}
 use Rattle.meaning.specs.working.Digits.{digit, put}
 use Rattle.evaluation.specs.declared.lanes.Tops.{Tops}
 use Rattle.evaluation.specs.working.Cells.{ones, star_of, down, mdown, tops_kind, cells_kind, tops_of, cells_of, run_cells}
-use Rattle.evaluation.proofs.CodeRuns.{kind-other}
-use Rattle.evaluation.proofs.CellRuns.{tops_other, cells_other}
-use Rattle.evaluation.proofs.LaneBits.{lane_and, lane_or, lane_not, lane_all, lane_star, lane_store_on, lane_store_off}
+use Rattle.evaluation.proofs.LaneBits.{lane_not, lane_all, lane_star, lane_store_on, lane_store_off}
 use Rattle.evaluation.proofs.Zones.{Zone}
 use Rattle.evaluation.proofs.LaneMoves.{Sim, top, second, mask_top, mask_second, pushed, popped, topped, mask_pushed, mask_popped, mask_topped, stored, kept}
 
@@ -84,7 +83,7 @@ module _ (l b j sp mp : ℕ) (c : List ℕ) (m : Machine) (hl : l < 64) (hj : j 
       let v = bit_and (get_or c (32 + down sp) 0) (get_or c (32 + sp) 0) in
       let r = (st % 2 + st / 2 % 2) / 2 in
       let e : digit v l ≡ r =
-      lane_and (get_or c (32 + down sp) 0) (get_or c (32 + sp) 0) l ∙ ap₂ min (sym t1) (sym t0) ∙ and-bits (st % 2) (st / 2 % 2) (omega arith) (omega arith) in
+      bit_at_and (get_or c (32 + down sp) 0) (get_or c (32 + sp) 0) l ∙ ap₂ min (sym t1) (sym t0) ∙ and-bits (st % 2) (st / 2 % 2) (omega arith) (omega arith) in
       subst (λ (x : ℕ). Sim l (down sp) mp (set (set c (32 + sp) 0) (32 + down sp) v) x on s) (quarter st r)
       (topped l (down sp) mp (set c (32 + sp) 0) (st / 2) on s hl (popped l sp mp c st on s hl z) v r e (omega arith))
 
@@ -94,7 +93,7 @@ module _ (l b j sp mp : ℕ) (c : List ℕ) (m : Machine) (hl : l < 64) (hj : j 
       let v = bit_or (get_or c (32 + down sp) 0) (get_or c (32 + sp) 0) in
       let r = (st % 2 + st / 2 % 2 + 1) / 2 in
       let e : digit v l ≡ r =
-      lane_or (get_or c (32 + down sp) 0) (get_or c (32 + sp) 0) l ∙ ap₂ max (sym t1) (sym t0) ∙ or-bits (st % 2) (st / 2 % 2) (omega arith) (omega arith) in
+      bit_at_or (get_or c (32 + down sp) 0) (get_or c (32 + sp) 0) l ∙ ap₂ max (sym t1) (sym t0) ∙ or-bits (st % 2) (st / 2 % 2) (omega arith) (omega arith) in
       subst (λ (x : ℕ). Sim l (down sp) mp (set (set c (32 + sp) 0) (32 + down sp) v) x on s) (quarter st r)
       (topped l (down sp) mp (set c (32 + sp) 0) (st / 2) on s hl (popped l sp mp c st on s hl z) v r e (omega arith))
 
@@ -124,7 +123,7 @@ module _ (l b j sp mp : ℕ) (c : List ℕ) (m : Machine) (hl : l < 64) (hj : j 
   when =
       mask_pushed l (down sp) mp (set c (32 + sp) 0) (st / 2) on s hl (popped l sp mp c st on s hl z)
       (bit_and (get_or c (96 + mp) 0) (get_or c (32 + sp) 0)) ((on % 2 + st % 2) / 2)
-      (lane_and (get_or c (96 + mp) 0) (get_or c (32 + sp) 0) l ∙ ap₂ min (sym m0) (sym t0) ∙ both (on % 2) (st % 2) (omega arith) (omega arith))
+      (bit_at_and (get_or c (96 + mp) 0) (get_or c (32 + sp) 0) l ∙ ap₂ min (sym m0) (sym t0) ∙ both (on % 2) (st % 2) (omega arith) (omega arith))
       (omega arith)
     where
       both : (x y : ℕ) → x < 2 → y < 2 → min x y ≡ (x + y) / 2
@@ -134,7 +133,7 @@ module _ (l b j sp mp : ℕ) (c : List ℕ) (m : Machine) (hl : l < 64) (hj : j 
   unfolding tops_kind cells_kind kind_of
   other =
       mask_topped l sp mp c st on s hl z (bit_and (get_or c (96 + mdown mp) 0) (bit_xor (get_or c (96 + mp) 0) ones)) ((on / 2 % 2 + (1 - on % 2)) / 2)
-      (lane_and (get_or c (96 + mdown mp) 0) (bit_xor (get_or c (96 + mp) 0) ones) l
+      (bit_at_and (get_or c (96 + mdown mp) 0) (bit_xor (get_or c (96 + mp) 0) ones) l
       ∙ ap₂ min (sym m1) (lane_not (get_or c (96 + mp) 0) l hl ∙ ap (λ (x : ℕ). 1 - x) (sym m0))
       ∙ else_bits (on % 2) (on / 2 % 2) (omega arith) (omega arith))
       (omega arith)
@@ -144,7 +143,20 @@ module _ (l b j sp mp : ℕ) (c : List ℕ) (m : Machine) (hl : l < 64) (hj : j 
   end = mask_popped l sp mp c st on s hl z
 
   rest : (k : ℕ) → 9 < k → Goal k
-  rest k h = rw (tops_other k sp mp h, cells_other k j b sp mp c h, kind-other k j (64 * b + l) m h) z
+  unfolding tops_kind cells_kind kind_of node_kind
+  rest k h =
+      rw (
+        ne_eqb k 0 (λ q. omega arith),
+        ne_eqb k 1 (λ q. omega arith),
+        ne_eqb k 2 (λ q. omega arith),
+        ne_eqb k 3 (λ q. omega arith),
+        ne_eqb k 4 (λ q. omega arith),
+        ne_eqb k 5 (λ q. omega arith),
+        ne_eqb k 6 (λ q. omega arith),
+        ne_eqb k 7 (λ q. omega arith),
+        ne_eqb k 8 (λ q. omega arith),
+        ne_eqb k 9 (λ q. omega arith),
+      ) z
 
   pub kind : (k : ℕ) → Goal k
   kind zero = lit

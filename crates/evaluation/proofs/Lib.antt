@@ -1,5 +1,6 @@
 -- Laws of the evaluation, by subject.
 pub mod Powers
+pub mod MachineBits
 pub mod CodeRuns
 pub mod Values
 pub mod Effects

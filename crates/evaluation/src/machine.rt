@@ -4,6 +4,8 @@ ghost use Rattle.std.specs.Prelude.{◌≡◌, ◌<◌};
 ghost use Rattle.evaluation.specs.working.CodeMachine.{node_of, step_of, run_of, start_of, value_of, passes_of};
 ghost use Rattle.meaning.specs.working.Digits.{put};
 
+use crate::kinds::{BOTH, CHOOSE, DONE, EITHER, LOAD, NEGATE, OTHERWISE, PUSH, STORE, WHEN};
+
 #[derive(Clone, Copy)]
 struct Machine {
     stack: u64,
@@ -26,26 +28,27 @@ pub struct Ran {
 }
 
 // s with bit j set to v.
+#[tactic(auto, using(crate::proofs::MachineBits::put_bits))]
 fn put_bit(s: u32, j: u32, v: u32) -> u32
     requires { (j < 32) × (v < 2) }
     ensures { result ≡ put s j v }
 {
-    (((s >> j) / 2 * 2 + v) << j) + s % (1 << j)
+    (s & !(1 << j)) | (v << j)
 }
 
 // The values after a node of an expression: kind op / 32, argument op % 32. The bits are joined by sums and halves. Code words that are no node leave the values.
+#[tactic(auto, using(crate::proofs::MachineBits::and_lowest, crate::proofs::MachineBits::or_lowest, crate::proofs::MachineBits::xor_one), unfolding(crate::specs::working::CodeMachine::node_kind))]
 fn node(st: u64, op: u16, state: u32, word: u32) -> u64
     ensures { result ≡ node_of op word state st }
 {
-    let k = op / 32;
     let j = (op % 32) as u32;
-    match k {
-        0 => (st << 1) + (j % 2) as u64,
-        1 => (st << 1) + ((state >> j) % 2) as u64,
-        2 => (st << 1) + ((word >> j) % 2) as u64,
-        3 => st / 2 * 2 + (1 - st % 2),
-        4 => st / 4 * 2 + (st % 2 + st / 2 % 2) / 2,
-        5 => st / 4 * 2 + (st % 2 + st / 2 % 2 + 1) / 2,
+    match op / 32 {
+        PUSH => (st << 1) + (j % 2) as u64,
+        LOAD => (st << 1) + ((state >> j) % 2) as u64,
+        CHOOSE => (st << 1) + ((word >> j) % 2) as u64,
+        NEGATE => st ^ 1,
+        BOTH => st / 4 * 2 + (st & (st / 2)) % 2,
+        EITHER => st / 4 * 2 + (st | (st / 2)) % 2,
         _ => st,
     }
 }
@@ -56,60 +59,51 @@ pub fn value(code: &[u16], state: u32, word: u32) -> Valued
     ensures passes { result.passes ≡ passes_of code.now }
 {
     let mut stack: u64 = 0;
-    let mut nodes: usize = 0;
-    'passes: while nodes < code.len() {
-        stack = node(stack, code[nodes], state, word);
-        nodes += 1;
+    let mut passes: usize = 0;
+    'nodes: for op in code {
+        stack = node(stack, *op, state, word);
+        passes += 1;
     }
     Valued {
         value: (stack % 2) as u32,
-        passes: nodes,
+        passes,
     }
 }
 
 // One code word of a command: kind op / 32, argument op % 32. A node changes the values alone.
+#[tactic(auto, using(crate::proofs::MachineBits::and_lowest, crate::proofs::MachineBits::and_bit), unfolding(crate::specs::working::CodeMachine::kind_of))]
 fn step(m: Machine, op: u16, word: u32) -> Machine
     ensures { result ≡ step_of op word m }
 {
     let st = m.stack;
     let on = m.mask;
-    let s = m.state;
-    let k = op / 32;
     let j = (op % 32) as u32;
-    match k {
-        6 => {
-            if on % 2 == 0 {
-                return Machine {
-                    stack: st / 2,
-                    mask: on,
-                    state: s,
-                };
-            }
+    match op / 32 {
+        STORE => {
+            let state = if on % 2 == 0 {
+                m.state
+            } else {
+                put_bit(m.state, j, (st % 2) as u32)
+            };
             Machine {
                 stack: st / 2,
-                mask: on,
-                state: put_bit(s, j, (st % 2) as u32),
+                state,
+                ..m
             }
         }
-        7 => Machine {
+        WHEN => Machine {
             stack: st / 2,
-            mask: (on << 1) + (on % 2 + (st % 2) as u32) / 2,
-            state: s,
+            mask: (on << 1) + (on & (st % 2) as u32),
+            ..m
         },
-        8 => Machine {
-            stack: st,
-            mask: on / 2 * 2 + (on / 2 % 2 + (1 - on % 2)) / 2,
-            state: s,
+        OTHERWISE => Machine {
+            mask: on / 2 * 2 + (on / 2 & !on) % 2,
+            ..m
         },
-        9 => Machine {
-            stack: st,
-            mask: on / 2,
-            state: s,
-        },
+        DONE => Machine { mask: on / 2, ..m },
         _ => Machine {
-            stack: node(st, op, s, word),
-            mask: on,
-            state: s,
+            stack: node(st, op, m.state, word),
+            ..m
         },
     }
 }
@@ -122,15 +116,15 @@ pub fn run(code: &[u16], state: u32, word: u32) -> Ran
     let mut m = Machine {
         stack: 0,
         mask: 1,
-        state: state,
+        state,
     };
-    let mut words: usize = 0;
-    'passes: while words < code.len() {
-        m = step(m, code[words], word);
-        words += 1;
+    let mut passes: usize = 0;
+    'words: for op in code {
+        m = step(m, *op, word);
+        passes += 1;
     }
     Ran {
         state: m.state,
-        passes: words,
+        passes,
     }
 }

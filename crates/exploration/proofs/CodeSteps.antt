@@ -2,7 +2,7 @@
 -- Assumes nothing.
 use mathlib.Core.Path.{◌≡◌, refl, sym, ap, ◌∙◌, subst}
 use mathlib.Core.List.{List, [], ◌∷◌}
-use Prim.Native.Nat.{ℕ, zero, suc, ◌+◌, ◌-◌, ◌*◌, ◌^◌, ◌<◌, ◌≤◌}
+use Prim.Native.Nat.{ℕ, zero, suc, ◌+◌, ◌*◌, ◌^◌, ◌<◌, ◌≤◌}
 use native.Mathlib.Omega.{arith}
 use native.Mathlib.Nat.{mod-lt}
 use lib.ListN.{length, get_or, set, take}
@@ -13,12 +13,10 @@ use Rattle.evaluation.specs.working.Batches.{after_of}
 use Rattle.evaluation.specs.working.CodeSystem.{segment_of, next_in, stars_in, Sound, Bounds}
 use Rattle.evaluation.specs.declared.plan.Plan.{Plan}
 use Rattle.evaluation.proofs.OneRowCode.{cut, words-few}
-use Rattle.exploration.specs.working.Transitions.{Transitions, Lawful, moves, moves_from}
-use Rattle.exploration.specs.working.Runs.{first_move}
+use Rattle.exploration.specs.working.Transitions.{Transitions, Lawful, moves}
 use Rattle.exploration.specs.working.CodeTransitions.{transitions_in}
 use Rattle.exploration.specs.working.Tables.{Ready, marked}
 use Rattle.exploration.specs.working.Trials.{words_of}
-use Rattle.exploration.proofs.Laws.{Tried, tried_refl}
 use Rattle.exploration.proofs.TrialCounts.{moves-count}
 
 pub step_picked : (ops : List ℕ) {ends : List ℕ} (bits s k w : ℕ) {from to x : ℕ} → Bounds ends (4 + k) from to
@@ -35,16 +33,6 @@ step-below ops ends bits s k w x e = subst (λ (n : ℕ). n < 2 ^ bits) (sym e) 
 
 pub code_lawful : (ops : List ℕ) (plan : Plan) → Lawful (transitions_in ops plan)
 code_lawful ops plan = record { step-below = λ s k w a b c. next-below ops plan.ends plan.bits s k w }
-
--- Where all commands are still to be tried.
-whole : (n : ℕ) → n ≡ n - 0
-whole n = omega arith
-
-pub commands-start : (M : Transitions) (s : ℕ) (q : List ℕ) (n : ℕ) (p : List ℕ) (j : ℕ) → Ready M q n p → Tried M s (moves M) q n p j (moves_from M 0 (M.commands - 0)) q n p j
-commands-start M s q n p j R = subst (λ (k : ℕ). Tried M s (moves M) q n p j (moves_from M 0 k) q n p j) (whole M.commands) (tried_refl M s (moves M) q n p j R)
-
-pub moves-start : (M : Transitions) (s t : ℕ) → first_move M s t (moves_from M 0 (M.commands - 0)) ≡ first_move M s t (moves M)
-moves-start M s t = sym (ap (λ (k : ℕ). first_move M s t (moves_from M 0 k)) (whole M.commands))
 
 -- Where no state is met, all entries are 0; and the entries from s on stay 0 when the state before them is met.
 none_met : (l : List ℕ) → marked l ≡ 0 → (i : ℕ) → get_or l i 0 ≡ 0

@@ -13,7 +13,8 @@ use borrow.Author.Tests.{eq-eqb, ne_eqb, lt-ltb, le-ltb}
 use Rattle.exploration.specs.working.Transitions.{Transitions, Move, move_of, words_from, moves_from, moves}
 use Rattle.exploration.specs.working.Exploring.{Seen, Progress, broke, through, and_then, progress, meet, try_moves, take_in, explore, place_after, place_from, search}
 use Rattle.exploration.specs.working.Trials.{Trial, trial_of, afterwards, trials_with, trials_from, trials}
-use Rattle.exploration.specs.working.Runs.{first_move}
+use Rattle.exploration.specs.working.Runs.{move_to}
+use Rattle.std.specs.Prelude.{Option, Some, None}
 use Rattle.exploration.specs.working.Tables.{seen, marked, Ready, Kept, Explored, Meets, Took, Began, Ran}
 
 -- Entries that are not 0.
@@ -451,21 +452,21 @@ module _ {M : Transitions} {q₀ p₀ q₁ : List ℕ} {n₁ : ℕ} {p₁ : List
 
 -- The first move from s to t.
 
-module _ (M : Transitions) (s t : ℕ) {X : Move} where
-  pub look_start : (c n k : ℕ) → k ≡ M.words c → c < n → first_move M s t (moves_from M c (n - c)) ≡ X → first_move M s t (words_from c 0 (k - 0) ++ moves_from M (c + 1) (n - (c + 1))) ≡ X
+module _ (M : Transitions) (s t : ℕ) {X : Option Move} where
+  pub look_start : (c n k : ℕ) → k ≡ M.words c → c < n → move_to M s t (moves_from M c (n - c)) ≡ X → move_to M s t (words_from c 0 (k - 0) ++ moves_from M (c + 1) (n - (c + 1))) ≡ X
   look_start c n k e h x = let f : k - 0 ≡ k = omega arith in rw (f, e) (rw (moves_next M c n h) at x)
 
-  pub look_next : (c w k : ℕ) (r : List Move) → w < k → (M.step s c w ≡ t → ⊥) → first_move M s t (words_from c w (k - w) ++ r) ≡ X → first_move M s t (words_from c (w + 1) (k - (w + 1)) ++ r) ≡ X
-  unfolding first_move
+  pub look_next : (c w k : ℕ) (r : List Move) → w < k → (M.step s c w ≡ t → ⊥) → move_to M s t (words_from c w (k - w) ++ r) ≡ X → move_to M s t (words_from c (w + 1) (k - (w + 1)) ++ r) ≡ X
+  unfolding move_to
   look_next c w k r h n x = rw (words-next c w k h, ne_eqb (M.step s c w) t n) at x
 
-  pub look_found : (c w k : ℕ) (r : List Move) → w < k → M.step s c w ≡ t → first_move M s t (words_from c w (k - w) ++ r) ≡ X → move_of c w ≡ X
-  unfolding first_move
+  pub look_found : (c w k : ℕ) (r : List Move) → w < k → M.step s c w ≡ t → move_to M s t (words_from c w (k - w) ++ r) ≡ X → Some (move_of c w) ≡ X
+  unfolding move_to
   look_found c w k r h e x = rw (words-next c w k h, eq-eqb (M.step s c w) t e) at x
 
-  pub look_end : (c w k : ℕ) (r : List Move) → w ≤ k → k ≤ w → first_move M s t (words_from c w (k - w) ++ r) ≡ X → first_move M s t r ≡ X
+  pub look_end : (c w k : ℕ) (r : List Move) → w ≤ k → k ≤ w → move_to M s t (words_from c w (k - w) ++ r) ≡ X → move_to M s t r ≡ X
   look_end c w k r a b x = let f : w ≡ k = omega arith in rw (f, words_none) at x
 
-  pub look_last : (c n : ℕ) → c ≤ n → n ≤ c → first_move M s t (moves_from M c (n - c)) ≡ X → move_of 0 0 ≡ X
-  unfolding first_move
+  pub look_last : (c n : ℕ) → c ≤ n → n ≤ c → move_to M s t (moves_from M c (n - c)) ≡ X → None ≡ X
+  unfolding move_to
   look_last c n a b x = let f : c ≡ n = omega arith in rw (f, moves_none) at x

@@ -1,58 +1,47 @@
 -- The bytes of the map of the states met.
 -- Assumes nothing.
-use Prim.Native.Nat.{ℕ, suc, zero, ◌+◌, ◌-◌, ◌<◌, ◌≤◌}
+use Prim.Native.Nat.{ℕ, suc, zero, ◌+◌, ◌<◌, ◌≤◌}
 use mathlib.Core.Path.{◌≡◌, refl, sym, ap, ◌∙◌}
 use mathlib.Core.Bool.{Bool, false, cond}
 use mathlib.Core.List.{List, map}
 use native.Mathlib.Omega.{arith}
-use lib.ListN.{length, get_or, set, take, length-take, length-map, get_or-map, get_or-eq_default}
-use lib.Seq.{sets, get_or-take}
+use native.Mathlib.Nat.{not-suc-le-zero, le_of_suc-le-suc}
+use lib.ListN.{length, get_or, take, length-take, length-map, get_or-map, get_or-eq_default}
+use lib.Seq.{get_or-take}
 use lib.Dec.{ltb}
-use borrow.Author.Tests.{lt-ltb, le-ltb}
+use Rattle.std.proofs.lemmas.List.{ext_get_or}
 use Rattle.exploration.specs.working.Written.{bit_at, map_byte, map_from}
 
+-- The bit of a state: whether it has an entry, and 0 where it is none.
 module _ (m : ℕ) (p : List ℕ) (s : ℕ) where
-  bit_in_lem : s < m → bit_at (map (ltb 0) (take m p)) s ≡ cond (ltb 0 (get_or p s 0)) 1 0
+  pub bit_within : s < m → bit_at (map (ltb 0) (take m p)) s ≡ cond (ltb 0 (get_or p s 0)) 1 0
   unfolding bit_at
-  bit_in_lem h = ap (λ (b : Bool). cond b 1 0) (get_or-map (ltb 0) (take m p) s 0 ∙ ap (ltb 0) (get_or-take m p s 0 h))
+  bit_within h = ap (λ (b : Bool). cond b 1 0) (get_or-map (ltb 0) (take m p) s 0 ∙ ap (ltb 0) (get_or-take m p s 0 h))
 
-  pub bit-one : s < m → 0 < get_or p s 0 → 1 ≡ bit_at (map (ltb 0) (take m p)) s
-  bit-one h k = sym (bit_in_lem h ∙ ap (λ (b : Bool). cond b 1 0) (lt-ltb 0 (get_or p s 0) k))
-
-  pub bit_zero : s < m → get_or p s 0 ≤ 0 → 0 ≡ bit_at (map (ltb 0) (take m p)) s
-  bit_zero h k = sym (bit_in_lem h ∙ ap (λ (b : Bool). cond b 1 0) (le-ltb 0 (get_or p s 0) k))
-
-  pub bit_past : m ≤ s → 0 ≡ bit_at (map (ltb 0) (take m p)) s
+  pub bit_past : m ≤ s → bit_at (map (ltb 0) (take m p)) s ≡ 0
   unfolding bit_at
   bit_past h =
-      sym
-      (ap (λ (b : Bool). cond b 1 0) (get_or-eq_default (map (ltb 0) (take m p)) false {n = s} (omega (arith, length-map (take m p) (ltb 0), length-take m p))))
+      ap (λ (b : Bool). cond b 1 0) (get_or-eq_default (map (ltb 0) (take m p)) false {n = s} (omega (arith, length-map (take m p) (ltb 0), length-take m p)))
 
 pub map-length : (b : List Bool) (i n : ℕ) → length (map_from b i n) ≡ n
 unfolding map_from
 map-length b i zero = refl
 map-length b i (suc n) = ap suc (map-length b (i + 1) n)
 
--- The bytes of a map from `at` on.
-pub map-start : (b : List Bool) (n at : ℕ) (o : List ℕ) → sets o (at + 0) (map_from b 0 (n - 0)) ≡ sets o at (map_from b 0 n)
-map-start b n at o =
-    let e : at + 0 ≡ at = omega arith in
-    let f : n - 0 ≡ n = omega arith in
-    ap (λ (k : ℕ). sets o k (map_from b 0 (n - 0))) e ∙ ap (λ (k : ℕ). sets o at (map_from b 0 k)) f
+map_at_lem : (b : List Bool) (k n i : ℕ) → i < n → get_or (map_from b k n) i 0 ≡ map_byte b (k + i)
+unfolding map_from
+map_at_lem b k zero i h = absurd (not-suc-le-zero h)
+map_at_lem b k (suc n) zero h = let e : k ≡ k + 0 = omega arith in ap (map_byte b) e
+map_at_lem b k (suc n) (suc i) h =
+    let e : k + 1 + i ≡ k + suc i = omega arith in
+    map_at_lem b (k + 1) n i (le_of_suc-le-suc h) ∙ ap (map_byte b) e
 
-module _ (b : List Bool) (n at : ℕ) {X : List ℕ} where
-  -- One byte more.
-  pub map_next : (i v : ℕ) (o : List ℕ) → i < n → v ≡ map_byte b i → sets o (at + i) (map_from b i (n - i)) ≡ X
-      → sets (set o (at + i) v) (at + (i + 1)) (map_from b (i + 1) (n - (i + 1))) ≡ X
-  unfolding map_from
-  map_next i v o h d x =
-      let e : suc (n - (i + 1)) ≡ n - i = omega arith in
-      let f : at + (i + 1) ≡ suc (at + i) = omega arith in
-      ap (λ (k : ℕ). sets (set o (at + i) v) k (map_from b (i + 1) (n - (i + 1)))) f
-      ∙ ap (λ (u : ℕ). sets (set o (at + i) u) (suc (at + i)) (map_from b (i + 1) (n - (i + 1)))) d
-      ∙ ap (λ (k : ℕ). sets o (at + i) (map_from b i k)) e
-      ∙ x
+module _ (b : List Bool) (n : ℕ) where
+  pub byte-at : (i : ℕ) → i < n → get_or (map_from b 0 n) i 0 ≡ map_byte b i
+  byte-at i h = let e : 0 + i ≡ i = omega arith in map_at_lem b 0 n i h ∙ ap (map_byte b) e
 
-  pub map-done : (i : ℕ) (o : List ℕ) → n ≤ i → sets o (at + i) (map_from b i (n - i)) ≡ X → o ≡ X
-  unfolding map_from
-  map-done i o h x = let e : 0 ≡ n - i = omega arith in ap (λ (k : ℕ). sets o (at + i) (map_from b i k)) e ∙ x
+  -- Bytes that each are the map's are the map.
+  pub each-byte : (v : List ℕ) → length v ≡ n → ((i : ℕ) → i < n → get_or v i 0 ≡ map_byte b i) → v ≡ map_from b 0 n
+  each-byte v e f =
+      ext_get_or 0 v (map_from b 0 n) (e ∙ sym (map-length b 0 n))
+      (λ i h. let k : i < n = omega arith in f i k ∙ sym (byte-at i k))

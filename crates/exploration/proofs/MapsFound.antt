@@ -6,7 +6,6 @@ use mathlib.Core.List.{List, [], ◌∷◌}
 use mathlib.Core.Logic.{⊎_elim}
 use Prim.Native.Nat.{ℕ, zero, suc, ◌+◌, ◌*◌, ◌/◌, ◌%◌, ◌^◌, ◌<◌, ◌≤◌}
 use native.Mathlib.Omega.{arith}
-use native.Mathlib.Nat.{not-suc-le-zero, le_of_suc-le-suc}
 use lib.ListN.{length, get_or, replicate, get_or-eq_default}
 use Rattle.meaning.specs.Bits.{bit, first, number}
 use Rattle.meaning.specs.Evidence.{in_map}
@@ -16,7 +15,7 @@ use Rattle.sheets.proofs.UnusedBits.{unused_bits}
 use Rattle.exploration.specs.working.Written.{bit_at, map_byte, map_from}
 use Rattle.exploration.specs.working.Found.{any_set}
 use Rattle.exploration.proofs.Order.{lt_or_ge}
-use Rattle.exploration.proofs.Map.{map-length}
+use Rattle.exploration.proofs.Map.{map-length, byte-at}
 
 sum_is : (a b c d e f g h : Bool)
     → cond a 1 0 + 2 * cond b 1 0 + 4 * cond c 1 0 + 8 * cond d 1 0 + 16 * cond e 1 0 + 32 * cond f 1 0 + 64 * cond g 1 0 + 128 * cond h 1 0
@@ -46,22 +45,11 @@ byte_bit : (b : List Bool) (i j : ℕ) → j < 8 → bit (map_byte b i) j ≡ ge
 unfolding eight
 byte_bit b i j h = ap (λ (n : ℕ). bit n j) (byte_is b i) ∙ bit-number (eight b i) j ∙ first-at 8 (λ x. get_or b (8 * i + x) false) false j h
 
-map_at_lem : (b : List Bool) (k n i : ℕ) → i < n → get_or (map_from b k n) i 0 ≡ map_byte b (k + i)
-unfolding map_from
-map_at_lem b k zero i h = absurd (not-suc-le-zero h)
-map_at_lem b k (suc n) zero h = let e : k ≡ k + 0 = omega arith in ap (map_byte b) e
-map_at_lem b k (suc n) (suc i) h =
-    let e : k + 1 + i ≡ k + suc i = omega arith in
-    map_at_lem b (k + 1) n i (le_of_suc-le-suc h) ∙ ap (map_byte b) e
-
 module _ (b : List Bool) (n : ℕ) where
-  at : (i : ℕ) → i < n → get_or (map_from b 0 n) i 0 ≡ map_byte b i
-  at i h = let e : 0 + i ≡ i = omega arith in map_at_lem b 0 n i h ∙ ap (map_byte b) e
-
   pub map-bytes : AreBytes (map_from b 0 n)
   map-bytes i =
       ⊎_elim
-      (λ (h : i < n). subst (λ (x : ℕ). x < 256) (sym (at i h)) (byte_lt b i))
+      (λ (h : i < n). subst (λ (x : ℕ). x < 256) (sym (byte-at b n i h)) (byte_lt b i))
       (λ (h : n ≤ i).
       let e : get_or (map_from b 0 n) i 0 ≡ 0 = get_or-eq_default (map_from b 0 n) 0 {n = i} (omega (arith, map-length b 0 n)) in
       omega arith)
@@ -73,14 +61,14 @@ module _ (b : List Bool) (n : ℕ) where
       let l : t / 8 < n = omega arith in
       let k : t % 8 < 8 = omega arith in
       let e : 8 * (t / 8) + t % 8 ≡ t = omega arith in
-      ap (λ (x : ℕ). bit x (t % 8)) (at (t / 8) l) ∙ byte_bit b (t / 8) (t % 8) k ∙ ap (λ (x : ℕ). get_or b x false) e
+      ap (λ (x : ℕ). bit x (t % 8)) (byte-at b n (t / 8) l) ∙ byte_bit b (t / 8) (t % 8) k ∙ ap (λ (x : ℕ). get_or b x false) e
 
   pub map-clear : 0 < n → unused_clear (length b) (get_or (map_from b 0 n) 0 0) ≡ true
   map-clear h =
       (unused_bits (length b) (get_or (map_from b 0 n) 0 0) (map-bytes 0)).1
       (λ j p q.
       let e : 8 * 0 + j ≡ j = omega arith in
-      ap (λ (x : ℕ). bit x j) (at 0 h) ∙ byte_bit b 0 j q ∙ ap (λ (x : ℕ). get_or b x false) e ∙ get_or-eq_default b false {n = j} p)
+      ap (λ (x : ℕ). bit x j) (byte-at b n 0 h) ∙ byte_bit b 0 j q ∙ ap (λ (x : ℕ). get_or b x false) e ∙ get_or-eq_default b false {n = j} p)
 
 -- A list without an entry that is true makes the map without members.
 none_byte : (b : List Bool) → ((t : ℕ) → get_or b t false ≡ false) → (i : ℕ) → map_byte b i ≡ 0

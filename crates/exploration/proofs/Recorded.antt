@@ -3,15 +3,19 @@
 use Prim.Native.Nat.{ℕ, suc, zero, ◌+◌, ◌-◌, ◌<◌, ◌≤◌}
 use mathlib.Core.Path.{◌≡◌, refl, sym, ap, ◌∙◌}
 use mathlib.Core.Bool.{Bool, true, false, cond, false≢true}
-use mathlib.Core.List.{List}
+use mathlib.Core.List.{List, [], ◌∷◌, Memᴰ}
+use mathlib.Core.List.Memᴰ
+use mathlib.Core.Logic.{⊎_elim}
 use native.Mathlib.Omega.{arith}
 use native.Mathlib.Numerals.{add-one}
 use lib.Dec.{eqb, ltb}
 use lib.ListN.{get_or}
 use borrow.Author.Tests.{eq-eqb, ne_eqb, lt-ltb, le-ltb, eqb-true, eqb-false, ltb-true}
+use Rattle.std.specs.Prelude.{Option, Some, None, is_some, IsSome, option_map}
 use Rattle.notation.proofs.Booleans.{and_split}
+use Rattle.exploration.proofs.Order.{moves_mem, moves-has}
 use Rattle.exploration.specs.working.Transitions.{Transitions, Move, moves}
-use Rattle.exploration.specs.working.Runs.{Run, starts_at, goes_on, final, Valid, steps, first_move, Traced}
+use Rattle.exploration.specs.working.Runs.{Run, starts_at, goes_on, final, Valid, steps, first_move, move_to, Traced}
 use Rattle.exploration.specs.working.Written.{RecordedTo}
 use Rattle.exploration.specs.working.Pauses.{leads, back_from, records_to}
 
@@ -107,17 +111,62 @@ pub records_end : (M : Transitions) (p : List ℕ) (t : ℕ) → records_to M p 
 unfolding records_to
 records_end M p t = refl
 
--- Whether a move leads, test by test.
-module _ (M : Transitions) (s t : ℕ) (m : Move) (e : m ≡ first_move M s t (moves M)) where
-  pub leads-command : M.commands ≤ m.command → leads M s t ≡ false
+-- What is found, in a form of its own, is found where a move is.
+pub some-found : {X : Type 0} (f : X → Move) (o : Option X) {found : Option Move} → option_map f o ≡ found → is_some o ≡ is_some found
+some-found f None e = ap is_some e
+some-found f (Some x) e = ap is_some e
+
+-- A move that is found leads to t, and is the first one that does.
+pub record Found (M : Transitions) (s t : ℕ) (ms : List Move) (m : Move) : Type 0 where
+  pub listed : Memᴰ m ms
+  pub leading : M.step s m.command m.word ≡ t
+  pub first : first_move M s t ms ≡ m
+
+module _ (M : Transitions) (s t : ℕ) where
+  pub found : (ms : List Move) (m : Move) → move_to M s t ms ≡ Some m → Found M s t ms m
+  unfolding move_to first_move
+  found [] m e = cc
+  found (k ∷ ms) m e = go (found ms m) (eqb (M.step s k.command k.word) t) refl e
+    where
+      go : (move_to M s t ms ≡ Some m → Found M s t ms m) → (b : Bool) → eqb (M.step s k.command k.word) t ≡ b → cond b (Some k) (move_to M s t ms) ≡ Some m → Found M s t (k ∷ ms) m
+      go rest true h f =
+          let g : k ≡ m = cc in
+          let l = eqb-true (M.step s k.command k.word) t h in
+          record { listed = Memᴰ.head (sym g); leading = rw g at l; first = rw h g }
+      go rest false h f = let F = rest f in record { listed = Memᴰ.tail F.listed; leading = F.leading; first = rw h F.first }
+
+  -- One that leads to t is found.
+  pub finds : (ms : List Move) (m : Move) → Memᴰ m ms → M.step s m.command m.word ≡ t → IsSome (move_to M s t ms)
+  unfolding move_to
+  finds [] m h e = absurd (Memᴰ.not-nil h)
+  finds (k ∷ ms) m h e = go (λ g. finds ms m g e) (eqb (M.step s k.command k.word) t) refl
+    where
+      go : (Memᴰ m ms → IsSome (move_to M s t ms)) → (b : Bool) → eqb (M.step s k.command k.word) t ≡ b → IsSome (cond b (Some k) (move_to M s t ms))
+      go rest true f = refl
+      go rest false f =
+          ⊎_elim
+          (λ g. absurd (eqb-false (M.step s k.command k.word) t f (ap (λ (x : Move). M.step s x.command x.word) (sym g) ∙ e)))
+          rest
+          (Memᴰ.cases_cons h)
+
+  -- Whether one is found is whether one leads there.
+  pub leads-found : is_some (move_to M s t (moves M)) ≡ leads M s t
   unfolding leads
-  leads-command h = rw (← e, le-ltb m.command M.commands h)
+  leads-found = go (move_to M s t (moves M)) refl
+    where
+      none : move_to M s t (moves M) ≡ None → (b : Bool) → leads M s t ≡ b → false ≡ b
+      none e true l =
+          let m = first_move M s t (moves M) in
+          let a = and_split (ltb m.command M.commands) _ l in
+          let b = and_split (ltb m.word (M.words m.command)) _ a.1 in
+          let h = moves-has M 0 M.commands m (omega arith) (omega (arith, ltb-true m.command M.commands a.0)) (ltb-true m.word (M.words m.command) b.0) in
+          let f = finds (moves M) m h (eqb-true (M.step s m.command m.word) t b.1) in
+          sym (ap is_some e) ∙ f
+      none e false l = refl
 
-  module _ (c : m.command < M.commands) where
-    pub leads-word : M.words m.command ≤ m.word → leads M s t ≡ false
-    unfolding leads
-    leads-word h = rw (← e, lt-ltb m.command M.commands c, le-ltb m.word (M.words m.command) h)
-
-    pub leads-there : m.word < M.words m.command → leads M s t ≡ eqb (M.step s m.command m.word) t
-    unfolding leads
-    leads-there h = rw (← e, lt-ltb m.command M.commands c, lt-ltb m.word (M.words m.command) h)
+      go : (o : Option Move) → move_to M s t (moves M) ≡ o → is_some o ≡ leads M s t
+      go None e = none e (leads M s t) refl
+      go (Some m) e =
+          let F = found (moves M) m e in
+          let i = moves_mem M 0 M.commands m F.listed in
+          rw (F.first, lt-ltb m.command M.commands (omega (arith, i.1)), lt-ltb m.word (M.words m.command) i.2, eq-eqb (M.step s m.command m.word) t F.leading)

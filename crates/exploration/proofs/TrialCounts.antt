@@ -76,18 +76,14 @@ pub words_are_lem : (words : ℕ → ℕ) (m : Model) → ((k : ℕ) → k < len
 words_are_lem words m h = words-from words 0 m.commands (λ k l. let e : 0 + k ≡ k = omega arith in ap words e ∙ h k l)
 
 -- The sum over n commands: with what is left from command k on, the sum so far makes the whole.
-module _ (words : ℕ → ℕ) (n : ℕ) where
-  pub sum-start : 0 + words_of words 0 (n - 0) ≡ words_of words 0 n
-  sum-start = let e : n - 0 ≡ n = omega arith in let f : 0 + words_of words 0 (n - 0) ≡ words_of words 0 (n - 0) = omega arith in f ∙ ap (words_of words 0) e
+module _ (words : ℕ → ℕ) (n s k : ℕ) (h : s + words_of words k (n - k) ≡ words_of words 0 n) where
+  pub sum-next : k < n → (x : ℕ) → x ≡ words k → s + x + words_of words (k + 1) (n - (k + 1)) ≡ words_of words 0 n
+  unfolding words_of
+  sum-next l x e = let f : n - k ≡ suc (n - (k + 1)) = omega arith in let g = rw f at h in omega (arith, g, e)
 
-  module _ (s k : ℕ) (h : s + words_of words k (n - k) ≡ words_of words 0 n) where
-    pub sum-next : k < n → (x : ℕ) → x ≡ words k → s + x + words_of words (k + 1) (n - (k + 1)) ≡ words_of words 0 n
-    unfolding words_of
-    sum-next l x e = let f : n - k ≡ suc (n - (k + 1)) = omega arith in let g = rw f at h in omega (arith, g, e)
-
-    pub sum-end : n ≤ k → s ≡ words_of words 0 n
-    unfolding words_of
-    sum-end l = let f : n - k ≡ 0 = omega arith in let g = rw f at h in omega (arith, g)
+  pub sum-end : n ≤ k → s ≡ words_of words 0 n
+  unfolding words_of
+  sum-end l = let f : n - k ≡ 0 = omega arith in let g = rw f at h in omega (arith, g)
 
 pub moves_are : (T : Transitions) (m : Model) → Agrees T m → length (moves T) ≡ trials_at_state m
 moves_are T m A =

@@ -16,9 +16,11 @@ use Rattle.notation.specs.Tokens.{sign, name, Word, reserved, word_in, plain_wor
 use Rattle.notation.specs.working.Lexing.{span, begins_with, Front, one_byte, sign_of, mark, front, tokens_from}
 use Rattle.notation.proofs.Lexes.{from_end, from-token}
 use Rattle.lexer.specs.declared.pieces.Piece.{Piece}
-use Rattle.lexer.specs.working.Pieces.{number_or, other_case, piece_of, byte_piece, token_of, listed, Fresh, blanks, numbered_piece, word_piece, sign_piece, mark_piece, piece_from, piece_at, WORDS, NAME, BAD, FINISH}
+use Rattle.lexer.specs.working.Kinds.{kind_number, kind_of}
+use Rattle.lexer.specs.working.Pieces.{other_case, piece_of, byte_piece, token_of, listed, Fresh, blanks, known_piece, numbered_piece, word_piece, sign_piece, mark_piece, piece_from, piece_at, NAME, BAD, FINISH}
+use Rattle.lexer.proofs.KindNumbers.{number_told}
 use Rattle.lexer.proofs.Runs.{word-run, run_step, run-last, run-within, Behind, behind_blanks}
-use Rattle.lexer.proofs.Spelling.{token-long, token-reserved, token-other, token-one, token-plain, plain_other, plain-digit}
+use Rattle.lexer.proofs.Spelling.{fifteen, found_below, token-long, token-reserved, token-other, token-one, token-plain, plain_other, plain-digit}
 
 -- Parts of a text.
 
@@ -34,12 +36,12 @@ begins-drop (a ∷ text) (suc i) = begins-drop text i
 -- Signs.
 
 module _ (text : List ℕ) (k s e : ℕ) (h : k < NAME) where
-  sign-token : token_of text (piece_of k s e 3) ≡ some (sign k)
-  unfolding token_of
-  sign-token = rw (ne_eqb k BAD (λ z. absurd (omega arith)), ne_eqb k NAME (λ z. absurd (omega arith)))
+  sign-number : kind_number (kind_of k) ≡ k
+  sign-number = number_told k (omega arith)
 
-  sign-fault : (piece_of k s e 3).fault ≡ cond (eqb k BAD) 2 3
-  sign-fault = rw (ne_eqb k BAD (λ z. absurd (omega arith)))
+  sign-token : token_of text (piece_of k s e) ≡ some (sign k)
+  unfolding token_of
+  sign-token = rw (sign-number, ne_eqb k BAD (λ z. absurd (omega arith)), ne_eqb k NAME (λ z. absurd (omega arith)))
 
 -- The word from s to e.
 
@@ -60,9 +62,8 @@ record Worded (text : List ℕ) (s e : ℕ) (r : Piece) : Type 0 where
   pub start : r.start ≡ s
   pub ends : r.end ≡ e
   pub token : token_of text r ≡ word_token s (slice s e text)
-  pub fault : r.fault ≡ cond (eqb r.kind BAD) 2 3
-  pub kind : r.kind < FINISH
-  pub short : r.kind ≡ NAME → e ≤ s + longest_word
+  pub kind : kind_number r.kind < FINISH
+  pub short : kind_number r.kind ≡ NAME → e ≤ s + longest_word
 
 -- The word is short and not reserved in any case.
 record Plain (text : List ℕ) (s e : ℕ) : Type 0 where
@@ -71,43 +72,43 @@ record Plain (text : List ℕ) (s e : ℕ) : Type 0 where
   pub token : word_token s (slice s e text) ≡ some (plain_word s (slice s e text))
 
 module _ {text : List ℕ} {s e : ℕ} where
-  is-sign : (k : ℕ) → k < NAME → word_token s (slice s e text) ≡ some (sign k) → Worded text s e (piece_of k s e 3)
+  is-sign : (k : ℕ) → k < NAME → word_token s (slice s e text) ≡ some (sign k) → Worded text s e (piece_of k s e)
   is-sign k h t = record {
     start = refl;
     ends = refl;
     token = sign-token text k s e h ∙ sym t;
-    fault = sign-fault text k s e h;
-    kind = omega arith;
-    short = λ z. absurd (omega arith);
+    kind = omega (arith, sign-number text k s e h);
+    short = λ z. absurd (omega (arith, sign-number text k s e h));
   }
 
   module _ (fits : (s < e) × (e ≤ length text)) where
-    word-long : longest_word < e - s → Worded text s e (piece_of BAD s e 2)
-    unfolding token_of
+    word-long : longest_word < e - s → Worded text s e (piece_of BAD s e)
+    unfolding token_of kind_of
     word-long h =
         let t : word_token s (slice s e text) ≡ none = token-long s (slice s e text) (omega (arith, size text s e fits)) in
-        record { start = refl; ends = refl; token = sym t; fault = refl; kind = omega arith; short = λ z. absurd (omega arith) }
+        record { start = refl; ends = refl; token = sym t; kind = omega arith; short = λ z. absurd (omega arith) }
 
-    module _ (h : e - s ≤ longest_word) {k : ℕ} (is : k ≡ number_or (word_in (slice s e text) reserved 0)) where
-      word-reserved : k < WORDS → Worded text s e (piece_of k s e 3)
-      word-reserved u = is-sign k (omega arith) (token-reserved s (slice s e text) (omega (arith, size text s e fits)) k is u)
+    module _ (h : e - s ≤ longest_word) where
+      word-reserved : (k : ℕ) → word_in (slice s e text) reserved 0 ≡ some k → Worded text s e (piece_of k s e)
+      word-reserved k is =
+          is-sign k (omega (arith, found_below (slice s e text) reserved 0 k is, fifteen)) (token-reserved s (slice s e text) (omega (arith, size text s e fits)) k is)
 
-      module _ (u : WORDS ≤ k) where
-        word-recased : other_case (slice s e text) ≡ true → Worded text s e (piece_of OTHER s e 3)
-        word-recased o = is-sign OTHER (omega arith) (token-other s (slice s e text) (omega (arith, size text s e fits)) k is u o)
+      module _ (is : word_in (slice s e text) reserved 0 ≡ none) where
+        word-recased : other_case (slice s e text) ≡ true → Worded text s e (piece_of OTHER s e)
+        word-recased o = is-sign OTHER (omega arith) (token-other s (slice s e text) (omega (arith, size text s e fits)) is o)
 
         plain : other_case (slice s e text) ≡ false → Plain text s e
-        plain o = record { fits = fits; short = h; token = token-plain s (slice s e text) (omega (arith, size text s e fits)) k is u o }
+        plain o = record { fits = fits; short = h; token = token-plain s (slice s e text) (omega (arith, size text s e fits)) is o }
 
   module _ (p : Plain text s e) where
-    word-name : letter (get_or text s 0) ≡ true → Worded text s e (piece_of NAME s e 3)
-    unfolding token_of
+    word-name : letter (get_or text s 0) ≡ true → Worded text s e (piece_of NAME s e)
+    unfolding token_of kind_of
     word-name h =
         let t : word_token s (slice s e text) ≡ some (name (record { place = s; word = in_lower_case (slice s e text) })) = p.token ∙ rw (first text s e p.fits ∙ h) in
-        record { start = refl; ends = refl; token = sym t; fault = refl; kind = omega arith; short = λ z. omega arith }
+        record { start = refl; ends = refl; token = sym t; kind = omega arith; short = λ z. omega arith }
 
     module _ (h : letter (get_or text s 0) ≡ false) where
-      word-other : (e - s ≡ 1 → ⊥) → Worded text s e (piece_of OTHER s e 3)
+      word-other : (e - s ≡ 1 → ⊥) → Worded text s e (piece_of OTHER s e)
       word-other n =
           is-sign OTHER (omega arith) (p.token ∙ ap some (plain_other s (slice s e text) (first text s e p.fits ∙ h) (λ z. n (sym (size text s e p.fits) ∙ z))))
 
@@ -115,13 +116,13 @@ module _ {text : List ℕ} {s e : ℕ} where
         digit : word_token s (slice s e text) ≡ some (cond (eqb (get_or text s 0) 48) (sign ZERO) (cond (eqb (get_or text s 0) 49) (sign ONE) (sign OTHER)))
         digit = p.token ∙ ap some (ap (plain_word s) (alone text s e p.fits n) ∙ plain-digit s (get_or text s 0) h)
 
-        word_zero : get_or text s 0 ≡ 48 → Worded text s e (piece_of ZERO s e 3)
+        word_zero : get_or text s 0 ≡ 48 → Worded text s e (piece_of ZERO s e)
         word_zero i = is-sign ZERO (omega arith) (digit ∙ rw (eq-eqb _ _ i))
 
-        word-one : (get_or text s 0 ≡ 48 → ⊥) → get_or text s 0 ≡ 49 → Worded text s e (piece_of ONE s e 3)
+        word-one : (get_or text s 0 ≡ 48 → ⊥) → get_or text s 0 ≡ 49 → Worded text s e (piece_of ONE s e)
         word-one i j = is-sign ONE (omega arith) (digit ∙ rw (ne_eqb _ _ i, eq-eqb _ _ j))
 
-        word-digit : (get_or text s 0 ≡ 48 → ⊥) → (get_or text s 0 ≡ 49 → ⊥) → Worded text s e (piece_of OTHER s e 3)
+        word-digit : (get_or text s 0 ≡ 48 → ⊥) → (get_or text s 0 ≡ 49 → ⊥) → Worded text s e (piece_of OTHER s e)
         word-digit i j = is-sign OTHER (omega arith) (digit ∙ rw (ne_eqb _ _ i, ne_eqb _ _ j))
 
   -- By the tests that the definition makes.
@@ -132,6 +133,10 @@ module _ {text : List ℕ} {s e : ℕ} where
   either : {t : Piece} (x : Bool) → (x ≡ true → Worded text s e t) → (x ≡ false → Worded text s e t) → Worded text s e t
   either true a b = a refl
   either false a b = b refl
+
+  by_find : {t : Piece} (o : Option ℕ) → ((k : ℕ) → o ≡ some k → Worded text s e (piece_of k s e)) → (o ≡ none → Worded text s e t) → Worded text s e (known_piece o s e t)
+  by_find none a b = b refl
+  by_find (some k) a b = a k refl
 
   byte_worded : (s < e) × (e ≤ length text) → e - s < 2 → Worded text s e (byte_piece (get_or text s 0) s e)
   unfolding byte_piece
@@ -150,16 +155,14 @@ module _ {text : List ℕ} {s e : ℕ} where
   worded fits =
       let b = get_or text s 0 in
       let w = slice s e text in
-      let k = number_or (word_in w reserved 0) in
       by_test (ltb (e - s) 2) (λ h. byte_worded fits (ltb-true (e - s) 2 h))
       (λ q. by_test (ltb longest_word (e - s)) (λ h. word-long fits (ltb-true longest_word (e - s) h))
       (λ h. let short : e - s ≤ longest_word = ltb-false longest_word (e - s) h in
-      by_test (ltb k WORDS) (λ u. word-reserved fits short refl (ltb-true k WORDS u))
-      (λ u. let more : WORDS ≤ k = ltb-false k WORDS u in
-      by_test (letter b)
-      (λ l. by_test (other_case w) (λ o. word-recased fits short refl more o) (λ o. word-name (plain fits short refl more o) l))
-      (λ l. let many : 2 ≤ e - s = ltb-false (e - s) 2 q in either (other_case w) (λ o. word-recased fits short refl more o)
-      (λ o. word-other (plain fits short refl more o) l (λ z. omega arith))))))
+      by_find (word_in w reserved 0) (λ k f. word-reserved fits short k f)
+      (λ f. by_test (letter b)
+      (λ l. by_test (other_case w) (λ o. word-recased fits short f o) (λ o. word-name (plain fits short f o) l))
+      (λ l. let many : 2 ≤ e - s = ltb-false (e - s) 2 q in either (other_case w) (λ o. word-recased fits short f o)
+      (λ o. word-other (plain fits short f o) l (λ z. omega arith))))))
 
 -- The piece that stands at the front.
 
@@ -167,16 +170,17 @@ record Fronts (text : List ℕ) (s : ℕ) (f : Front) (t : Piece) : Type 0 where
   pub start : t.start ≡ s
   pub ends : t.end ≡ suc (s + f.more)
   pub token : token_of text t ≡ f.token
-  pub kind : t.kind < FINISH
+  pub kind : kind_number t.kind < FINISH
   pub fresh : Fresh text t
 
-sign_fronts : {text : List ℕ} {s : ℕ} (k m e : ℕ) → k < NAME → e ≡ suc (s + m) → e ≤ length text → Fronts text s (record { token = some (sign k); more = m }) (piece_of k s e 3)
+sign_fronts : {text : List ℕ} {s : ℕ} (k m e : ℕ) → k < NAME → e ≡ suc (s + m) → e ≤ length text → Fronts text s (record { token = some (sign k); more = m }) (piece_of k s e)
 sign_fronts {text} {s} k m e h q i = record {
   start = refl;
   ends = q;
   token = sign-token text k s e h;
-  kind = omega arith;
-  fresh = record { fault = sign-fault text k s e h; last = λ z. absurd (omega arith); ordered = omega arith; inside = i; short = λ z. absurd (omega arith); named = λ z. absurd (omega arith) };
+  kind = omega (arith, sign-number text k s e h);
+  fresh = let n = sign-number text k s e h in
+      record { last = λ z. absurd (omega arith); ordered = omega arith; inside = i; short = λ z. absurd (omega arith); named = λ z. absurd (omega arith) };
 }
 
 either_fronts : {text : List ℕ} {s : ℕ} {f g : Front} {t u : Piece} (x : Bool) → Fronts text s f t → Fronts text s g u → Fronts text s (cond x f g) (cond x t u)
@@ -194,23 +198,23 @@ mark-sign b k =
     (sign_of_lem (eqb b 42) STAR k _ (omega arith) (sign_of_lem (eqb b 61) OTHER k none (omega arith) (λ e. absurd (none-ne-some _ e)))))))
 
 module _ {text : List ℕ} {s : ℕ} (h : s < length text) where
-  one_fronts : (k : ℕ) → k < NAME → Fronts text s (one_byte (some (sign k))) (piece_of k s (s + 1) 3)
+  one_fronts : (k : ℕ) → k < NAME → Fronts text s (one_byte (some (sign k))) (piece_of k s (s + 1))
   one_fronts k i = sign_fronts k 0 (s + 1) i (omega arith) (omega arith)
 
-  barred_fronts : Fronts text s (one_byte none) (piece_of BAD s (s + 1) 2)
-  unfolding token_of
+  barred_fronts : Fronts text s (one_byte none) (piece_of BAD s (s + 1))
+  unfolding token_of kind_of
   barred_fronts = record {
     start = refl;
     ends = omega arith;
     token = refl;
     kind = omega arith;
-    fresh = record { fault = refl; last = λ z. absurd (omega arith); ordered = omega arith; inside = omega arith; short = λ z. absurd (omega arith); named = λ z. absurd (omega arith) };
+    fresh = record { last = λ z. absurd (omega arith); ordered = omega arith; inside = omega arith; short = λ z. absurd (omega arith); named = λ z. absurd (omega arith) };
   }
 
   -- A colon with the bytes that follow, of which `next` is the first.
   colon_fronts : (next : ℕ) (bs : List ℕ) → begins_with 61 bs ≡ eqb next 61 → s + 1 + length bs ≡ length text →
       Fronts text s (cond (begins_with 61 bs) (record { token = some (sign ASSIGN); more = 1 }) (one_byte (some (sign OTHER))))
-      (cond (eqb next 61) (piece_of ASSIGN s (s + 2) 3) (piece_of OTHER s (s + 1) 3))
+      (cond (eqb next 61) (piece_of ASSIGN s (s + 2)) (piece_of OTHER s (s + 1)))
   colon_fronts next [] e l = rw (sym e) (one_fronts OTHER (omega arith))
   colon_fronts next (a ∷ bs) e l = rw e (either_fronts (eqb next 61) (sign_fronts ASSIGN 1 (s + 2) (omega arith) (omega arith) (omega arith)) (one_fronts OTHER (omega arith)))
 
@@ -234,16 +238,16 @@ pub record Tokened (text : List ℕ) (i : ℕ) (t : Piece) : Type 0 where
   pub tokens : tokens_from text i ≡ listed text t
   pub fresh : Fresh text t
 
-piece_end : {text : List ℕ} {i s : ℕ} → Behind text i s → length text ≤ s → Tokened text i (piece_of FINISH (length text) (length text) 3)
-unfolding listed
+piece_end : {text : List ℕ} {i s : ℕ} → Behind text i s → length text ≤ s → Tokened text i (piece_of FINISH (length text) (length text))
+unfolding listed kind_of
 piece_end {text} {s = s} b h =
-    record { tokens = b.same ∙ from_end text s h; fresh = record { fault = refl; last = λ z. refl; ordered = omega arith; inside = omega arith; short = λ z. absurd (omega arith); named = λ z. absurd (omega arith) } }
+    record { tokens = b.same ∙ from_end text s h; fresh = record { last = λ z. refl; ordered = omega arith; inside = omega arith; short = λ z. absurd (omega arith); named = λ z. absurd (omega arith) } }
 
 module _ {text : List ℕ} {i s : ℕ} (b : Behind text i s) (within : s < length text) where
   fronts : (t : Piece) → Fronts text s (front s (get_or text s 0) (drop (suc s) text)) t → Tokened text i t
   unfolding listed
   fronts t f = record {
-    tokens = b.same ∙ from-token text s within (b.held within) ∙ sym (rw (ne_eqb t.kind FINISH (λ z. absurd (omega arith)), f.token, f.start, f.ends));
+    tokens = b.same ∙ from-token text s within (b.held within) ∙ sym (rw (ne_eqb (kind_number t.kind) FINISH (λ z. absurd (omega arith)), f.token, f.start, f.ends));
     fresh = f.fresh;
   }
 
@@ -268,7 +272,6 @@ module _ {text : List ℕ} {i s : ℕ} (b : Behind text i s) (within : s < lengt
         token = q.token ∙ ap (word_token s) word;
         kind = q.kind;
         fresh = record {
-          fault = q.fault;
           last = λ z. absurd (omega (arith, q.kind));
           ordered = omega (arith, q.start, q.ends);
           inside = omega (arith, q.ends);
@@ -288,7 +291,7 @@ tokened text i = go (leb (length text) s) (word_byte (get_or text s 0)) refl ref
     b = behind_blanks text (length text) i (omega arith)
 
     go : (x y : Bool) → leb (length text) s ≡ x → word_byte (get_or text s 0) ≡ y →
-        Tokened text i (cond x (piece_of FINISH (length text) (length text) 3) (cond y (word_piece text s (s + span (drop s text))) (mark_piece (get_or text s 0) (get_or text (s + 1) 0) s)))
+        Tokened text i (cond x (piece_of FINISH (length text) (length text)) (cond y (word_piece text s (s + span (drop s text))) (mark_piece (get_or text s 0) (get_or text (s + 1) 0) s)))
     go true y e f = piece_end b (leb-true (length text) s e)
     go false true e f = piece_word b (leb-false (length text) s e) f
     go false false e f = piece_mark b (leb-false (length text) s e) f
@@ -302,7 +305,7 @@ module _ (text : List ℕ) (i s : ℕ) {r : Piece} (is : s ≡ i + blanks (drop 
   unfolding piece_at
   from-here q = q ∙ ap (piece_from text) is
 
-  pub at-end : length text ≤ s → r ≡ piece_of FINISH (length text) (length text) 3 → r ≡ piece_at text i
+  pub at-end : length text ≤ s → r ≡ piece_of FINISH (length text) (length text) → r ≡ piece_at text i
   unfolding piece_from
   at-end h q = from-here (q ∙ rw (le-leb (length text) s h))
 

@@ -1,3 +1,4 @@
+pub mod KindNumbers
 pub mod Runs
 pub mod Spelling
 pub mod Lexing

@@ -1,17 +1,22 @@
 -- Looking a word up among the declared names, byte by byte or eight bytes at a time, finds its place among their words, which says whether it is a name.
 -- Assumes nothing.
 use mathlib.Core.Path.{◌≡◌, refl, sym, ap, ◌∙◌}
-use mathlib.Core.Bool.{Bool, true, false, cond, not, ◌&&◌, ◌||◌, and-true, and-false, and_assoc, or_assoc}
+use mathlib.Core.Bool.{Bool, true, false, cond, ◌&&◌, ◌||◌, and-true, and-false, and_assoc, or_assoc}
 use mathlib.Core.Logic.{◌⊎◌, inl, inr}
 use mathlib.Core.List.{List, [], ◌∷◌, ◌++◌}
 use Prim.Native.Nat.{ℕ, zero, suc, ◌+◌, ◌-◌, ◌≤◌, ◌<◌}
 use native.Mathlib.Nat.{add-zero, zero-add, suc-add}
-use native.Mathlib.Numerals.{add-one, towards_suc}
+use native.Mathlib.Numerals.{add-one}
 use native.Mathlib.Omega.{arith}
 use lib.Dec.{eqb, leb, ltb, leb-suc-suc}
-use lib.ListN.{length, get_or, set, length-set}
-use lib.Seq.{slice, slice-cons, slice_empty, length-slice, get_or-set_same, get_or-set_other}
-use borrow.Author.Tests.{leb-true, ltb-true, ltb-false, lt-ltb, le-ltb, ne_eqb, eqb-true, eqb-false}
+use lib.ListN.{length, get_or, set, take, drop, get_or-eq_default, length-drop, length-set}
+use lib.Seq.{slice, slice-cons, slice_empty, length-slice, length-take-le, get_or-take, get_or-drop, get_or-set_same, get_or-set_other}
+use borrow.Author.Tests.{leb-true, ltb-true, ltb-false, lt-ltb, le-ltb, eq-eqb, ne_eqb}
+use Rattle.std.specs.Prelude as C
+use Rattle.std.specs.Prelude.{Some, None, is_some}
+use Rattle.std.specs.Int.{from_le_bytes, w64}
+use Rattle.std.proofs.lemmas.List.{drop-take, length-take}
+use Rattle.std.proofs.lemmas.Nat.{le_bytes_8}
 use Rattle.notation.specs.Bytes.{between, lower_case, in_lower_case, same_word, upper_letter}
 use Rattle.notation.specs.Tokens.{Word}
 use Rattle.notation.specs.Texts.{among, place_of}
@@ -19,8 +24,8 @@ use Rattle.notation.proofs.Booleans.{and_split}
 use Rattle.notation.proofs.Case.{lower-length, same_word_lem, same_itself}
 use Rattle.lexer.specs.declared.pieces.Piece.{Piece}
 use Rattle.lexer.specs.working.Pieces.{name_in, Fresh}
-use Rattle.lexer.specs.working.Names.{Packed, upper_case, Ending, window, same_first, left_to_compare, word_at, words_in}
-use Rattle.lexer.proofs.Spelling.{lengths_differ, peel, upper_le, upper_ge, lower-upper, lower-stays, upper-below, upper-small}
+use Rattle.lexer.specs.working.Names.{upper_case, Ending, window, same_first, left_to_compare, word_at, words_in, name_found}
+use Rattle.lexer.proofs.Spelling.{lengths_differ, upper_le, upper_ge, lower-upper, lower-stays, upper-below, upper-small}
 
 -- ---- windows of the text
 
@@ -90,26 +95,31 @@ module _ (text : List ℕ) where
   none_left a b k h = let e : k ≡ 0 = omega arith in rw e
 
   -- Eight bytes at once.
+  module _ (fits : (j : ℕ) → get_or text j 0 < 256) where
+    part-fits : (i n k : ℕ) → get_or (take n (drop i text)) k 0 < 256
+    part-fits i n k = go (ltb k n) refl
+      where
+        go : (x : Bool) → ltb k n ≡ x → get_or (take n (drop i text)) k 0 < 256
+        go true e = rw (get_or-take n (drop i text) k 0 (ltb-true k n e), get_or-drop i text k 0) (fits (i + k))
+        go false e =
+            let l : length (take n (drop i text)) ≤ k = omega (arith, length-take n (drop i text), ltb-false k n e) in
+            let z : get_or (take n (drop i text)) k 0 ≡ 0 = get_or-eq_default (take n (drop i text)) 0 l in
+            omega arith
 
-  window-eight : (a : ℕ) → window text a 8 ≡
-      get_or text a 0 ∷ get_or text (a + 1) 0 ∷ get_or text (a + 2) 0 ∷ get_or text (a + 3) 0 ∷ get_or text (a + 4) 0 ∷ get_or text (a + 5) 0 ∷ get_or text (a + 6) 0 ∷ get_or text (a + 7) 0 ∷ []
-  unfolding window
-  window-eight a = simp towards_suc
+    length-eight : (i : ℕ) → i + 8 ≤ length text → length (take 8 (drop i text)) ≡ 8
+    length-eight i h = length-take-le 8 (drop i text) (omega (arith, length-drop i text))
 
-  pub packs_same : (a b x y : ℕ) → Packed text b x → Packed text a y → eqb x y ≡ same_word (window text b 8) (window text a 8)
-  unfolding same_word
-  packs_same a b x y p q =
-      rw (p.number, q.number, window-eight a, window-eight b)
-      (rw (
-        peel _ _ _ _ p.d0 q.d0,
-        peel _ _ _ _ p.d1 q.d1,
-        peel _ _ _ _ p.d2 q.d2,
-        peel _ _ _ _ p.d3 q.d3,
-        peel _ _ _ _ p.d4 q.d4,
-        peel _ _ _ _ p.d5 q.d5,
-        peel _ _ _ _ p.d6 q.d6,
-        and-true (eqb (get_or text (b + 7) 0) (get_or text (a + 7) 0)),
-      ))
+    module _ (a b x y : ℕ) (h : a + 8 ≤ length text) (k : b + 8 ≤ length text) (p : x ≡ from_le_bytes w64 (take 8 (drop b text))) (q : y ≡ from_le_bytes w64 (take 8 (drop a text))) where
+      pub eight_same : eqb x y ≡ same_word (window text b 8) (window text a 8)
+      eight_same =
+          rw (window-from text (b + 8) b 8 refl k ∙ drop-take b 8 text, window-from text (a + 8) a 8 refl h ∙ drop-take a 8 text) (go (same_word (take 8 (drop b text)) (take 8 (drop a text))) refl)
+        where
+          go : (s : Bool) → same_word (take 8 (drop b text)) (take 8 (drop a text)) ≡ s → eqb x y ≡ s
+          go true e = eq-eqb x y (p ∙ ap (from_le_bytes w64) (same_word_lem _ _ e) ∙ sym q)
+          go false e =
+              let f = le_bytes_8 (take 8 (drop b text)) x (length-eight b k) (part-fits b 8) p in
+              let g = le_bytes_8 (take 8 (drop a text)) y (length-eight a h) (part-fits a 8) q in
+              ne_eqb x y (λ z. let w : take 8 (drop b text) ≡ take 8 (drop a text) = cc in let n : ◌≡◌ {A = Bool} true false = sym (same_itself (take 8 (drop a text))) ∙ ap (λ (v : Word). same_word v (take 8 (drop a text))) (sym w) ∙ e in let r : ◌≡◌ {A = ℕ} 0 1 = cc in absurd (omega arith))
 
   -- What is the same as written is the same but for case.
   written_same : (a b n : ℕ) → same_word (window text b n) (window text a n) ≡ true → same_first text a b n ≡ true
@@ -167,15 +177,7 @@ module _ (x : ℕ) {lower upper : ℕ} (l : lower ≡ lower_case x) (u : upper �
       go (inl e) = a (e ∙ sym l)
       go (inr e) = b (e ∙ sym u)
 
-  -- What is neither of the two differs from the byte, and what is one of them is not 0 where the byte is not.
-  neither_differs : (y : ℕ) → not (eqb y lower || eqb y upper) ≡ true → eqb (lower_case x) (lower_case y) ≡ false
-  neither_differs y h = go (eqb y lower) refl (eqb y upper) refl h
-    where
-      go : (p : Bool) → eqb y lower ≡ p → (q : Bool) → eqb y upper ≡ q → not (p || q) ≡ true → eqb (lower_case x) (lower_case y) ≡ false
-      go true e q f h = cc
-      go false e true f h = cc
-      go false e false f h = last_neither y (eqb-false y lower e) (eqb-false y upper f)
-
+  -- What is one of the two is not 0 where the byte is not.
   module _ (h : 0 < x) where
     lower-some : 0 < lower
     lower-some = rw l (go (upper_letter x))
@@ -191,13 +193,9 @@ module _ (x : ℕ) {lower upper : ℕ} (l : lower ≡ lower_case x) (u : upper �
         go true e = let k = leb-true 97 x (and_split (leb 97 x) (leb x 122) e).0 in omega arith
         go false e = h
 
-    one-some : (y : ℕ) → not (eqb y lower || eqb y upper) ≡ false → 0 < y
-    one-some y n = go (eqb y lower) refl (eqb y upper) refl n
-      where
-        go : (p : Bool) → eqb y lower ≡ p → (q : Bool) → eqb y upper ≡ q → not (p || q) ≡ false → 0 < y
-        go true e q f n = omega (arith, eqb-true y lower e, lower-some)
-        go false e true f n = omega (arith, eqb-true y upper f, upper-some)
-        go false e false f n = let z : ◌≡◌ {A = ℕ} 0 1 = cc in absurd (omega arith)
+    one-some : (y : ℕ) → ((y ≡ lower → ⊥) × (y ≡ upper)) ⊎ (y ≡ lower) → 0 < y
+    one-some y (inl e) = omega (arith, upper-some)
+    one-some y (inr e) = omega (arith, lower-some)
 
 -- A byte that is not 0 is one of the text.
 byte_inside : (text : List ℕ) (j : ℕ) → 0 < get_or text j 0 → j < length text
@@ -207,12 +205,12 @@ byte_inside (a ∷ text) (suc j) h = omega (arith, byte_inside text j h)
 
 -- The byte y at the place where n bytes from a on end, against the last byte of a word as long.
 module _ {text : List ℕ} {s e lower upper : ℕ} (E : Ending text s e lower upper) (a n y : ℕ) (g : e - s ≡ n) (q : y ≡ get_or text (a + (n - 1)) 0) where
-  pub ending-no : not (eqb y lower || eqb y upper) ≡ true → false ≡ same_first text a s n
-  ending-no h =
+  pub ending-no : (y ≡ lower → ⊥) → (y ≡ upper → ⊥) → false ≡ same_first text a s n
+  ending-no h k =
       let l : s + (n - 1) ≡ e - 1 = omega (arith, E.filled) in
-      last-no text a s n (n - 1) (omega (arith, E.filled)) (rw (l, sym q) (neither_differs (get_or text (e - 1) 0) E.in_lower E.in_upper y h))
+      last-no text a s n (n - 1) (omega (arith, E.filled)) (rw (l, sym q) (last_neither (get_or text (e - 1) 0) E.in_lower E.in_upper y h k))
 
-  pub ending-inside : not (eqb y lower || eqb y upper) ≡ false → a + n ≤ length text
+  pub ending-inside : ((y ≡ lower → ⊥) × (y ≡ upper)) ⊎ (y ≡ lower) → a + n ≤ length text
   ending-inside h =
       let z : a + (n - 1) < length text = byte_inside text (a + (n - 1)) (rw (sym q) (one-some (get_or text (e - 1) 0) E.in_lower E.in_upper E.some y h)) in
       omega (arith, E.filled)
@@ -310,6 +308,39 @@ module _ (text names : List ℕ) (w : Word) (to : ℕ) where
   -- It is one of the names from i on.
   pub found_among : (i : ℕ) → among w (words_in text names i (to - i)) ≡ ltb (found_from i) to
   found_among i = place-among w (words_in text names i (to - i)) ∙ rw (words-length text names i (to - i)) (below_shift i _ to)
+
+-- What the code tells of it.
+pub some_name : {to i k : ℕ} → name_found to i ≡ Some k → (k ≡ i) × (k ≡ to → ⊥)
+some_name {to} {i} {k} h = go (ltb i to) refl h
+  where
+    go : (x : Bool) → ltb i to ≡ x → cond x (Some i) None ≡ Some k → (k ≡ i) × (k ≡ to → ⊥)
+    go true e h = let q : k ≡ i = cc in (q, λ z. absurd (omega (arith, ltb-true i to e)))
+    go false e h = cc
+
+-- Whether it is one of them.
+module _ (to i : ℕ) {r : C.Option ℕ} {b : Bool} (h : r ≡ name_found to i) (k : b ≡ is_some r) where
+  told : b ≡ ltb i to
+  told = k ∙ ap is_some h ∙ go (ltb i to)
+    where
+      go : (x : Bool) → is_some (cond x (Some i) None) ≡ x
+      go true = refl
+      go false = refl
+
+  pub was_named : b ≡ true → i < to
+  was_named e = ltb-true i to (sym told ∙ e)
+
+  pub not_named : b ≡ false → to ≤ i
+  not_named e = ltb-false i to (sym told ∙ e)
+
+module _ (text names : List ℕ) (w : Word) (to from : ℕ) where
+  pub no_name : from ≤ to → name_found to (found_from text names w to from) ≡ None → found_from text names w to from ≡ to
+  no_name h n =
+      let l = ltb-false (found_from text names w to from) to (go (ltb (found_from text names w to from) to) n) in
+      omega (arith, place_le w (words_in text names from (to - from)), words-length text names from (to - from))
+    where
+      go : (x : Bool) → cond x (Some (found_from text names w to from)) None ≡ None → x ≡ false
+      go true h = cc
+      go false h = refl
 
 -- ---- one name more
 

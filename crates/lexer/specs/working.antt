@@ -1,3 +1,4 @@
 -- Definitions that only describe how the code goes about its work.
+pub mod Kinds
 pub mod Pieces
 pub mod Names

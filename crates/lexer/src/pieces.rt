@@ -1,102 +1,88 @@
 // Pieces of a text: the next token, with its place, or what is no token.
 ghost use Rattle.std.specs.Prelude.{◌≡◌, ◌+◌, ◌≤◌, ◌<◌, ◌^◌, length, drop};
 ghost use Rattle.notation.specs.working.Lexing.{span};
-ghost use Rattle.lexer.specs.working.Pieces.{BAD, piece_of, blanks, byte_piece, word_piece, mark_piece, piece_at};
+ghost use Rattle.lexer.specs.working.Kinds.{kind_number};
+ghost use Rattle.lexer.specs.working.Pieces.{BAD, piece_of, misplaced, blanks, byte_piece, word_piece, mark_piece, piece_at};
 
-use crate::bytes::{byte_at, is_blank, is_letter, is_word};
-use crate::words::{WORDS, reserved_at, reserved_in_other_case};
+use crate::bytes::{byte_at, is_blank, is_word};
+use crate::words::{reserved_at, reserved_in_other_case};
+use refusals::{Reason, Refusal};
 
 // The longest word that is a token.
 const MAX_WORD: usize = 16;
 
 // The kinds: the signs by their numbers, then a name, a byte or word that is refused, and the end of the text.
-pub const SHARED: usize = 0;
-
-pub const ROW: usize = 1;
-
-pub const START: usize = 2;
-
-pub const KEEP: usize = 3;
-
-pub const EACH: usize = 4;
-
-pub const COMMAND: usize = 5;
-
-pub const IF: usize = 6;
-
-pub const DO: usize = 7;
-
-pub const ELSE: usize = 8;
-
-pub const FOR: usize = 9;
-
-pub const END: usize = 10;
-
-pub const SKIP: usize = 11;
-
-pub const AND: usize = 12;
-
-pub const OR: usize = 13;
-
-pub const NOT: usize = 14;
-
-pub const ZERO: usize = 15;
-
-pub const ONE: usize = 16;
-
-pub const STAR: usize = 17;
-
-pub const DOT: usize = 18;
-
-pub const SEMI: usize = 19;
-
-pub const ASSIGN: usize = 20;
-
-pub const OPEN: usize = 21;
-
-pub const CLOSE: usize = 22;
-
-pub const OTHER: usize = 23;
-
-pub const NAME: usize = 24;
-
-pub const BAD: usize = 25;
-
-pub const FINISH: usize = 26;
-
-// What a reserved word in another case is: nothing that the notation uses.
-const RECASED: usize = OTHER;
-
-// From start to end, with the number that refuses it where nothing of its kind may stand. All fields are as wide as a place: to copy a narrow one that was just stored takes longer.
-#[derive(Clone, Copy)]
-pub struct Piece {
-    pub kind: usize,
-    pub start: usize,
-    pub end: usize,
-    pub fault: usize,
+#[derive(Clone, Copy, PartialEq, Eq)]
+pub enum Kind {
+    Shared = 0,
+    Row = 1,
+    Start = 2,
+    Keep = 3,
+    Each = 4,
+    Command = 5,
+    If = 6,
+    Do = 7,
+    Else = 8,
+    For = 9,
+    End = 10,
+    Skip = 11,
+    And = 12,
+    Or = 13,
+    Not = 14,
+    Zero = 15,
+    One = 16,
+    Star = 17,
+    Dot = 18,
+    Semi = 19,
+    Assign = 20,
+    Open = 21,
+    Close = 22,
+    Other = 23,
+    Name = 24,
+    Bad = 25,
+    Finish = 26,
 }
 
-// A piece that is a token, or the end.
-fn token(kind: usize, start: usize, end: usize) -> Piece
-    ensures { result ≡ piece_of kind start end 3 }
-{
-    Piece {
-        kind: kind,
-        start: start,
-        end: end,
-        fault: 3,
+// What a reserved word in another case is: nothing that the notation uses.
+const RECASED: Kind = Kind::Other;
+
+// What stands from start to end.
+#[derive(Clone, Copy)]
+pub struct Piece {
+    pub kind: Kind,
+    pub start: usize,
+    pub end: usize,
+}
+
+impl Piece {
+    // The refusal where the piece may not stand.
+    pub fn misplaced(self) -> Refusal
+        ensures { result ≡ misplaced self }
+    {
+        if self.kind == Kind::Bad {
+            return Reason::NoToken.at(self.start);
+        }
+        Reason::Unexpected.at(self.start)
     }
 }
 
+// A piece that is a token, or the end.
+#[tactic(auto, using(crate::proofs::KindNumbers::kind_told))]
+fn token(kind: Kind, start: usize, end: usize) -> Piece
+    ensures { result ≡ piece_of (kind_number kind) start end }
+{
+    Piece { kind, start, end }
+}
+
 // A byte that is not allowed, or a word that is too long.
+#[tactic(auto, unfolding(crate::specs::working::Kinds::kind_of))]
 fn refused(start: usize, end: usize) -> Piece
-    ensures { result ≡ piece_of BAD start end 2 }
+    ensures { result ≡ piece_of BAD start end }
 {
     Piece {
-        kind: BAD,
-        start: start,
-        end: end,
-        fault: 2,
+        kind: Kind::Bad,
+        start,
+        end,
     }
 }
 
@@ -105,11 +91,7 @@ fn skip_blanks(text: &[u8], at: usize) -> usize
     ensures { result ≡ at + blanks (drop at text.now) }
 {
     let mut i = at;
-    while i < text.len() {
-        let b = text[i];
-        if !is_blank(b) {
-            return i;
-        }
+    while i < text.len() && is_blank(text[i]) {
         i += 1;
     }
     i
@@ -120,32 +102,26 @@ fn word_end(text: &[u8], from: usize) -> usize
     requires { from ≤ length text.now }
     ensures { (result ≡ from + span (drop from text.now)) × (result ≤ length text.now) }
 {
-    let mut i = from;
-    while i < text.len() {
-        let ok = is_word(text[i]);
-        if !ok {
+    for i in from..text.len() {
+        if !is_word(text[i]) {
             return i;
         }
-        i += 1;
     }
-    i
+    text.len()
 }
 
 // The piece that a word of the one byte b is; none is reserved.
 fn byte_piece(b: u8, s: usize, e: usize) -> Piece
     ensures { result ≡ byte_piece b s e }
 {
-    let named = is_letter(b);
-    if named {
-        return token(NAME, s, e);
+    if b.is_ascii_alphabetic() {
+        return token(Kind::Name, s, e);
     }
-    if b == b'0' {
-        return token(ZERO, s, e);
+    match b {
+        b'0' => token(Kind::Zero, s, e),
+        b'1' => token(Kind::One, s, e),
+        _ => token(Kind::Other, s, e),
     }
-    if b == b'1' {
-        return token(ONE, s, e);
-    }
-    token(OTHER, s, e)
 }
 
 // The piece that the word from s to e is.
@@ -161,19 +137,16 @@ fn word_piece(text: &[u8], s: usize, e: usize) -> Piece
     if MAX_WORD < n {
         return refused(s, e);
     }
-    let k = reserved_at(text, s, e);
-    if k < WORDS {
-        return token(k, s, e);
+    if let Some(kind) = reserved_at(text, s, e) {
+        return token(kind, s, e);
     }
-    let named = is_letter(b);
-    if !named {
-        return token(OTHER, s, e);
+    if !b.is_ascii_alphabetic() {
+        return token(Kind::Other, s, e);
     }
-    let recased = reserved_in_other_case(text, s, e);
-    if recased {
+    if reserved_in_other_case(text, s, e) {
         return token(RECASED, s, e);
     }
-    token(NAME, s, e)
+    token(Kind::Name, s, e)
 }
 
 // The piece that the mark b is at s, with the byte after it, or 0.
@@ -183,17 +156,17 @@ fn mark_piece(b: u8, next: u8, s: usize) -> Piece
 {
     let e = s + 1;
     match b {
-        b'.' => token(DOT, s, e),
-        b';' => token(SEMI, s, e),
-        b'(' => token(OPEN, s, e),
-        b')' => token(CLOSE, s, e),
-        b'*' => token(STAR, s, e),
-        b'=' => token(OTHER, s, e),
+        b'.' => token(Kind::Dot, s, e),
+        b';' => token(Kind::Semi, s, e),
+        b'(' => token(Kind::Open, s, e),
+        b')' => token(Kind::Close, s, e),
+        b'*' => token(Kind::Star, s, e),
+        b'=' => token(Kind::Other, s, e),
         b':' => {
             if next == b'=' {
-                return token(ASSIGN, s, s + 2);
+                return token(Kind::Assign, s, s + 2);
             }
-            token(OTHER, s, e)
+            token(Kind::Other, s, e)
         }
         _ => refused(s, e),
     }
@@ -206,11 +179,10 @@ pub fn piece_at(text: &[u8], at: usize) -> Piece
     let s = skip_blanks(text, at);
     let n = text.len();
     if n <= s {
-        return token(FINISH, n, n);
+        return token(Kind::Finish, n, n);
     }
     let b = text[s];
-    let word = is_word(b);
-    if word {
+    if is_word(b) {
         let e = word_end(text, s);
         return word_piece(text, s, e);
     }

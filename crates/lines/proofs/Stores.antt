@@ -1,28 +1,24 @@
 -- Bytes stored one after another, from some place on.
 -- Assumes nothing.
 use mathlib.Core.Path.{◌≡◌, refl, sym, ap, ◌∙◌}
-use mathlib.Core.List.{List, [], ◌∷◌, ◌++◌}
-use Prim.Native.Nat.{ℕ, suc, ◌+◌, ◌≤◌, ◌<◌}
+use mathlib.Core.List.{List, [], ◌∷◌, ◌++◌, append_assoc}
+use Prim.Native.Nat.{ℕ, suc, ◌+◌, ◌-◌, ◌≤◌}
 use native.Mathlib.Omega.{arith}
-use lib.ListN.{length, get_or, set, drop, length-append, drop_of_length-le}
-use lib.Seq.{sets, drop-cons, length-sets}
-use Rattle.io.specs.Counts.{IsPrefixLen}
-use Rattle.io.proofs.Counting.{prefix_len_of_le}
-use Rattle.lines.specs.Puts.{Fits, Puts}
+use borrow.Rule.Slice.PartMut.{put_mid}
+use lib.ListN.{length, set, take, drop, length-append}
+use lib.Seq.{sets, length-sets}
+use Rattle.std.proofs.lemmas.Slice.{put_mid-paste}
+use Rattle.std.proofs.lemmas.List.Edits.{paste_all, sets-eq}
+use Rattle.lines.specs.Puts.{Puts}
 
-pub sets-begun : (l v : List ℕ) (at : ℕ) → sets l (at + 0) v ≡ sets l at v
-sets-begun l v at = let e : at + 0 ≡ at = omega arith in ap (λ k. sets l k v) e
-
-pub sets-next : (l v : List ℕ) (at i d : ℕ) → i < length v → sets (set l (at + i) (get_or v i d)) (at + (i + 1)) (drop (i + 1) v) ≡ sets l (at + i) (drop i v)
-sets-next l v at i d h =
-    let e : at + (i + 1) ≡ suc (at + i) = omega arith in
-    let f : i + 1 ≡ suc i = omega arith in
-    ap (λ k. sets (set l (at + i) (get_or v i d)) k (drop (i + 1) v)) e
-    ∙ ap (λ k. sets (set l (at + i) (get_or v i d)) (suc (at + i)) (drop k v)) f
-    ∙ ap (sets l (at + i)) (sym (drop-cons v i d h))
-
-pub sets-done : (l v : List ℕ) (at i : ℕ) → length v ≤ i → sets l (at + i) (drop i v) ≡ l
-sets-done l v at i h = ap (sets l (at + i)) (drop_of_length-le v {i = i} h)
+-- A part of a buffer that is filled with bytes.
+pub part_filled : (l v x : List ℕ) (at : ℕ) → at + length v ≤ length l → x ≡ v → put_mid at (at + length v - at) l x ≡ sets l at v
+part_filled l v x at h e =
+    let k : length v ≡ at + length v - at = omega arith in
+    put_mid-paste at (at + length v - at) l x v (length v) e k refl
+    ∙ paste_all l at v (length v) refl
+    ∙ sym (append_assoc (take at l) v (drop (at + length v) l))
+    ∙ sym (sets-eq v l at h)
 
 -- Bytes and more bytes behind them.
 pub sets-append : (l : List ℕ) (i : ℕ) (v w : List ℕ) → sets l i (v ++ w) ≡ sets (sets l i v) (i + length v) w
@@ -47,14 +43,3 @@ behind {l} {v} {w} {x} {y} {at} {r} {s} P Q =
           Q.stored ∙ ap (λ z. sets z r w) P.stored ∙ ap (λ k. sets (sets l at v) k w) P.ends ∙ sym (sets-append l at v w);
       ends = omega (arith, P.ends, Q.ends, length-append v w);
     }
-
--- Where there is room for bytes and more, there is room for those bytes, and then for the others behind them.
-pub first_fits : {l : List ℕ} {at : ℕ} (v w : List ℕ) → Fits l at (v ++ w) → Fits l at v
-first_fits v w f = record { room = omega (arith, f.room, length-append v w) }
-
-pub rest-fits : {l v x : List ℕ} {at r : ℕ} (w : List ℕ) → Puts l at v x r → Fits l at (v ++ w) → Fits x r w
-rest-fits {l} {v} {x} {at} {r} w P f = record { room = omega (arith, f.room, length-append v w, P.ends, keeps P) }
-
--- What is stored at the front of a buffer and no longer than it is counted there.
-pub front-counts : (x l v : List ℕ) (n : ℕ) → x ≡ sets l 0 v → n ≤ length l → IsPrefixLen n x
-front-counts x l v n e h = prefix_len_of_le n x (omega (arith, ap length e ∙ length-sets l 0 v))

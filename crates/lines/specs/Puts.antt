@@ -1,11 +1,7 @@
 -- Bytes put into a buffer from some place on.
 -- Assumes nothing.
-use Rattle.std.specs.Prelude.{◌≡◌, List, ℕ, ◌+◌, ◌≤◌, length}
+use Rattle.std.specs.Prelude.{◌≡◌, List, ℕ, ◌+◌, length}
 use Rattle.std.proofs.lemmas.List.Edits.{sets}
-
--- The buffer has room for the bytes there.
-pub record Fits (before : List ℕ) (at : ℕ) (bytes : List ℕ) : Type 0 where
-  pub room : at + length bytes ≤ length before
 
 -- Afterwards the bytes stand there, all else is as it was, and `end` is the place behind them.
 pub record Puts (before : List ℕ) (at : ℕ) (bytes after : List ℕ) (end : ℕ) : Type 0 where

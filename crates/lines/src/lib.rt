@@ -1,67 +1,94 @@
 // Lines of words and numbers, put into a lent buffer one part behind the other.
 #![tactic(auto)]
 
-ghost use Rattle.std.specs.Prelude.{[], ◌∷◌};
+ghost use Rattle.std.specs.Prelude.{◌≡◌, length, [], ◌∷◌};
 ghost use Rattle.lines.specs.Lines.{decimal_of, word, line, number_line, refusal_line};
-ghost use Rattle.lines.specs.Puts.{Fits, Puts};
+ghost use Rattle.lines.specs.Writers.{HasRoom, Writes};
+ghost use Rattle.refusals.specs.Reasons.{number_of};
 
-// Puts bytes from a place of the buffer on; the place behind them.
-pub fn put(out: &mut [u8], at: usize, bytes: &[u8]) -> usize
-    requires { Fits out.old at bytes.now }
-    ensures { Puts out.old at bytes.now out.new result }
-{
-    let mut i: usize = 0;
-    'bytes: while i < bytes.len() {
-        out[at + i] = bytes[i];
-        i += 1;
+use refusals::Refusal;
+
+// Bytes at the front of a lent buffer.
+#[derive(Drop)]
+pub struct Writer<'a> {
+    room: &'a mut [u8],
+    len: usize,
+}
+
+impl<'a> Writer<'a> {
+    // No bytes yet.
+    pub fn new(room: &'a mut [u8]) -> Writer<'a>
+        ensures same { result.room.ghost_name ≡ room.entry.ghost_name }
+        ensures room { result.room.now ≡ room.old }
+        ensures len { result.len ≡ 0 }
+    {
+        Writer { room, len: 0 }
     }
-    at + i
-}
 
-// A space and a word.
-pub fn put_word(out: &mut [u8], at: usize, bytes: &[u8]) -> usize
-    requires { Fits out.old at (word bytes.now) }
-    ensures { Puts out.old at (word bytes.now) out.new result }
-{
-    let spaced = put(out, at, b" ");
-    put(out, spaced, bytes)
-}
+    // How many they are.
+    pub fn len(&self) -> usize
+        ensures { result ≡ self.now.len }
+    {
+        self.len
+    }
 
-// A space and the digits of a number.
-pub fn put_number(out: &mut [u8], at: usize, n: usize) -> usize
-    requires { Fits out.old at (word (decimal_of n)) }
-    ensures { Puts out.old at (word (decimal_of n)) out.new result }
-{
-    let mut digits = [0u8; 20];
-    let k = io::decimal(n as u64, &mut digits);
-    put_word(out, at, &digits[..k])
-}
+    // Puts bytes behind those that are there.
+    pub fn put(&mut self, bytes: &[u8])
+        requires { HasRoom self.old bytes.now }
+        ensures { Writes self.old bytes.now self.new }
+    {
+        let end = self.len + bytes.len();
+        self.room[self.len..end].copy_from_slice(bytes);
+        self.len = end;
+    }
 
-// A line of a word and a number.
-pub fn put_number_line(out: &mut [u8], at: usize, title: &[u8], n: usize) -> usize
-    requires { Fits out.old at (number_line title.now n) }
-    ensures { Puts out.old at (number_line title.now n) out.new result }
-{
-    let titled = put(out, at, title);
-    let numbered = put_number(out, titled, n);
-    put(out, numbered, b"\n")
-}
+    // A space and a word.
+    pub fn put_word(&mut self, bytes: &[u8])
+        requires { HasRoom self.old (word bytes.now) }
+        ensures { Writes self.old (word bytes.now) self.new }
+    {
+        self.put(b" ");
+        self.put(bytes);
+    }
 
-// A line of a word and two numbers.
-pub fn put_numbers_line(out: &mut [u8], at: usize, title: &[u8], n: usize, k: usize) -> usize
-    requires { Fits out.old at (line (title.now ∷ decimal_of n ∷ decimal_of k ∷ [])) }
-    ensures { Puts out.old at (line (title.now ∷ decimal_of n ∷ decimal_of k ∷ [])) out.new result }
-{
-    let titled = put(out, at, title);
-    let first = put_number(out, titled, n);
-    let second = put_number(out, first, k);
-    put(out, second, b"\n")
-}
+    // A space and the digits of a number.
+    pub fn put_number(&mut self, n: usize)
+        requires { HasRoom self.old (word (decimal_of n)) }
+        ensures { Writes self.old (word (decimal_of n)) self.new }
+    {
+        let mut digits = [0u8; 20];
+        let k = io::decimal(n as u64, &mut digits);
+        self.put_word(&digits[..k]);
+    }
 
-// `refused`, a refusal's number and its place.
-pub fn put_refusal(out: &mut [u8], at: usize, number: usize, place: usize) -> usize
-    requires { Fits out.old at (refusal_line number place) }
-    ensures { Puts out.old at (refusal_line number place) out.new result }
-{
-    put_numbers_line(out, at, b"refused", number, place)
+    // A line of a word and a number.
+    pub fn put_number_line(&mut self, title: &[u8], n: usize)
+        requires { HasRoom self.old (number_line title.now n) }
+        ensures { Writes self.old (number_line title.now n) self.new }
+    {
+        self.put(title);
+        self.put_number(n);
+        self.put(b"\n");
+    }
+
+    // A line of a word and two numbers.
+    pub fn put_numbers_line(&mut self, title: &[u8], first: usize, second: usize)
+        requires { HasRoom self.old (line (title.now ∷ decimal_of first ∷ decimal_of second ∷ [])) }
+        ensures { Writes self.old (line (title.now ∷ decimal_of first ∷ decimal_of second ∷ [])) self.new }
+    {
+        self.put(title);
+        self.put_number(first);
+        self.put_number(second);
+        self.put(b"\n");
+    }
+
+    // `refused`, a refusal's number and its place.
+    #[tactic(auto, unfolding(notation::specs::Bytes::bytes))]
+    pub fn put_refusal(&mut self, refusal: Refusal)
+        requires { HasRoom self.old (refusal_line (number_of refusal.reason) refusal.place) }
+        ensures { Writes self.old (refusal_line (number_of refusal.reason) refusal.place) self.new }
+    {
+        let number = usize::from(refusal.reason.number());
+        self.put_numbers_line(b"refused", number, refusal.place);
+    }
 }

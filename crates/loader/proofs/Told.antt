@@ -1,6 +1,6 @@
 -- The numbers that C is given tell the answers, and fit.
 -- Assumes nothing.
-use mathlib.Core.Path.{◌≡◌, sym, ap, ◌∙◌}
+use mathlib.Core.Path.{◌≡◌, sym, ap}
 use mathlib.Core.Logic.{◌⊎◌, inl, inr}
 use mathlib.Core.List.{List}
 use Prim.Native.Nat.{ℕ, ◌+◌, ◌*◌, ◌/◌, ◌%◌, ◌≤◌}
@@ -12,14 +12,15 @@ use Rattle.notation.specs.Texts.{TextSays, TextRefused}
 use Rattle.notation.proofs.Texts.{one_answer}
 use Rattle.notation.proofs.Regular.{all_regular}
 use Rattle.notation.proofs.Places.{refusals_bounded}
-use Rattle.reader.specs.declared.Answer.{Answer}
-use Rattle.reader.specs.declared.Answer.TheVariants.{Read, Refused}
-use Rattle.reader.specs.declared.Reading.{Reading}
+use Rattle.std.specs.Prelude.{Ok, Err}
+use Rattle.refusals.specs.declared.Refusal.{Refusal}
+use Rattle.refusals.specs.Reasons.{number_of}
+use Rattle.reader.specs.declared.Code.{Code}
 use Rattle.reader.specs.Read.{reading_of}
 use Rattle.reader.specs.Answers as R
+use Rattle.reader.specs.Promises.{Counted}
 use Rattle.reader.proofs.Promised.{model_called, refusal_called, read_answers}
 use Rattle.acceptance.specs.working.Test.{test_of}
-use Rattle.acceptance.proofs.TestTexts.{read_into, read_sound}
 use Rattle.acceptance.proofs.Places.{answers_bounded}
 use Rattle.packing.specs.Packed.{packed, most_above}
 use Rattle.packing.proofs.Packed.{low-back, above_back}
@@ -61,16 +62,16 @@ read_numbers_tell text =
       refusal = λ n i r. ap read_number (refusal_called text n i r);
     }
 
-module _ (text : List ℕ) (r : Reading) (e : r ≡ reading_of text) where
-  pub near : (n i : ℕ) → Refused n i ≡ r.answer → i ≤ most_above
-  unfolding R.wording_in
-  near n i h =
-      let b = refusals_bounded text n i (((read_answers text).refuses n i).0 (sym (ap R.wording_of e) ∙ ap (λ (a : Answer). R.wording_in a r.code) (sym h))) in
-      omega (arith, b.near)
+-- What `read` returns is within these bounds.
+pub near : (text : List ℕ) (r : Refusal) → Err r ≡ reading_of text → r.place ≤ most_above
+unfolding R.wording_of
+near text r h =
+    let b = refusals_bounded text (number_of r.reason) r.place (((read_answers text).refuses (number_of r.reason) r.place).0 (sym (ap R.wording_of h))) in
+    omega (arith, b.near)
 
-  -- The number of an answer of the reader.
-  pub answered : (a : Answer) (n : ℕ) → a ≡ r.answer → n ≡ read_number (R.wording_in a r.code) → n ≡ read_number (reading_to text)
-  answered a n h f = f ∙ ap (λ (x : Answer). read_number (R.wording_in x r.code)) h ∙ ap (λ (x : Reading). read_number (R.wording_of x)) e
-
-  pub counts_fit : Read ≡ r.answer → (r.code.shared + r.code.row ≤ 12) × (r.code.commands ≤ 16)
-  counts_fit h = let s = read_sound text (read_into text r e) h in (s.few_bits, s.few_commands)
+pub counts_fit : (text : List ℕ) (c : Code) → Ok c ≡ reading_of text → (c.shared + c.row ≤ 12) × (c.commands ≤ 16)
+unfolding R.wording_of
+counts_fit text c h = go (((read_answers text).reads c.shared c.row c.commands).0 (sym (ap R.wording_of h)))
+  where
+    go : ((m : Model) × TextSays text m × Counted m c.shared c.row c.commands) → (c.shared + c.row ≤ 12) × (c.commands ≤ 16)
+    go (m, s, e) = let g = all_regular text m s in (omega (arith, e.0, e.1, g.few_names), omega (arith, e.2, g.few_commands))

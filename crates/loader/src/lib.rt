@@ -10,9 +10,9 @@ ghost use Rattle.loader.specs.Numbers.{model_number, read_number};
 ghost use Rattle.loader.specs.Promises.{reading_to};
 
 use acceptance::test;
-use packing::outcomes::outcome_number;
-use packing::pack;
-use reader::{Answer, read};
+use packing::outcomes::tested_number;
+use packing::{pack, refusal_number};
+use reader::read;
 
 // The answer to a text and a sheet.
 #[unsafe(no_mangle)]
@@ -20,7 +20,7 @@ pub extern "C" fn nutseason_test(text: &[u8], sheet: &[u8]) -> u64
     ensures value { result ≡ test_number (answer_to text.now sheet.now) }
     ensures bytes { AreBytes sheet.now }
 {
-    outcome_number(test(text, sheet))
+    tested_number(test(text, sheet))
 }
 
 // The number of a model with these counts.
@@ -33,16 +33,12 @@ fn model_number(shared: usize, row: usize, commands: usize) -> u64
 
 // The counts of the model that a text says, or the text's first refusal.
 #[unsafe(no_mangle)]
+#[tactic(auto, unfolding(crate::specs::Numbers::read_number, reader::specs::Answers::wording_of))]
 pub extern "C" fn nutseason_read(text: &[u8]) -> u64
     ensures { result ≡ read_number (reading_to text.now) }
 {
-    let reading = read(text);
-    let answer = reading.answer;
-    match answer {
-        Answer::Refused(number, place) => pack(number, place),
-        Answer::Read => {
-            let code = reading.code;
-            model_number(code.shared, code.row, code.commands)
-        }
+    match read(text) {
+        Ok(code) => model_number(code.shared, code.row, code.commands),
+        Err(refusal) => refusal_number(refusal),
     }
 }

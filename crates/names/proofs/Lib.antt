@@ -1,3 +1,3 @@
--- Laws that the proofs of the functions cite, and what the reader's array tells of a command's name.
-pub mod NameParts
+-- What the flat form that was read tells of a text's tree, and the reader's array of a command's name.
+pub mod CodesRead
 pub mod NameArrays

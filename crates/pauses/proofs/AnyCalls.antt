@@ -22,13 +22,15 @@ use Rattle.notation.proofs.Booleans.{and_split, and_join}
 use Rattle.notation.proofs.Places.{refusals_bounded}
 use Rattle.notation.proofs.Regular.{all_regular}
 use Rattle.notation.proofs.Texts.{refused-answer, one_answer, answers_recased}
-use Rattle.reader.specs.Read.{reading_in, reading_of}
+use Rattle.std.specs.Prelude.{Ok}
+use Rattle.refusals.specs.Reasons.{number_of, reason_of}
 use Rattle.evaluation.proofs.Powers.{pow_small}
 use Rattle.meaning.specs.Evidence.{Verdict, safe_by, void_by, unsafe_by, evidence_of}
 use Rattle.meaning.specs.OneRow.{state_count}
 use Rattle.sheets.specs.Sheets.{System, size, sheet_room, system_of, little, record_bytes, header_bytes, sheet_bytes}
 use Rattle.sheets.specs.working.FlatSystem.{system_in}
 use Rattle.acceptance.specs.working.Test.{plan_of}
+use Rattle.reader.specs.Read.{reading_in, code_in, read_code}
 use Rattle.exploration.specs.Pause.{Pause}
 use Rattle.exploration.specs.working.Transitions.{Transitions, Lawful, moves}
 use Rattle.exploration.specs.working.Exploring.{Progress, broke, through}
@@ -50,7 +52,7 @@ use Rattle.verdicts.specs.Answers as F
 use Rattle.verdicts.specs.Left.{Left, zeroed}
 use Rattle.verdicts.specs.Promises.{Room, answer_of, SearchRefused}
 use Rattle.verdicts.specs.working.Searching.{roomy, verdict_of, left_with, left_alone, found_by}
-use Rattle.verdicts.proofs.SearchTells.{searched_said}
+use Rattle.verdicts.proofs.SearchTells.{searched_said, no_room, of_text}
 use Rattle.pauses.specs.Answers.{paused}
 use Rattle.pauses.specs.Held.{Held}
 use Rattle.pauses.specs.Promises.{TableRoom, HeldRefused, AnyHeld, AnyLeft, AnyTells, RefusedFirst, Bounded, FinishBounded, AllBounded, PausesBounded, PausedWithoutCase}
@@ -76,13 +78,13 @@ abbrev length_in : F.Wording → ℕ
 length_in (F.verdict s n t) = n
 length_in (F.returned n i) = 0
 
-refused_left : (n i : ℕ) (first second sheet : List ℕ) → SearchRefused n i first second sheet (left_alone n i first second sheet)
+refused_left : (n i : ℕ) → number_of (reason_of n) ≡ n → (first second sheet : List ℕ) → SearchRefused n i first second sheet (left_alone n i first second sheet)
 unfolding F.wording_of
-refused_left n i first second sheet = record { answered = refl; first_kept = refl; second_kept = refl; sheet_kept = refl }
+refused_left n i e first second sheet = record { answered = ap (λ k. F.returned k i) e; first_kept = refl; second_kept = refl; sheet_kept = refl }
 
 -- The flat form by the answer to a text.
 abbrev flat_by : N.Outcome → System
-flat_by o = system_in (reading_in o).code.ops (plan_of (reading_in o).code)
+flat_by o = system_in (code_in (reading_in o)).ops (plan_of (code_in (reading_in o)))
 
 -- Over the flat form of a text's model.
 module _ (text : List ℕ) (m : Model) (says : TextSays text m) where
@@ -96,13 +98,13 @@ module _ (text : List ℕ) (m : Model) (says : TextSays text m) where
   flat = flat_says text m says
 
   pub law : Lawful T
-  law = code_lawful (reading_of text).code.ops (plan_of (reading_of text).code)
+  law = code_lawful (read_code text).ops (plan_of (read_code text))
 
   pub few-states : size M ≤ 4096
-  few-states = let plan = plan_of (reading_of text).code in pow_small plan.bits (2 ^ plan.bits) flat.sound.few_bits refl
+  few-states = let plan = plan_of (read_code text) in pow_small plan.bits (2 ^ plan.bits) flat.sound.few_bits refl
 
   pub few-moves : length (moves T) ≤ 4096
-  few-moves = moves-few (reading_of text).code.ops (plan_of (reading_of text).code) flat.sound
+  few-moves = moves-few (read_code text).ops (plan_of (read_code text)) flat.sound
 
   pub sized : size M ≡ state_count m
   sized = flat.agrees.size
@@ -298,7 +300,7 @@ module _ (text : List ℕ) (m : Model) (says : TextSays text m) where
         go false e = refl
 
   -- The bytes of a verdict's sheet, and the answer that goes with it.
-  verdict-length : (v : Verdict) (l t : ℕ) (s : String) (n : ℕ) (k : Option ℕ) → F.wording_of (verdict_of v l t) ≡ F.verdict s n k → n ≡ l
+  verdict-length : (v : Verdict) (l t : ℕ) (s : String) (n : ℕ) (k : Option ℕ) → F.wording_of (Ok (verdict_of v l t)) ≡ F.verdict s n k → n ≡ l
   unfolding verdict_of F.wording_of
   verdict-length (safe_by map) l t s n k e = sym (ap length_in e)
   verdict-length (void_by map) l t s n k e = sym (ap length_in e)
@@ -316,7 +318,7 @@ module _ (text : List ℕ) (m : Model) (says : TextSays text m) where
         second_cleared = ap (λ (n : ℕ). zeroed n second) sized;
       }
 
-  verdict-few : (v : Verdict) (l t : ℕ) → l ≤ 7 + 10 * 4096 → t ≤ 67108864 → FinishBounded (F.wording_of (verdict_of v l t))
+  verdict-few : (v : Verdict) (l t : ℕ) → l ≤ 7 + 10 * 4096 → t ≤ 67108864 → FinishBounded (F.wording_of (Ok (verdict_of v l t)))
   unfolding verdict_of F.wording_of
   verdict-few (safe_by map) l t h k = (h, k)
   verdict-few (void_by map) l t h k = (h, omega arith)
@@ -346,7 +348,7 @@ module _ (text : List ℕ) (m : Model) (says : TextSays text m) where
       let B = finished_by p first second sheet (r.0, r.1) in
       subst (λ (L : Left). FinishBounded (answer_of L)) (sym B.same)
       (verdict-few B.verdict (length (sheet_bytes M (evidence_of B.verdict))) B.trials (le_trans B.short few-room) B.few)
-  bounded_finish p first second sheet false e = (omega arith, omega arith, omega arith)
+  bounded_finish p first second sheet false e = (omega (arith, no_room), omega (arith, no_room), omega arith)
 
 pub any_tells : AnyTells
 any_tells text m says p k first second sheet =
@@ -361,14 +363,11 @@ any_tells text m says p k first second sheet =
           let B = finished_by text m says p first second sheet (r.0, r.1) in
           subst (AnyLeft m first second sheet) (sym (finish-there text m says p first second sheet r ∙ B.same))
           (left_any text m says B.verdict B.trials first second sheet B.short);
-      not_finished = λ h. subst (SearchRefused 8 0 first second sheet) (sym (finish_missing text m says p first second sheet h)) (left_alone_lem 8 0);
+      not_finished = λ h. subst (SearchRefused 8 0 first second sheet) (sym (finish_missing text m says p first second sheet h)) (refused_left 8 0 no_room first second sheet);
     }
   where
     alone : (n i : ℕ) → HeldRefused n i first second (held_alone n i first second)
     alone n i = record { answered = refl; first_kept = refl; second_kept = refl }
-
-    left_alone_lem : (n i : ℕ) → SearchRefused n i first second sheet (left_alone n i first second sheet)
-    left_alone_lem n i = refused_left n i first second sheet
 
 -- A text that is refused.
 module _ (text : List ℕ) (n i : ℕ) (e : answer text ≡ N.refused n i) where
@@ -390,7 +389,7 @@ refused-first text n i r p k first second sheet =
     record {
       opened = subst (HeldRefused n i first second) (sym (open-refused text n i e first second)) (record { answered = refl; first_kept = refl; second_kept = refl });
       portion = subst (HeldRefused n i first second) (sym (portion-refused text n i e p k first second)) (record { answered = refl; first_kept = refl; second_kept = refl });
-      finished = subst (SearchRefused n i first second sheet) (sym (finish-refused text n i e p first second sheet)) (refused_left n i first second sheet);
+      finished = subst (SearchRefused n i first second sheet) (sym (finish-refused text n i e p first second sheet)) (refused_left n i (of_text r) first second sheet);
     }
 
 pub pauses_bounded : PausesBounded
@@ -411,7 +410,8 @@ pauses_bounded text p k first second sheet = go (one_answer text).some
         record {
           opened = subst (λ (H : Held). Bounded H.answer) (sym (open-refused text n i e first second)) b;
           portion = subst (λ (H : Held). Bounded H.answer) (sym (portion-refused text n i e p k first second)) b;
-          finished = subst (λ (L : Left). FinishBounded (answer_of L)) (sym (finish-refused text n i e p first second sheet)) b;
+          finished = subst (λ (L : Left). FinishBounded (answer_of L)) (sym (finish-refused text n i e p first second sheet))
+              (omega (arith, of_text r, B.low), omega (arith, of_text r, B.high), B.near);
         }
 
 -- Texts with the same answer have the same calls.

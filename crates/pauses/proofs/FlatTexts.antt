@@ -8,6 +8,7 @@ use lib.ListN.{length}
 use lib.Seq.{sets}
 use Rattle.notation.specs.Tokens.{Name}
 use Rattle.notation.specs.Notation.{Tree}
+use Rattle.std.specs.Prelude.{Ok}
 use Rattle.notation.specs.Model.{Model}
 use Rattle.notation.specs.Layout.{layout_of}
 use Rattle.notation.specs.Regular.{Regular}
@@ -16,7 +17,7 @@ use Rattle.notation.specs.working.Machine as N
 use Rattle.notation.specs.working.Answer.{answer}
 use Rattle.notation.proofs.Texts.{says-answer}
 use Rattle.reader.specs.declared.Code.{Code}
-use Rattle.reader.specs.Read.{filled, code_of, reading_in, reading_of}
+use Rattle.reader.specs.Read.{filled, code_of, code_in, reading_in, read_code}
 use Rattle.reader.proofs.ReadTexts.{read_regular}
 use Rattle.evaluation.specs.working.CodeSystem.{Sound}
 use Rattle.sheets.specs.Sheets.{System, size, system_of, header_bytes, sheet_bytes}
@@ -89,7 +90,7 @@ module _ (m : Model) (g : Regular m) (ns : List Name) where
   code-made = subst (λ (x : Verdict). Made m x (trial_count (transitions_of C))) found-same (trials-counted (transitions_of C) m code_agrees)
 
   abbrev leaving : Finding → List ℕ → List ℕ → List ℕ → List ℕ → Left
-  leaving f b q p o = record { answer = f; first = zeroed (size C) q; second = zeroed (size C) p; sheet = sets o 0 b }
+  leaving f b q p o = record { answer = Ok f; first = zeroed (size C) q; second = zeroed (size C) p; sheet = sets o 0 b }
 
   left_same : (q p o : List ℕ) → found_by C q p o ≡ found_by (system_of m) q p o
   left_same q p o =
@@ -109,10 +110,10 @@ module _ (m : Model) (g : Regular m) (ns : List Name) where
   flat_searchable = let f = flat m g ns in record { sound = f.sound; agrees = code_agrees; same = search-same }
 
 -- Of a text that says a tree.
-pub tree_searchable : (text : List ℕ) (x : Tree) → answer text ≡ N.read x → Searchable (reading_of text).code (model_of x)
+pub tree_searchable : (text : List ℕ) (x : Tree) → answer text ≡ N.read x → Searchable (read_code text) (model_of x)
 unfolding reading_in
 tree_searchable text x e =
-    let c : (reading_of text).code ≡ code_of (layout_of (model_of x)) (names_of x) = ap (λ (o : N.Outcome). (reading_in o).code) e in
+    let c : read_code text ≡ code_of (layout_of (model_of x)) (names_of x) = ap (λ (o : N.Outcome). code_in (reading_in o)) e in
     subst (λ (d : Code). Searchable d (model_of x)) (sym c) (flat_searchable (model_of x) (read_regular text x e) (names_of x))
 
 pub tree-search : (text : List ℕ) (x : Tree) → answer text ≡ N.read x → (q p o : List ℕ) → search_for (flat_of text) q p o ≡ search_of text q p o
@@ -123,7 +124,7 @@ tree-search text x e q p o = (tree_searchable text x e).same q p o ∙ sym (ap (
 pub record FlatSays (text : List ℕ) (m : Model) : Type 0 where
   pub tree : Tree
   pub read : answer text ≡ N.read tree
-  pub sound : Sound (plan_of (reading_of text).code)
+  pub sound : Sound (plan_of (read_code text))
   pub agrees : Agrees (transitions_of (flat_of text)) m
   pub same : (q p o : List ℕ) → search_for (flat_of text) q p o ≡ search_of text q p o
 

@@ -1,7 +1,7 @@
 -- What a portion does from one pause to the next, and what yes and no mean to whether a state has been met.
 -- Assumes nothing.
 use mathlib.Core.Path.{◌≡◌, refl, sym, ap, ◌∙◌, subst}
-use mathlib.Core.Bool.{Bool, true, false, cond, true≢false}
+use mathlib.Core.Bool.{Bool, true, false, true≢false}
 use mathlib.Core.Logic.{◌↔◌, ◌⊎◌, inl, inr, ⊎_elim}
 use mathlib.Core.List.{List}
 use Prim.Native.Nat.{ℕ, ◌+◌, ◌<◌, ◌≤◌}
@@ -23,7 +23,7 @@ use Rattle.exploration.proofs.Pauses.{Marked, fit_after, mark-stays}
 use Rattle.exploration.proofs.PortionEnds.{grown-further, most-further, least-further, further_none, further-ended}
 use Rattle.exploration.proofs.Portions.{further-further}
 use Rattle.questions.specs.Answers as Q
-use Rattle.questions.specs.declared.reply.Reply.TheVariants.{Yes, No}
+use Rattle.std.specs.Prelude.{Ok}
 use Rattle.pauses.specs.Promises.{Paused, HandsBack, PortionMeans, PortionsTell, MetMeans, MetTells, MetReaches, MetExactly, MetAtBreak, MetStays, met_reply}
 use Rattle.pauses.specs.Promises as P
 use Rattle.pauses.specs.working.Pausing.{flat_of, portion_of}
@@ -114,12 +114,12 @@ is_yes Q.yes = 1
 is_yes Q.no = 0
 is_yes (Q.told w) = 0
 
-yes-is : (b : Bool) → (Q.wording_of (cond b Yes No) ≡ Q.yes) ↔ (b ≡ true)
+yes-is : (b : Bool) → (Q.wording_of (Ok b) ≡ Q.yes) ↔ (b ≡ true)
 unfolding Q.wording_of
 yes-is true = (λ e. refl, λ e. refl)
 yes-is false = (λ e. let z : ◌≡◌ {A = ℕ} 0 1 = ap is_yes e in absurd (omega arith), λ e. absurd (true≢false (sym e)))
 
-no-is : (b : Bool) → (Q.wording_of (cond b Yes No) ≡ Q.no) ↔ (b ≡ false)
+no-is : (b : Bool) → (Q.wording_of (Ok b) ≡ Q.no) ↔ (b ≡ false)
 unfolding Q.wording_of
 no-is true = (λ e. let z : ◌≡◌ {A = ℕ} 1 0 = ap is_yes e in absurd (omega arith), λ e. absurd (true≢false e))
 no-is false = (λ e. refl, λ e. refl)
@@ -128,7 +128,7 @@ module _ (text : List ℕ) (m : Model) (says : TextSays text m) (h : ℕ) (a : P
   abbrev entry : ℕ
   entry = get_or a.second t 0
 
-  reply-is : met_reply text t a.first a.second ≡ Q.wording_of (cond (ltb 0 (get_or a.second t 0)) Yes No)
+  reply-is : met_reply text t a.first a.second ≡ Q.wording_of (Ok (ltb 0 (get_or a.second t 0)))
   reply-is = ap Q.wording_of (met_entry text m says t a.first a.second S.room l)
 
   abbrev x : Seen

@@ -1,5 +1,5 @@
 -- A record by value that is lent from a local: one walk for every function `fn f(player: Player, text: &[u8], sheet: &[u8]) -> Move { let mut lent = player; let answer = g(&mut lent, text, sheet); Move { player: lent, answer: answer } }`.
--- The walk knows of g only that it meets the contract of a record that is lent, `On move` of `Lent.antt`. So it holds of any key g and any `move`; a function's own proof is `by_value_as` at its own two.
+-- The walk knows of g only that it meets the contract of a record that is lent, `On move` of `Lent.antt`. So it holds of any key g and any `move`; a proof of such a function is `by_value_as` at its own two.
 -- The local is lent to g for a lifetime of the call, and comes back moved.
 -- Assumes nothing.
 use mathlib.Core.Path.{◌≡◌, refl, subst}
@@ -42,16 +42,16 @@ use denote.Triple.Walked.{says, Stays, stay_dropped, walk_of, Goes-dropped, ends
 use denote.Exit.{yes}
 use Rattle.sheets.specs.SheetTexts.{AreBytes}
 use Rattle.player.specs.declared.record.Player.{Player}
+use Rattle.std.specs.Prelude.{Result}
+use Rattle.conditions.specs.declared.outcome.Declined.{Declined}
 use Rattle.player.specs.declared.record.Answer.{Answer}
 use Rattle.player.specs.declared.record.Move.{Move}
--- the three types: P is Player, S what is said, Answer, and N what is new, Move
+-- P is Player, and N what is new, Move
 use Rattle.player.specs.contracts.record.Player as P
 use Rattle.player.proofs.record.Player.TheLaws as P'
-use Rattle.player.specs.contracts.record.Answer as S
-use Rattle.player.proofs.record.Answer.TheLaws as S'
 use Rattle.player.specs.contracts.record.Move as N
 use Rattle.player.proofs.record.Move.TheLaws as N'
-use Rattle.player.proofs.Lent.{Moves, On, OnOf}
+use Rattle.player.proofs.Lent.{answer_type, answer_row, answer_laws, answer_mir, Moves, On, OnOf}
 -- two functions of the kind, for their signatures alone: every other has the same
 use Rattle.player.specs.contracts.forward as on
 use Rattle.player.specs.contracts.values.forward_of as f
@@ -65,7 +65,7 @@ code_of g = record {
   givens = 0;
   params = 3;
   locals = local N'.mir value_local ∷ local P'.mir value_local ∷ local (slice_ty (ty_ref (named 0) imm (ty_int w8))) value_local ∷ local (slice_ty (ty_ref (named 1) imm (ty_int w8))) value_local
-      ∷ local P'.mir memory_slot ∷ local S'.mir value_local ∷ local (ty_ref erased mut (pointee (P.the_row).written)) value_local ∷ local P'.mir value_local ∷ [];
+      ∷ local P'.mir memory_slot ∷ local answer_mir value_local ∷ local (ty_ref erased mut (pointee (P.the_row).written)) value_local ∷ local P'.mir value_local ∷ [];
   body = seq (assign (place 4 []) (rv_opd (copy (place 1 []))))
       (seq (assign (place 6 []) (addr_of (place 4 [])))
       (seq (call g (copy (place 6 []) ∷ copy (place 2 []) ∷ copy (place 3 []) ∷ []) (place 5 []))
@@ -140,7 +140,7 @@ module _ {M : Type 1} {𝓤 : Ura M} (𝓛 : Logic 𝓤) (moves : Moves) (κ₁ 
       qed 𝓛 ((‵ (flft (ν ∷ []) full_share) ⊛ raw Tokens) ∷ ‵ ((MutRef (named 0) (ν ∷ []) P.the_row).own_val (lent_at l δ) (vptr l 0 ∷ [])) ∷ ‵ (owns (ShrSlice (named 0) κ₁ u8 ∷ ShrSlice (named 1) κ₂ u8 ∷ []) (text, (sheet, tt)) (s₁ ∷ [], (s₂ ∷ [], tt))) ∷ []) ∵
       move ! (1 ∷ 2 ∷ []) $ fjoin ! $ move ! (1 ∷ 0 ∷ []) $ join ! $ frame ! $ done !
 
-  made : Is P.the_row m.player (P'.lowered m.player ∷ []) → Is S.the_row m.answer (EL.vals S.the_type S'.the_laws m.answer) → Is N.the_row m (mach ∷ [])
+  made : Is P.the_row m.player (P'.lowered m.player ∷ []) → Is answer_row m.answer (EL.vals answer_type answer_laws m.answer) → Is N.the_row m (mach ∷ [])
   made is-p is-s = LL.owes N.the_type N'.the_laws m (is-p, (is-s, tt))
 
   module _ (𝓣 : Tables 𝓤 H) (g : Callee) (known : Triple 𝓤 (𝓣.C g) (OnOf 𝓛 moves)) (is-h : Is P.the_row h (P'.lowered h ∷ [])) (is₁ : Is (ShrSlice (named 0) κ₁ u8) text (s₁ ∷ [])) (is₂ : Is (ShrSlice (named 1) κ₂ u8) sheet (s₂ ∷ [])) where
@@ -158,13 +158,13 @@ module _ {M : Type 1} {𝓤 : Ura M} (𝓛 : Logic 𝓤) (moves : Moves) (κ₁ 
         move ! (19 ∷ []) $ fsplit ! $ drop ! $ move ! (3 ∷ 19 ∷ []) $ join ! $ move ! (0 ∷ 2 ∷ 1 ∷ []) $ use3 𝓛 (raw ((OnOf 𝓛 moves).pre (to l₄ ν δ))) (goes l₄ ν δ) $
         -- [what `forward` asks; the lender's part; _7; …; _6; …; _5; …; that _4 dies; _3; …; _2; …; _1; …; room for _0; …]
         calls_at ! (fm_of 𝓤 H 𝓛.laws 𝓣) (OnOf 𝓛 moves) known (to l₄ ν δ) (and_then ! (load ! (from ! (stop !)) (look ! 4 refl)) (and_then ! (load ! (from ! (stop !)) (look ! 11 refl)) (and_then ! (load ! (from ! (stop !)) (look ! 9 refl)) (no_more !)))) (λ v.
-        use1 𝓛 (later (some (λ (r : Answer). ((‵ (flft (ν ∷ []) full_share) ⊛ raw Tokens) ⊛ ‵ ((S.the_row).own_val r (v ∷ []))) ⊛ raw (ensured 𝓛 on.ended (On 𝓤 moves) (ν ∷ [], (κ₁, (κ₂, tt))) (lent_at l₄ δ, (text, (sheet, tt))) tt r)))) (id⊢ 𝓤 _) $ await ! tt $ pick ! (λ r.
+        use1 𝓛 (later (some (λ (r : Result Answer Declined). ((‵ (flft (ν ∷ []) full_share) ⊛ raw Tokens) ⊛ ‵ (answer_row.own_val r (v ∷ []))) ⊛ raw (ensured 𝓛 on.ended (On 𝓤 moves) (ν ∷ [], (κ₁, (κ₂, tt))) (lent_at l₄ δ, (text, (sheet, tt))) tt r)))) (id⊢ 𝓤 _) $ await ! tt $ pick ! (λ r.
         split ! $ move ! (1 ∷ []) $ use1 𝓛 (some (λ (ws : Player × (Unit {0} × (Unit {0} × Unit {0}))). ‵ (lasts on.ended (ν ∷ [], (κ₁, (κ₂, tt))) (lent_at l₄ δ, (text, (sheet, tt))) ws) ⊛ raw (fact 𝓤 ((ws.0 ≡ m.player) × (r ≡ m.answer) × AreBytes sheet.now)))) (id⊢ 𝓤 _) $ pick ! (λ ws.
         split ! $ move ! (1 ∷ []) $ heard ! ((ws.0 ≡ m.player) × (r ≡ m.answer) × AreBytes sheet.now) (λ e. fsplit ! $ fsplit ! $ move ! (1 ∷ []) $ drop ! $ rewrite ! 0 (λ (z : Player). ‵ (fres δ ((P.the_row).coded.code z))) e.0 refl $
         -- [what the record ended with; ..; the tokens and the result; the lender's part; the locals]
-        move ! (2 ∷ []) $ split ! $ move ! (1 ∷ []) $ rewrite ! 0 (λ (z : Answer). ‵ ((S.the_row).own_val z (v ∷ []))) e.1 refl $ peeks ! S.the_row (Is S.the_row) (shows 𝓛 S.the_row) m.answer (v ∷ []) (λ is. drop ! $
-        land ! (from ! (stop !)) (init ! 8 refl ((EL.lawful S.the_type S'.the_laws 𝓛 tt).typed m.answer _ is).0) $
-        rewrite ! 8 (λ (us : List Val). ‵ (fat full_share S'.mir l₅ 0 (only us))) (EL.tells S.the_type S'.the_laws m.answer _ is) refl $
+        move ! (2 ∷ []) $ split ! $ move ! (1 ∷ []) $ rewrite ! 0 (λ (z : Result Answer Declined). ‵ (answer_row.own_val z (v ∷ []))) e.1 refl $ peeks ! answer_row (Is answer_row) (shows 𝓛 answer_row) m.answer (v ∷ []) (λ is. drop ! $
+        land ! (from ! (stop !)) (init ! 8 refl ((EL.lawful answer_type answer_laws 𝓛 tt).typed m.answer _ is).0) $
+        rewrite ! 8 (λ (us : List Val). ‵ (fat full_share answer_mir l₅ 0 (only us))) (EL.tells answer_type answer_laws m.answer _ is) refl $
         -- the lifetime is ended, and the local comes back
         split ! $ lft_end ! tt $ move ! (0 ∷ 4 ∷ 2 ∷ []) $ use3 𝓛 (later (‵ ((mem P.the_row).own_at m.player l₄ 0))) (ref_back 𝓛 P.the_row (ν ∷ []) δ m.player l₄ 0) $ await ! tt $
         use1 𝓛 (‵ (fat full_share P'.mir l₄ 0 (P'.lowered m.player)) ⊛ ‵ ((P.the_row).own_val m.player (P'.lowered m.player ∷ []))) (lies_out 𝓛 m.player l₄) $ split ! $
@@ -172,10 +172,10 @@ module _ {M : Type 1} {𝓤 : Ura M} (𝓛 : Logic 𝓤) (moves : Moves) (κ₁ 
         keep ! (1 ∷ 3 ∷ 4 ∷ 5 ∷ 6 ∷ 7 ∷ 8 ∷ 0 ∷ 9 ∷ 10 ∷ 11 ∷ 12 ∷ 13 ∷ 14 ∷ 15 ∷ 16 ∷ 17 ∷ []) $
         -- [the tokens; local i at 15 - 2 i]
         assigns ! (of_opd ! (load ! (from ! (stop !)) (look ! 7 refl))) (from ! (stop !)) (init ! 1 refl ((LL.lawful P.the_type P'.the_laws 𝓛).typed m.player _ is-p).0) $
-        assigns ! (agg ! (and_then ! (load ! (from ! (stop !)) (look ! 1 refl)) (and_then ! (load ! (from ! (stop !)) (look ! 5 refl)) (no_more !)))) (from ! (stop !)) (init ! 15 refl ((LL.lawful N.the_type N'.the_laws 𝓛).typed m _ (made is-p (subst (Is S.the_row m.answer) (EL.tells S.the_type S'.the_laws m.answer _ is) is))).0) $
+        assigns ! (agg ! (and_then ! (load ! (from ! (stop !)) (look ! 1 refl)) (and_then ! (load ! (from ! (stop !)) (look ! 5 refl)) (no_more !)))) (from ! (stop !)) (init ! 15 refl ((LL.lawful N.the_type N'.the_laws 𝓛).typed m _ (made is-p (subst (Is answer_row m.answer) (EL.tells answer_type answer_laws m.answer _ is) is))).0) $
         returns ! (look ! 15 refl) $ forget ! 15 refl $ forget ! 13 refl $ forget ! 11 refl $ forget ! 9 refl $ forget ! 7 refl $ forget ! 5 refl $ forget ! 3 refl $ forget ! 1 refl $
         move ! (15 ∷ 16 ∷ []) $ free1 ! $ move ! (13 ∷ 14 ∷ []) $ free1 ! $ move ! (11 ∷ 12 ∷ []) $ free1 ! $ move ! (9 ∷ 10 ∷ []) $ free1 ! $ move ! (7 ∷ 8 ∷ []) $ free1 ! $ move ! (5 ∷ 6 ∷ []) $ free1 ! $ move ! (3 ∷ 4 ∷ []) $ free1 ! $ move ! (1 ∷ 2 ∷ []) $ free1 ! $ free0 ! $
-        by ! (exits (made is-p (subst (Is S.the_row m.answer) (EL.tells S.the_type S'.the_laws m.answer _ is) is)) e.2)))))))))))))))))
+        by ! (exits (made is-p (subst (Is answer_row m.answer) (EL.tells answer_type answer_laws m.answer _ is) is)) e.2)))))))))))))))))
 
 -- the function by value meets its contract, where the one that it lends to meets its own
 pub by_value : {M : Type 1} {𝓤 : Ura M} (𝓛 : Logic 𝓤) (moves : Moves) (𝓣 : Tables 𝓤 𝓛.H) (g : Callee) → Triple 𝓤 (𝓣.C g) (OnOf 𝓛 moves)

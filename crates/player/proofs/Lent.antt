@@ -1,5 +1,5 @@
--- A lent record that a move changes in place: one walk for every function `fn f(player: &mut Player, text: &[u8], sheet: &[u8]) -> Answer { let moved = g(text, sheet, *player); *player = moved.player; moved.answer }`.
--- The walk knows of g only that it meets `From move`: its result is `move text sheet player`. So it holds of any key g and any `move`; a function's own proof is `lent_as` at its own two.
+-- A lent record that a move changes in place: one walk for every function `fn f(player: &mut Player, text: &[u8], sheet: &[u8]) -> Result<Answer, Declined> { let moved = g(text, sheet, *player); *player = moved.player; moved.answer }`.
+-- The walk knows of g only that it meets `From move`: its result is `move text sheet player`. So it holds of any key g and any `move`; a proof of such a function is `lent_as` at its own two.
 -- Assumes nothing.
 use mathlib.Core.Path.{◌≡◌, refl, ap, subst}
 use Prim.Native.Nat.{ℕ}
@@ -7,7 +7,7 @@ use mathlib.Core.List.{[], ◌∷◌, List}
 use lib.ListN.{length}
 use seplogic.Ra.Ura.{Ura}
 use base.Fraction.{full_share}
-use mir.Syntax.{Callee, Fn, named, mut, imm, w8, ty_int, ty_ref, local, value_local, place, copy, deref, field, rv_opd, assign, seq, call, return}
+use mir.Syntax.{Callee, Fn, Ty, named, mut, imm, w8, ty_int, ty_ref, local, value_local, place, copy, deref, field, rv_opd, assign, seq, call, return}
 use mir.Val.{Val, vptr}
 use base.Logic.{SProp, ent, emp, via, fst∗, snd∗, ex_e, id⊢}
 use base.Fml.{GName, Lft, Share, ftrue, flft, fobs, fbor, fat}
@@ -19,41 +19,74 @@ use types.Run.{look, look_raw, init, store_raw, forget, stop, hop, fld, from, lo
 use types.Part.{whole, sub, look_in}
 use types.SemTy.{Body}
 use sound.WpLaws.{FmC, fm_of, WpFn-mono}
-use denote.RattleType.{owns}
+use denote.RattleType.{RattleType, owns}
 use denote.Laws.{Is, shows}
 use denote.Memory.{mem, pointee}
-use denote.Builtin.{u8}
+use denote.Builtin.{u8, SliceRefOf}
 use denote.Ref.{Bor, MutBor, MutRef, mut_vals, mut_Tells}
 use denote.Slice.{slice_val, slice_ty, ShrSlice, shr_slice_vals, shr_slice_Tells, shr_slice_Lawful}
-use denote.Signature.{plain, shr_slice_of}
+use denote.Signature.{Signature, plain, shr_slice_of}
 use denote.Steps.{only, opens, closes, owned, peeks, heard, nothing}
 use denote.Struct.Steps.{spelt}
 use denote.Struct.Laws as LL
+use denote.Enum.Declared.{Declared, variants}
+use denote.Enum.Enum.{Plainss}
 use denote.Enum.Laws as EL
 use denote.Triple.Statement.{Contract, Triple}
 use denote.Triple.Call.{calls_at}
 use denote.Triple.Entry.{on_entry}
 use denote.Triple.Spec.{Meets, triple_of}
 use denote.Triple.Walked.{says, Stays, stay_ref, stay_dropped, walk_of, Goes-ref, Goes-dropped, ends_at, walked, walk_Meets}
-use denote.Triple.Clauses.{Clauses, closing, ensured, lasts}
+use denote.Triple.Clauses.{Clauses, Ended, closing, ensured, lasts}
 use denote.Exit.{yes}
 use Rattle.sheets.specs.SheetTexts.{AreBytes}
 use Rattle.player.specs.declared.record.Player.{Player}
 use Rattle.player.specs.declared.record.Move.{Move}
--- the three types: P is Player, S what is said, Answer, and N what is new, Move
+-- the types: P is Player, A what a move answers, D what is told in its place, R the one or the other, and N what is new, Move
 use Rattle.player.specs.contracts.record.Player as P
 use Rattle.player.proofs.record.Player.TheLaws as P'
-use Rattle.player.specs.contracts.record.Answer as S
-use Rattle.player.proofs.record.Answer.TheLaws as S'
+use Rattle.player.specs.contracts.record.Answer as A
+use Rattle.player.proofs.record.Answer.TheLaws as A'
+use Rattle.conditions.specs.contracts.outcome.Declined as D
+use Rattle.conditions.proofs.outcome.Declined.TheLaws as D'
+use Rattle.std.specs.contracts.result.Result as R
+use Rattle.std.proofs.result.Result.TheLaws as R'
 use Rattle.player.specs.contracts.record.Move as N
 use Rattle.player.proofs.record.Move.TheLaws as N'
--- two functions of the kind, for their signatures alone: every other has the same
+-- a function of the kind, for its signature alone: every other has the same
 use Rattle.player.specs.contracts.forward as on
-use Rattle.player.specs.contracts.moves.forward_from as by_value
+
+-- an answer, or what is told in its place
+abbrev pub answer_type : Declared
+answer_type = R.the_type A.the_row D.the_row
+
+abbrev pub answer_row : RattleType
+answer_row = R.the_row A.the_row D.the_row
+
+abbrev pub answer_laws : EL.Laws answer_type
+answer_laws = R'.the_laws A.the_row D.the_row A'.the_row_laws D'.the_row_laws A'.the_told D'.the_told
+
+abbrev pub answer_mir : Ty
+answer_mir = (R'.lowers A.the_row D.the_row A'.the_row_laws D'.the_row_laws A'.the_told D'.the_told).mir
+
+abbrev pub answer_plain : Plainss (variants answer_type)
+answer_plain = R'.the_plain A.the_row D.the_row A'.the_row_plain D'.the_row_plain
 
 -- what a move does to a text, a sheet and a record
 abbrev pub Moves : Type 0
 Moves = List ℕ → List ℕ → Player → Move
+
+-- the signature of the function that is called, and that it keeps nothing
+abbrev pub by_value : Signature
+by_value = record {
+  lifetimes = 2;
+  outlives = [];
+  params = SliceRefOf (0 ∷ []) tt (plain (λ _. u8)) (λ _. tt) ∷ SliceRefOf (1 ∷ []) tt (plain (λ _. u8)) (λ _. tt) ∷ plain (λ _. P.the_row) ∷ [];
+  result = plain (λ _. N.the_row);
+}
+
+abbrev pub by_value_ended : Ended
+by_value_ended = record { signature = by_value; kept = (yes, (yes, (yes, tt))) }
 
 -- the code, at the key of the function that it calls
 abbrev pub code_of : Callee → Fn
@@ -63,7 +96,7 @@ code_of g = record {
   ty_params = [];
   givens = 0;
   params = 3;
-  locals = local S'.mir value_local ∷ local (ty_ref (named 0) mut (pointee (P.the_row).written)) value_local ∷ local (slice_ty (ty_ref (named 1) imm (ty_int w8))) value_local
+  locals = local answer_mir value_local ∷ local (ty_ref (named 0) mut (pointee (P.the_row).written)) value_local ∷ local (slice_ty (ty_ref (named 1) imm (ty_int w8))) value_local
       ∷ local (slice_ty (ty_ref (named 2) imm (ty_int w8))) value_local ∷ local N'.mir value_local ∷ local P'.mir value_local ∷ local P'.mir value_local ∷ [];
   body = seq (assign (place 5 []) (rv_opd (copy (place 1 (deref P'.mir ∷ [])))))
       (seq (call g (copy (place 2 []) ∷ copy (place 3 []) ∷ copy (place 5 []) ∷ []) (place 4 []))
@@ -79,20 +112,20 @@ stayed = (stay_ref (0 ∷ []) tt (plain (λ _. P.the_row)), (stay_dropped (shr_s
 
 module _ {M : Type 1} (𝓤 : Ura M) (moves : Moves) where
   -- the contract of the function by value, and of the one on a record that is lent
-  abbrev pub From : Clauses 𝓤 by_value.ended
+  abbrev pub From : Clauses 𝓤 by_value_ended
   From κs a = record { ghost = Unit {0}; requires = λ _. emp 𝓤; ensures = λ _ r _. fact 𝓤 ((r ≡ moves a.0.now a.1.0.now a.1.1.0) × AreBytes a.1.0.now) }
 
   abbrev pub On : Clauses 𝓤 on.ended
   On κs a = record { ghost = Unit {0}; requires = λ _. emp 𝓤; ensures = λ _ r e. fact 𝓤 ((e.0.now ≡ (moves a.1.0.now a.1.1.0.now a.0.now).player) × (r ≡ (moves a.1.0.now a.1.1.0.now a.0.now).answer) × AreBytes a.1.1.0.now) }
 
 abbrev pub FromOf : {M : Type 1} {𝓤 : Ura M} (𝓛 : Logic 𝓤) (moves : Moves) → Contract 𝓤
-FromOf {𝓤 = 𝓤} 𝓛 moves = triple_of 𝓛 by_value.signature (closing 𝓛 by_value.ended (From 𝓤 moves))
+FromOf {𝓤 = 𝓤} 𝓛 moves = triple_of 𝓛 by_value (closing 𝓛 by_value_ended (From 𝓤 moves))
 
 abbrev pub OnOf : {M : Type 1} {𝓤 : Ura M} (𝓛 : Logic 𝓤) (moves : Moves) → Contract 𝓤
 OnOf {𝓤 = 𝓤} 𝓛 moves = triple_of 𝓛 on.signature (closing 𝓛 on.ended (On 𝓤 moves))
 
 -- what whoever holds a `Move` knows of its two fields
-parts : (r : Move) {v : Val} → Is N.the_row r (v ∷ []) → Is P.the_row r.player (LL.vals P.the_type P'.the_laws r.player) × (Is S.the_row r.answer (EL.vals S.the_type S'.the_laws r.answer) × Unit {0})
+parts : (r : Move) {v : Val} → Is N.the_row r (v ∷ []) → Is P.the_row r.player (LL.vals P.the_type P'.the_laws r.player) × (Is answer_row r.answer (EL.vals answer_type answer_laws r.answer) × Unit {0})
 parts r is = LL.owed N.the_type N'.the_laws r _ is
 
 module _ {M : Type 1} {𝓤 : Ura M} (𝓛 : Logic 𝓤) (moves : Moves) (κ κ₁ κ₂ : Lft) (q q₁ q₂ : Share) (b o : ℕ) (γ : GName) (h : Player) (text sheet : Bor (List ℕ)) where
@@ -128,17 +161,17 @@ module _ {M : Type 1} {𝓤 : Ura M} (𝓛 : Logic 𝓤) (moves : Moves) (κ κ�
   Known r = (r ≡ moves text.now sheet.now h) × AreBytes sheet.now
 
   -- of the callee's `ensured`, the clause alone
-  said : (r : Move) → ent 𝓤 (ensured 𝓛 by_value.ended (From 𝓤 moves) (κ₁, (κ₂, tt)) (text, (sheet, (h, tt))) tt r) (fact 𝓤 (Known r))
-  said r = ex_e 𝓤 _ (λ ws. snd∗ 𝓤 (sem 𝓛 (lasts by_value.ended (κ₁, (κ₂, tt)) (text, (sheet, (h, tt))) ws)) (fact 𝓤 (Known r)))
+  said : (r : Move) → ent 𝓤 (ensured 𝓛 by_value_ended (From 𝓤 moves) (κ₁, (κ₂, tt)) (text, (sheet, (h, tt))) tt r) (fact 𝓤 (Known r))
+  said r = ex_e 𝓤 _ (λ ws. snd∗ 𝓤 (sem 𝓛 (lasts by_value_ended (κ₁, (κ₂, tt)) (text, (sheet, (h, tt))) ws)) (fact 𝓤 (Known r)))
 
-  exits : (r : Move) → Is S.the_row r.answer (EL.vals S.the_type S'.the_laws r.answer) → Known r
-      → ent 𝓤 (⋆ 𝓛 (‵ (fobs γ ((P.the_row).coded.code r.player)) ∷ ‵ (fbor κ (Body (mem P.the_row) b o γ)) ∷ ‵ (flft κ q) ∷ (‵ (flft κ₁ q₁) ⊛ ‵ (flft κ₂ q₂) ⊛ ‵ ftrue) ∷ [])) (Post (EL.val S.the_type S'.the_laws r.answer))
+  exits : (r : Move) → Is answer_row r.answer (EL.vals answer_type answer_laws r.answer) → Known r
+      → ent 𝓤 (⋆ 𝓛 (‵ (fobs γ ((P.the_row).coded.code r.player)) ∷ ‵ (fbor κ (Body (mem P.the_row) b o γ)) ∷ ‵ (flft κ q) ∷ (‵ (flft κ₁ q₁) ⊛ ‵ (flft κ₂ q₂) ⊛ ‵ ftrue) ∷ [])) (Post (EL.val answer_type answer_laws r.answer))
   exits r is e =
       qed 𝓛 (‵ (fobs γ ((P.the_row).coded.code r.player)) ∷ ‵ (fbor κ (Body (mem P.the_row) b o γ)) ∷ ‵ (flft κ q) ∷ (‵ (flft κ₁ q₁) ⊛ ‵ (flft κ₂ q₂) ⊛ ‵ ftrue) ∷ []) ∵
-      suffices ! _ (ends_at 𝓛 on.ended stayed (On 𝓤 moves) (((κ, (κ₁, (κ₂, tt))), (q, (q₁, (q₂, tt))), tt, x, at), tt) (EL.val S.the_type S'.the_laws r.answer) r.answer (r.player, (tt, (tt, tt))) (tt, (tt, (tt, tt)))) $
+      suffices ! _ (ends_at 𝓛 on.ended stayed (On 𝓤 moves) (((κ, (κ₁, (κ₂, tt))), (q, (q₁, (q₂, tt))), tt, x, at), tt) (EL.val answer_type answer_laws r.answer) r.answer (r.player, (tt, (tt, tt))) (tt, (tt, (tt, tt)))) $
       says ! (ap (λ (m : Move). m.player) e.0, ap (λ (m : Move). m.answer) e.0, e.1) $ move ! (2 ∷ 3 ∷ []) $ join ! $ frame ! $
       feq_i ! (List Val) (vptr b o ∷ []) (vptr b o ∷ []) refl $ fjoin3 ! $ nothing ! $ nothing ! $ fjoin ! $ nothing ! $ fjoin ! $ move ! (1 ∷ 0 ∷ []) $ fjoin ! $ frame ! $
-      owned ! S.the_row (Is S.the_row) (EL.makes S.the_type S'.the_plain 𝓛) r.answer _ is $ done !
+      owned ! answer_row (Is answer_row) (EL.makes answer_type answer_plain 𝓛) r.answer _ is $ done !
 
   module _ (C : Calls 𝓤 H) (Λ : Loops 𝓤 H) (fm : FmC 𝓤 H 𝓛.laws C) (g : Callee) (known : Triple 𝓤 (C g) (FromOf 𝓛 moves)) where
     walk : Is (ShrSlice (named 1) κ₁ u8) text (s₁ ∷ []) → Is (ShrSlice (named 2) κ₂ u8) sheet (s₂ ∷ []) → ent 𝓤 (on_entry 𝓛 on.signature (κ, (κ₁, (κ₂, tt))) (q, (q₁, (q₂, tt))) x at) (WpFn 𝓤 H C Λ (code_of g) (vptr b o ∷ s₁ ∷ s₂ ∷ []) Post)
@@ -155,7 +188,7 @@ module _ {M : Type 1} {𝓤 : Ura M} (𝓛 : Logic 𝓤) (moves : Moves) (κ κ�
         move ! (4 ∷ 5 ∷ []) $ use2 𝓛 (raw ((FromOf 𝓛 moves).pre to)) (goes was) $
         -- [what the callee asks; the record's cell; the open borrow; obs; auth; _6; …; _5; …; _4; …; _3; …; _2; …; _1; …; room for _0; …]
         calls_at ! fm (FromOf 𝓛 moves) known to (and_then ! (load ! (from ! (stop !)) (look ! 13 refl)) (and_then ! (load ! (from ! (stop !)) (look ! 11 refl)) (and_then ! (load ! (from ! (stop !)) (look ! 7 refl)) (no_more !)))) (λ v.
-        use1 𝓛 (later (some (λ (r : Move). ((‵ (flft κ₁ q₁) ⊛ ‵ (flft κ₂ q₂) ⊛ ‵ ftrue) ⊛ ‵ ((N.the_row).own_val r (v ∷ []))) ⊛ raw (ensured 𝓛 by_value.ended (From 𝓤 moves) (κ₁, (κ₂, tt)) (text, (sheet, (h, tt))) tt r)))) (id⊢ 𝓤 _) $ await ! tt $ pick ! (λ r.
+        use1 𝓛 (later (some (λ (r : Move). ((‵ (flft κ₁ q₁) ⊛ ‵ (flft κ₂ q₂) ⊛ ‵ ftrue) ⊛ ‵ ((N.the_row).own_val r (v ∷ []))) ⊛ raw (ensured 𝓛 by_value_ended (From 𝓤 moves) (κ₁, (κ₂, tt)) (text, (sheet, (h, tt))) tt r)))) (id⊢ 𝓤 _) $ await ! tt $ pick ! (λ r.
         split ! $ move ! (1 ∷ []) $ use1 𝓛 (raw (fact 𝓤 (Known r))) (said r) $ heard ! (Known r) (λ e. split ! $ move ! (1 ∷ []) $
         peeks ! N.the_row (Is N.the_row) (shows 𝓛 N.the_row) r (v ∷ []) (λ is. drop ! $
         -- [the slices' tokens; the record's cell; the open borrow; obs; auth; room for _6; …; _5; …; room for _4; …; _3; …; _2; …; _1; …; room for _0; …]: the result lands, and its machine value is written out
@@ -163,7 +196,7 @@ module _ {M : Type 1} {𝓤 : Ura M} (𝓛 : Logic 𝓤) (moves : Moves) (κ κ�
         rewrite ! 9 (λ (us : List Val). ‵ (fat full_share N'.mir l₄ 0 (only us))) (LL.tells N.the_type N'.the_laws r _ is) refl $
         assigns ! (of_opd ! (load ! (from ! (fld ! refl (stop !))) (look_in ! 9 (sub ! 0 refl (whole !))))) (from ! (stop !)) (init ! 5 refl ((LL.lawful P.the_type P'.the_laws 𝓛).typed r.player _ (parts r is).0).0) $
         assigns ! (of_opd ! (load ! (from ! (stop !)) (look ! 5 refl))) (from ! (hop ! (look ! 15 refl) (stop !))) (store_raw ! 1 refl ((LL.lawful P.the_type P'.the_laws 𝓛).typed r.player _ (parts r is).0).0) $
-        assigns ! (of_opd ! (load ! (from ! (fld ! refl (stop !))) (look_in ! 9 (sub ! 1 refl (whole !))))) (from ! (stop !)) (init ! 17 refl ((EL.lawful S.the_type S'.the_laws 𝓛 tt).typed r.answer _ (parts r is).1.0).0) $
+        assigns ! (of_opd ! (load ! (from ! (fld ! refl (stop !))) (look_in ! 9 (sub ! 1 refl (whole !))))) (from ! (stop !)) (init ! 17 refl ((EL.lawful answer_type answer_laws 𝓛 tt).typed r.answer _ (parts r is).1.0).0) $
         move ! (1 ∷ 2 ∷ 3 ∷ 4 ∷ []) $ owned ! P.the_row (Is P.the_row) (LL.makes P.the_type P'.the_plain 𝓛) r.player _ (parts r is).0 $ move ! (1 ∷ 0 ∷ []) $ closes ! tt P.the_row r.player (P'.lowered r.player ∷ []) b o $
         -- [obs; the borrow; the token; the slices' tokens; _6; …; _5; …; _4; …; _3; …; _2; …; _1; …; _0; …]
         returns ! (look ! 16 refl) $ forget ! 4 refl $ forget ! 6 refl $ forget ! 8 refl $ forget ! 10 refl $ forget ! 12 refl $ forget ! 14 refl $ forget ! 16 refl $

@@ -1,65 +1,62 @@
 -- The definitions of opening and of moves, branch by branch.
 -- Assumes nothing.
 use mathlib.Core.Path.{◌≡◌, refl, sym, ap, ◌∙◌, subst}
-use mathlib.Core.Bool.{Bool, true, false}
+use mathlib.Core.Bool.{Bool, true, false, not, ◌&&◌}
 use mathlib.Core.List.{List}
-use mathlib.Core.Option.{Option, none, some}
 use Prim.Native.Nat.{ℕ, ◌+◌, ◌-◌, ◌≤◌, ◌<◌}
-use borrow.Author.Tests.{eq-eqb, ne_eqb, lt-ltb, le-ltb, le-leb, lt-leb}
+use lib.Dec.{eqb}
+use borrow.Author.Tests.{eq-eqb, ne_eqb, lt-ltb, le-ltb, le-leb, lt-leb, eqb-true, eqb-false, not-true, not-false}
+use Rattle.std.specs.Prelude.{Option, Some, None, Ok, Err}
 use Rattle.notation.specs.working.Machine as N
 use Rattle.notation.specs.working.Answer.{answer}
-use Rattle.conditions.specs.declared.outcome.Outcome.{Outcome}
+use Rattle.conditions.specs.Outcomes.{declined}
+use Rattle.conditions.specs.declared.outcome.Declined.{Declined}
 use Rattle.acceptance.specs.working.Test.{test_in, test_of}
 use Rattle.player.specs.Places.{leads}
 use Rattle.player.specs.declared.record.Player.{Player}
 use Rattle.player.specs.declared.record.Direction.{Direction}
-use Rattle.player.specs.declared.record.Direction.TheVariants.{Forward, Back, Beginning}
+use Rattle.player.specs.declared.record.Direction.TheVariants.{Forward, Back}
 use Rattle.player.specs.declared.record.Answer.TheVariants as A
 use Rattle.player.specs.declared.record.Move.{Move}
-use Rattle.player.specs.declared.record.Opened.TheVariants as O
-use Rattle.traces.proofs.TracesPassed.{judged_so}
-use Rattle.traces.specs.working.Passing.{trace_passed, last_place, header}
+use Rattle.traces.proofs.TracesPassed.{steps-passed, steps-declined}
+use Rattle.traces.specs.working.Passing.{trace_passed, last_place, header, passed_steps_of}
 use Rattle.player.specs.working.Playing.{record_at, stays, led_to, move_in, move_after, move_for, move_of, open_after, open_for, open_of}
 
 -- Where a move leads.
 module _ (d : Direction) (n k : ℕ) where
-  pub onward : d ≡ Forward → k < n → leads d n k ≡ some (k + 1)
+  pub onward : d ≡ Forward → k < n → leads d n k ≡ Some (k + 1)
   unfolding leads
   onward e h = rw (e, lt-ltb _ _ h)
 
-  pub last-place : d ≡ Forward → n ≤ k → leads d n k ≡ none
+  pub last-place : d ≡ Forward → n ≤ k → leads d n k ≡ None
   unfolding leads
   last-place e h = rw (e, le-ltb _ _ h)
 
-  pub backward : d ≡ Back → 0 < k → leads d n k ≡ some (k - 1)
+  pub backward : d ≡ Back → 0 < k → leads d n k ≡ Some (k - 1)
   unfolding leads
   backward e h = rw (e, lt-ltb _ _ h)
 
-  pub first-place : d ≡ Back → k ≤ 0 → leads d n k ≡ none
+  pub first-place : d ≡ Back → k ≤ 0 → leads d n k ≡ None
   unfolding leads
   first-place e h = rw (e, le-ltb _ _ h)
 
-  pub to-beginning : d ≡ Beginning → leads d n k ≡ some 0
-  unfolding leads
-  to-beginning e = rw e
-
 -- A record is led to a place, or stays at an end.
 module _ (b : List ℕ) (p : Player) where
-  pub led : (t : Option ℕ) (k : ℕ) → t ≡ some k → (m : Move) → m ≡ record { player = record_at header b k; answer = A.Moved } → m ≡ led_to header b p t
+  pub led : (t : Option ℕ) (k : ℕ) → t ≡ Some k → (m : Move) → m ≡ record { player = record_at header b k; answer = Ok A.Moved } → m ≡ led_to header b p t
   unfolding led_to
   led t k e m f = f ∙ sym (ap (led_to header b p) e)
 
-  pub at-end : (t : Option ℕ) → t ≡ none → stays p A.AtEnd ≡ led_to header b p t
+  pub at-end : (t : Option ℕ) → t ≡ None → stays p (Ok A.AtEnd) ≡ led_to header b p t
   unfolding led_to
   at-end t e = sym (ap (led_to header b p) e)
 
 -- A record is held against the trace.
 module _ (d : Direction) (b : List ℕ) (p : Player) where
-  pub beyond : last_place header b < p.place → move_in header d b p ≡ stays p A.Foreign
+  pub beyond : last_place header b < p.place → move_in header d b p ≡ stays p (Ok A.Foreign)
   unfolding move_in
   beyond h = rw (lt-leb _ _ h)
 
-  pub elsewhere : p.place ≤ last_place header b → (p.state ≡ (record_at header b p.place).state → ⊥) → move_in header d b p ≡ stays p A.Foreign
+  pub elsewhere : p.place ≤ last_place header b → (p.state ≡ (record_at header b p.place).state → ⊥) → move_in header d b p ≡ stays p (Ok A.Foreign)
   unfolding move_in
   elsewhere h f = rw (le-leb _ _ h, ne_eqb _ _ f)
 
@@ -87,7 +84,7 @@ module _ (text b : List ℕ) where
   unfolding open_of test_of
   open_by_outcome = open-for b (answer text)
 
-  pub move-told : trace_passed (test_of text b) ≡ false → (d : Direction) (p : Player) → move_of d text b p ≡ stays p (A.Told (test_of text b))
+  pub move-told : trace_passed (test_of text b) ≡ false → (d : Direction) (p : Player) → move_of d text b p ≡ stays p (Err (declined (test_of text b)))
   unfolding move_after
   move-told e d p = move_by_outcome d p ∙ rw e
 
@@ -95,44 +92,58 @@ module _ (text b : List ℕ) where
   unfolding move_after
   move_passed e d p = move_by_outcome d p ∙ rw e
 
-  pub open_told : trace_passed (test_of text b) ≡ false → open_of text b ≡ O.Told (test_of text b)
+  pub open_told : trace_passed (test_of text b) ≡ false → open_of text b ≡ Err (declined (test_of text b))
   unfolding open_after
   open_told e = open_by_outcome ∙ rw e
 
-  pub open_passed : trace_passed (test_of text b) ≡ true → open_of text b ≡ O.At (record_at header b 0)
+  pub open_passed : trace_passed (test_of text b) ≡ true → open_of text b ≡ Ok (record_at header b 0)
   unfolding open_after
   open_passed e = open_by_outcome ∙ rw e
 
-  -- The outcome as the code has it.
-  module _ (o : Outcome) (tested : o ≡ test_of text b) (x : Bool) (judged : x ≡ trace_passed o) where
-    pub tells-move : x ≡ false → (d : Direction) (p : Player) → stays p (A.Told o) ≡ move_of d text b p
-    tells-move e d p = ap (λ (u : Outcome). stays p (A.Told u)) tested ∙ sym (move-told (judged_so text b o tested x judged false e) d p)
+  -- As the code has it: the number of the trace's steps, or what is told in its place.
+  module _ (told : Declined) (is : Err told ≡ passed_steps_of text b) where
+    pub move_declined : (d : Direction) (p : Player) → move_of d text b p ≡ stays p (Err told)
+    move_declined d p =
+        let t = steps-declined text b told is in
+        move-told t.0 d p ∙ ap (λ (x : Declined). stays p (Err x)) (sym t.1)
 
-    pub tells-open : x ≡ false → O.Told o ≡ open_of text b
-    tells-open e = ap O.Told tested ∙ sym (open_told (judged_so text b o tested x judged false e))
+    pub open_declined : open_of text b ≡ Err told
+    open_declined =
+        let t = steps-declined text b told is in
+        open_told t.0 ∙ ap Err (sym t.1)
 
-    -- Where the trace passes, the record is held against it; the code knows the last place, and the record at the player's.
-    module _ (passed : x ≡ true) (d : Direction) (p : Player) (last : ℕ) (counted : last ≡ last_place header b) where
-      pub place_beyond : last < p.place → stays p A.Foreign ≡ move_of d text b p
-      place_beyond h = sym (move_passed (judged_so text b o tested x judged true passed) d p ∙ beyond d b p (subst (λ (n : ℕ). n < p.place) counted h))
+  module _ (last : ℕ) (is : Ok last ≡ passed_steps_of text b) where
+    pub opens : open_of text b ≡ Ok (record_at header b 0)
+    opens = open_passed (steps-passed text b last is).0
 
-      module _ (there : Player) (found : there ≡ record_at header b p.place) (h : p.place ≤ last) where
+    module _ (d : Direction) (p : Player) where
+      foreign : move_in header d b p ≡ stays p (Ok A.Foreign) → (p ≡ (move_of d text b p).player) × (Ok A.Foreign ≡ (move_of d text b p).answer)
+      foreign e =
+          let f = move_passed (steps-passed text b last is).0 d p ∙ e in
+          (sym (ap (λ (m : Move). m.player) f), sym (ap (λ (m : Move). m.answer) f))
+
+      pub foreign_beyond : last < p.place → (p ≡ (move_of d text b p).player) × (Ok A.Foreign ≡ (move_of d text b p).answer)
+      foreign_beyond h = foreign (beyond d b p (subst (λ (n : ℕ). n < p.place) (steps-passed text b last is).1 h))
+
+      -- The record of the trace at the player's place, and whether the player's is another.
+      module _ (h : p.place ≤ last) (q : Player) (found : q ≡ record_at header b p.place) (x : Bool) (tested : x ≡ not (eqb p.place q.place && eqb p.state q.state)) where
         within : p.place ≤ last_place header b
-        within = subst (λ (n : ℕ). p.place ≤ n) counted h
+        within = subst (λ (n : ℕ). p.place ≤ n) (steps-passed text b last is).1 h
 
-        pub state-elsewhere : (p.state ≡ there.state → ⊥) → stays p A.Foreign ≡ move_of d text b p
-        state-elsewhere f =
-            sym (move_passed (judged_so text b o tested x judged true passed) d p ∙ elsewhere d b p within (λ e. f (e ∙ sym (ap (λ (q : Player). q.state) found))))
+        other : x ≡ not (eqb p.state (record_at header b p.place).state)
+        other =
+            tested
+            ∙ ap (λ (r : Player). not (eqb p.place r.place && eqb p.state r.state)) found
+            ∙ ap (λ (y : Bool). not (y && eqb p.state (record_at header b p.place).state)) (eq-eqb p.place p.place refl)
 
-        pub leads-on : p.state ≡ there.state → (m : Move) → m ≡ led_to header b p (leads d last p.place) → m ≡ move_of d text b p
-        leads-on f m e =
-            e
-            ∙ ap (λ (n : ℕ). led_to header b p (leads d n p.place)) counted
-            ∙ sym (move_passed (judged_so text b o tested x judged true passed) d p ∙ stands d b p within (f ∙ ap (λ (q : Player). q.state) found))
+        pub foreign_elsewhere : x ≡ true → (p ≡ (move_of d text b p).player) × (Ok A.Foreign ≡ (move_of d text b p).answer)
+        foreign_elsewhere e = foreign (elsewhere d b p within (eqb-false _ _ (not-true _ (sym other ∙ e))))
 
-    pub opens : x ≡ true → (p : Player) → p ≡ record_at header b 0 → O.At p ≡ open_of text b
-    opens e p f = ap O.At f ∙ sym (open_passed (judged_so text b o tested x judged true e))
-
--- The move in a direction that is this one.
-pub move_in_lem : (d known : Direction) → d ≡ known → (text b : List ℕ) (p : Player) (m : Move) → m ≡ move_of known text b p → m ≡ move_of d text b p
-move_in_lem d known e text b p m f = f ∙ ap (λ (x : Direction). move_of x text b p) (sym e)
+        pub leads_on : x ≡ false → (t : Option ℕ) → t ≡ leads d last p.place
+            → ((led_to header b p t).player ≡ (move_of d text b p).player) × ((led_to header b p t).answer ≡ (move_of d text b p).answer)
+        leads_on e t l =
+            let f : p.state ≡ (record_at header b p.place).state = eqb-true _ _ (not-false _ (sym other ∙ e)) in
+            let u = steps-passed text b last is in
+            let g : led_to header b p t ≡ move_of d text b p =
+            ap (led_to header b p) l ∙ ap (λ (n : ℕ). led_to header b p (leads d n p.place)) u.1 ∙ sym (move_passed u.0 d p ∙ stands d b p within f) in
+            (ap (λ (m : Move). m.player) g, ap (λ (m : Move). m.answer) g)

@@ -3,9 +3,9 @@
 use mathlib.Core.Path.{◌≡◌, refl, sym, ap, ◌∙◌}
 use mathlib.Core.Bool.{true}
 use mathlib.Core.List.{List}
-use mathlib.Core.Option.{some}
 use Prim.Native.Nat.{ℕ, ◌+◌, ◌-◌, ◌≤◌}
 use native.Mathlib.Omega.{arith}
+use Rattle.std.specs.Prelude.{Some, Ok}
 use Rattle.acceptance.specs.working.Test.{test_of}
 use Rattle.player.specs.Places.{leads}
 use Rattle.player.specs.Answers.{moved, wording_of, opened, opening_for}
@@ -22,16 +22,16 @@ use Rattle.player.proofs.Inverted.{forward-leads, back-leads, beginning-leads, H
 
 -- The whole move of a record that stands on the trace, where it leads to a place.
 abbrev pub arrived : List ℕ → ℕ → Move
-arrived b k = record { player = record_at header b k; answer = A.Moved }
+arrived b k = record { player = record_at header b k; answer = Ok A.Moved }
 
 pub goes_to : (d : Direction) (text b : List ℕ) (p : Player) → trace_passed (test_of text b) ≡ true → p.place ≤ last_place header b
-    → p.state ≡ (record_at header b p.place).state → (k : ℕ) → leads d (last_place header b) p.place ≡ some k → move_of d text b p ≡ arrived b k
+    → p.state ≡ (record_at header b p.place).state → (k : ℕ) → leads d (last_place header b) p.place ≡ Some k → move_of d text b p ≡ arrived b k
 goes_to d text b p passed h e k l =
     move_passed text b passed d p ∙ stands d b p h e ∙ sym (led b p (leads d (last_place header b) p.place) k l (arrived b k) refl)
 
 module _ (there again : Direction) (text b : List ℕ) (p : Player) where
   -- Where the first move leads to a place, and the second from there to where it began.
-  module _ (H : HasMoved there text b p) (within : H.target ≤ last_place header b) (back : leads again (last_place header b) H.target ≡ some p.place) where
+  module _ (H : HasMoved there text b p) (within : H.target ≤ last_place header b) (back : leads again (last_place header b) H.target ≡ Some p.place) where
     gone : move_of there text b p ≡ arrived b H.target
     gone = goes_to there text b p H.passed H.place H.state H.target H.leading
 
@@ -51,24 +51,24 @@ module _ (there again : Direction) (text b : List ℕ) (p : Player) where
     pub returned-same : record_after again text b (record_after there text b p) ≡ p
     returned-same = ap (λ (m : Move). m.player) returned ∙ same
 
-  restored : ((H : HasMoved there text b p) → (H.target ≤ last_place header b) × (leads again (last_place header b) H.target ≡ some p.place)) → Restored there again text b p
+  restored : ((H : HasMoved there text b p) → (H.target ≤ last_place header b) × (leads again (last_place header b) H.target ≡ Some p.place)) → Restored there again text b p
   restored f =
       record {
         moves = λ e. let H = has-moved there text b p e in returned-moved H (f H).0 (f H).1;
         restores = λ e. let H = has-moved there text b p e in returned-same H (f H).0 (f H).1;
       }
 
-back-again : (text b : List ℕ) (p : Player) (H : HasMoved Forward text b p) → (H.target ≤ last_place header b) × (leads Back (last_place header b) H.target ≡ some p.place)
+back-again : (text b : List ℕ) (p : Player) (H : HasMoved Forward text b p) → (H.target ≤ last_place header b) × (leads Back (last_place header b) H.target ≡ Some p.place)
 back-again text b p H =
     let t = forward-leads (last_place header b) p.place H.target H.leading in
     let e : H.target - 1 ≡ p.place = omega (arith, t.1) in
-    (omega (arith, t.0, t.1), backward Back (last_place header b) H.target refl (omega (arith, t.1)) ∙ ap some e)
+    (omega (arith, t.0, t.1), backward Back (last_place header b) H.target refl (omega (arith, t.1)) ∙ ap Some e)
 
-forward-again : (text b : List ℕ) (p : Player) (H : HasMoved Back text b p) → (H.target ≤ last_place header b) × (leads Forward (last_place header b) H.target ≡ some p.place)
+forward-again : (text b : List ℕ) (p : Player) (H : HasMoved Back text b p) → (H.target ≤ last_place header b) × (leads Forward (last_place header b) H.target ≡ Some p.place)
 forward-again text b p H =
     let t = back-leads (last_place header b) p.place H.target H.leading in
     let e : H.target + 1 ≡ p.place = omega (arith, t.0, t.1) in
-    (omega (arith, t.1, H.place), onward Forward (last_place header b) H.target refl (omega (arith, t.0, t.1, H.place)) ∙ ap some e)
+    (omega (arith, t.1, H.place), onward Forward (last_place header b) H.target refl (omega (arith, t.0, t.1, H.place)) ∙ ap Some e)
 
 pub moves_restore : MovesRestore
 moves_restore text b p = (restored Forward Back text b p (back-again text b p), restored Back Forward text b p (forward-again text b p))

@@ -4,10 +4,10 @@ use mathlib.Core.Path.{◌≡◌, refl, sym, ap, ◌∙◌, subst}
 use mathlib.Core.Logic.{◌⊎◌, inl, inr, ⊎_elim}
 use mathlib.Core.Bool.{true}
 use mathlib.Core.List.{List, [], ◌∷◌, map}
-use mathlib.Core.Option.{Option, none, some}
 use Prim.Native.Nat.{ℕ, zero, suc}
 use native.Mathlib.Omega.{arith}
 use lib.ListN.{length, take}
+use Rattle.std.specs.Prelude.{Option, Some, None}
 use Rattle.notation.specs.Model.{Model}
 use Rattle.notation.specs.working.Machine as N
 use Rattle.notation.proofs.Texts.{answers_recased}
@@ -54,8 +54,8 @@ standing_tells m s xs passes p S n h =
 -- A record that stands on the trace stands there after a move, which goes or is at an end.
 module _ (text b : List ℕ) (passed : trace_passed (test_of text b) ≡ true) {s : ℕ} {xs : List TraceStep} (C : Contents b s xs) (d : Direction) (p : Player) (S : StandsOn s xs p) where
   stands_at : (u : Option ℕ) → leads d (length xs) p.place ≡ u → StandsOn s xs (record_after d text b p)
-  stands_at none e = subst (StandsOn s xs) (sym (told-nowhere text b passed C d p S e).1) S
-  stands_at (some k) e =
+  stands_at None e = subst (StandsOn s xs) (sym (told-nowhere text b passed C d p S e).1) S
+  stands_at (Some k) e =
       subst (StandsOn s xs) (sym (told-somewhere text b passed C d p S k e).1)
       (record { place = leads-within d (length xs) p.place k S.place e; state = refl })
 
@@ -63,8 +63,8 @@ module _ (text b : List ℕ) (passed : trace_passed (test_of text b) ≡ true) {
   stands_after = stands_at (leads d (length xs) p.place) refl
 
   goes_at : (u : Option ℕ) → leads d (length xs) p.place ≡ u → (answer_of d text b p ≡ moved) ⊎ (answer_of d text b p ≡ at_end)
-  goes_at none e = inr (told-nowhere text b passed C d p S e).0
-  goes_at (some k) e = inl (told-somewhere text b passed C d p S k e).0
+  goes_at None e = inr (told-nowhere text b passed C d p S e).0
+  goes_at (Some k) e = inl (told-somewhere text b passed C d p S k e).0
 
   pub goes_on_lem : (answer_of d text b p ≡ moved) ⊎ (answer_of d text b p ≡ at_end)
   goes_on_lem = goes_at (leads d (length xs) p.place) refl

@@ -1,7 +1,6 @@
 -- Places of a trace: the state at each, which records stand on the trace, and where moves lead.
 -- Assumes nothing.
-use Rattle.std.specs.Prelude.{◌≡◌, cond, List, ℕ, ◌+◌, ◌-◌, ◌≤◌, ltb, length, take}
-use Rattle.std.proofs.Math.Option.{Option, none, some}
+use Rattle.std.specs.Prelude.{◌≡◌, cond, List, ℕ, ◌+◌, ◌-◌, ◌≤◌, ltb, length, take, Option, Some, None}
 use Rattle.meaning.specs.OneRow.{TraceStep, last_of}
 use Rattle.player.specs.declared.record.Player.{Player}
 use Rattle.player.specs.declared.record.Direction.{Direction}
@@ -18,6 +17,6 @@ pub record StandsOn (s : ℕ) (xs : List TraceStep) (p : Player) : Type 0 where
 
 -- The place where a move leads from place k of a trace of n steps. Only behind the last step and before the first is there none.
 unfoldable pub leads : Direction → ℕ → ℕ → Option ℕ
-leads Forward n k = cond (ltb k n) (some (k + 1)) none
-leads Back n k = cond (ltb 0 k) (some (k - 1)) none
-leads Beginning n k = some 0
+leads Forward n k = cond (ltb k n) (Some (k + 1)) None
+leads Back n k = cond (ltb 0 k) (Some (k - 1)) None
+leads Beginning n k = Some 0

@@ -1,7 +1,6 @@
 -- What is promised of players, each promise a type that a theorem of proofs/ inhabits.
 -- Assumes nothing.
-use Rattle.std.specs.Prelude.{◌≡◌, ◌↔◌, ◌⊎◌, List, [], ◌∷◌, map, ℕ, ◌≤◌, length, take}
-use Rattle.std.proofs.Math.Option.{none, some}
+use Rattle.std.specs.Prelude.{◌≡◌, ◌↔◌, ◌⊎◌, List, [], ◌∷◌, map, ℕ, ◌≤◌, length, take, Some, None}
 use Rattle.notation.specs.Model.{Model}
 use Rattle.notation.specs.Texts.{TextSays, TextRefused}
 use Rattle.notation.specs.Case.{Recased}
@@ -44,8 +43,8 @@ OpeningsTell = (text : List ℕ) (m : Model) → TextSays text m → (b : List �
 -- where the move leads nowhere it is at an end and stays.
 pub record MoveOnTrace (s : ℕ) (xs : List TraceStep) (d : Direction) (p : Player) (answer : Wording) (after : Player) : Type 0 where
   pub elsewhere : ¬ (StandsOn s xs p) → (answer ≡ foreign) × (after ≡ p)
-  pub nowhere : StandsOn s xs p → leads d (length xs) p.place ≡ none → (answer ≡ at_end) × (after ≡ p)
-  pub somewhere : StandsOn s xs p → (k : ℕ) → leads d (length xs) p.place ≡ some k → (answer ≡ moved) × (after ≡ record { place = k; state = state_at s xs k })
+  pub nowhere : StandsOn s xs p → leads d (length xs) p.place ≡ None → (answer ≡ at_end) × (after ≡ p)
+  pub somewhere : StandsOn s xs p → (k : ℕ) → leads d (length xs) p.place ≡ Some k → (answer ≡ moved) × (after ≡ record { place = k; state = state_at s xs k })
 
 -- A move after the test's answer: on the trace that passes; else that answer, and the record stays.
 pub record MoveMeans (m : Model) (b : List ℕ) (d : Direction) (p : Player) (tested : O.Wording) (answer : Wording) (after : Player) : Type 0 where
@@ -71,7 +70,7 @@ RecordsStay = (text b : List ℕ) (d : Direction) (p : Player) → ¬ (answer_of
 
 -- A move leads nowhere exactly forward at the last place, or beyond it, and back at place 0.
 abbrev pub EndsTell : Type 0
-EndsTell = (d : Direction) (n k : ℕ) → (leads d n k ≡ none) ↔ (((d ≡ Forward) × (n ≤ k)) ⊎ ((d ≡ Back) × (k ≡ 0)))
+EndsTell = (d : Direction) (n k : ℕ) → (leads d n k ≡ None) ↔ (((d ≡ Forward) × (n ≤ k)) ⊎ ((d ≡ Back) × (k ≡ 0)))
 
 -- Steps on and back undo each other: where the first moved, the second moves too, and the record is what it was, on every text, sheet and record.
 pub record Restored (there again : Direction) (text b : List ℕ) (p : Player) : Type 0 where

@@ -10,38 +10,33 @@ ghost use Rattle.sheets.specs.SheetTexts.{AreBytes};
 ghost use Rattle.player.specs.declared.record.Direction.TheVariants.{Forward, Back, Beginning};
 ghost use Rattle.player.specs.working.Playing.{move_of};
 
-use moves::{back_from, beginning_from, forward_from};
-use record::{Answer, Player};
+use conditions::outcome::Declined;
+use moves::moved;
+use record::{Answer, Direction, Player};
 
 // One step on.
-pub fn forward(player: &mut Player, text: &[u8], sheet: &[u8]) -> Answer
+pub fn forward(player: &mut Player, text: &[u8], sheet: &[u8]) -> Result<Answer, Declined>
     ensures { (player.new ≡ (move_of Forward text.now sheet.now player.old).player)
         × (result ≡ (move_of Forward text.now sheet.now player.old).answer)
         × AreBytes sheet.now }
 {
-    let moved = forward_from(text, sheet, *player);
-    *player = moved.player;
-    moved.answer
+    moved(player, text, sheet, Direction::Forward)
 }
 
 // One step back.
-pub fn back(player: &mut Player, text: &[u8], sheet: &[u8]) -> Answer
+pub fn back(player: &mut Player, text: &[u8], sheet: &[u8]) -> Result<Answer, Declined>
     ensures { (player.new ≡ (move_of Back text.now sheet.now player.old).player)
         × (result ≡ (move_of Back text.now sheet.now player.old).answer)
         × AreBytes sheet.now }
 {
-    let moved = back_from(text, sheet, *player);
-    *player = moved.player;
-    moved.answer
+    moved(player, text, sheet, Direction::Back)
 }
 
 // To the beginning.
-pub fn beginning(player: &mut Player, text: &[u8], sheet: &[u8]) -> Answer
+pub fn beginning(player: &mut Player, text: &[u8], sheet: &[u8]) -> Result<Answer, Declined>
     ensures { (player.new ≡ (move_of Beginning text.now sheet.now player.old).player)
         × (result ≡ (move_of Beginning text.now sheet.now player.old).answer)
         × AreBytes sheet.now }
 {
-    let moved = beginning_from(text, sheet, *player);
-    *player = moved.player;
-    moved.answer
+    moved(player, text, sheet, Direction::Beginning)
 }

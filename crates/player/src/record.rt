@@ -1,40 +1,32 @@
 // The record of a player, and what is answered to whoever opens or moves it.
-use conditions::outcome::Outcome;
+use conditions::outcome::Declined;
 
 // Where a player stands on a trace: how many of its steps lie behind, and the state there.
-#[derive(Clone, Copy)]
+#[derive(Clone, Copy, Debug, PartialEq, Eq)]
 pub struct Player {
     pub place: usize,
     pub state: usize,
 }
 
 // Where a move goes: one step on, one step back, or to the beginning.
-#[derive(Clone, Copy)]
+#[derive(Clone, Copy, Debug, PartialEq, Eq)]
 pub enum Direction {
     Forward,
     Back,
     Beginning,
 }
 
-// What a move answers: it moved; it is at an end; the record is not one of this trace; or what the test answers where the sheet is no trace that passes.
-#[derive(Clone, Copy)]
+// What a move answers: it moved; it is at an end; or the record is not one of this trace.
+#[derive(Clone, Copy, Debug, PartialEq, Eq)]
 pub enum Answer {
     Moved,
     AtEnd,
     Foreign,
-    Told(Outcome),
 }
 
-// A record after a move, and the answer.
-#[derive(Clone, Copy)]
+// A record after a move, and the answer; or what is told in its place where the sheet is no trace that passes.
+#[derive(Clone, Copy, Debug, PartialEq, Eq)]
 pub struct Move {
     pub player: Player,
-    pub answer: Answer,
-}
-
-// What opening answers: a record at the beginning, or what the test answers where the sheet is no trace that passes.
-#[derive(Clone, Copy)]
-pub enum Opened {
-    At(Player),
-    Told(Outcome),
+    pub answer: Result<Answer, Declined>,
 }

@@ -4,52 +4,34 @@ ghost use Rattle.sheets.specs.SheetTexts.{AreBytes};
 ghost use Rattle.player.specs.declared.record.Direction.TheVariants.{Forward, Back, Beginning};
 ghost use Rattle.player.specs.working.Playing.{move_of};
 
+use crate::moves::moved;
 use crate::record::{Direction, Move, Player};
-use crate::{back, beginning, forward};
+
+// A move in a direction.
+pub fn move_of(direction: Direction, mut player: Player, text: &[u8], sheet: &[u8]) -> Move
+    ensures { (result ≡ move_of direction text.now sheet.now player) × AreBytes sheet.now }
+{
+    let answer = moved(&mut player, text, sheet, direction);
+    Move { player, answer }
+}
 
 // One step on.
 pub fn forward_of(player: Player, text: &[u8], sheet: &[u8]) -> Move
     ensures { (result ≡ move_of Forward text.now sheet.now player) × AreBytes sheet.now }
 {
-    let mut lent = player;
-    let answer = forward(&mut lent, text, sheet);
-    Move {
-        player: lent,
-        answer: answer,
-    }
+    move_of(Direction::Forward, player, text, sheet)
 }
 
 // One step back.
 pub fn back_of(player: Player, text: &[u8], sheet: &[u8]) -> Move
     ensures { (result ≡ move_of Back text.now sheet.now player) × AreBytes sheet.now }
 {
-    let mut lent = player;
-    let answer = back(&mut lent, text, sheet);
-    Move {
-        player: lent,
-        answer: answer,
-    }
+    move_of(Direction::Back, player, text, sheet)
 }
 
 // To the beginning.
 pub fn beginning_of(player: Player, text: &[u8], sheet: &[u8]) -> Move
     ensures { (result ≡ move_of Beginning text.now sheet.now player) × AreBytes sheet.now }
 {
-    let mut lent = player;
-    let answer = beginning(&mut lent, text, sheet);
-    Move {
-        player: lent,
-        answer: answer,
-    }
-}
-
-// The move in a direction.
-pub fn move_of(direction: Direction, player: Player, text: &[u8], sheet: &[u8]) -> Move
-    ensures { (result ≡ move_of direction text.now sheet.now player) × AreBytes sheet.now }
-{
-    match direction {
-        Direction::Forward => forward_of(player, text, sheet),
-        Direction::Back => back_of(player, text, sheet),
-        Direction::Beginning => beginning_of(player, text, sheet),
-    }
+    move_of(Direction::Beginning, player, text, sheet)
 }

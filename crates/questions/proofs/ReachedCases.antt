@@ -4,6 +4,7 @@ use mathlib.Core.Path.{◌≡◌, refl}
 use mathlib.Core.List.{List, [], ◌∷◌, map}
 use Rattle.notation.specs.Regular.{Every}
 use Rattle.acceptance.proofs.TestCases.{answering}
+use Rattle.conditions.specs.Outcomes.{wording_of_declined}
 use Rattle.questions.specs.Answers.{wording_of}
 use Rattle.questions.specs.Cases.{Case, cases, AllCases}
 use Rattle.questions.specs.Promises.{reply_to}
@@ -11,7 +12,7 @@ use Rattle.questions.specs.working.Asking.{member_reply, asked_of, reached_in, r
 
 -- The replies to all rows, and what is expected in all rows.
 computed : map (λ (c : Case). reply_to c.text c.sheet c.state) cases ≡ map (λ (c : Case). c.expected) cases
-unfolding answering wording_of cases member_reply asked_of reached_in reached_of
+unfolding answering wording_of_declined wording_of cases member_reply asked_of reached_in reached_of
 computed = refl
 
 -- What is computed of a whole table holds of each of its rows.

@@ -19,8 +19,14 @@ use Rattle.sheets.specs.SheetTexts.{AreBytes, SheetSays}
 use Rattle.sheets.proofs.SheetOpened.{map_found}
 use Rattle.sheets.proofs.SheetSplit.{says_iff_reads}
 use Rattle.conditions.specs.Outcomes as O
-use Rattle.conditions.specs.declared.outcome.Outcome.{Outcome}
-use Rattle.conditions.specs.declared.outcome.Outcome.TheVariants.{SafeHolds, Void, TraceHolds, FailsA, FailsB, FailsC, FailsD, FailsE, FailsF, Refused}
+use Rattle.conditions.specs.Outcomes.{declined}
+use Rattle.conditions.specs.declared.outcome.Outcome.TheVariants.{SafeHolds, Void, TraceHolds, FailsA, FailsB, FailsC, FailsD, FailsE, FailsF}
+use Rattle.conditions.specs.declared.outcome.Declined.{Declined}
+use Rattle.conditions.specs.declared.outcome.Declined.TheVariants.{Refused}
+use Rattle.conditions.proofs.Declining.{wording_declined}
+use Rattle.std.specs.Prelude.{Result, Ok, Err}
+use Rattle.refusals.specs.Reasons.{number_of, reason_of, refusal_of}
+use Rattle.refusals.proofs.Texts.{text_reason}
 use Rattle.conditions.specs.working.Judging.{outcome_of}
 use Rattle.acceptance.specs.Promises as T
 use Rattle.acceptance.specs.Promises.{answer_to}
@@ -31,31 +37,29 @@ use Rattle.acceptance.proofs.TestMeans.{numbers_fit, all-given}
 use Rattle.questions.specs.Answers.{Wording, yes, no, told, wording_of}
 use Rattle.questions.specs.Promises.{reply_to, LetsMapPass, ReachedTells, RefusalTells, AskedWithoutCase, Bounded, RepliesBounded}
 use Rattle.questions.specs.working.Asking.{map_passed, map_of, member_reply, asked_of, reached_in, reached_of}
-use Rattle.questions.specs.declared.reply.Reply.{Reply}
-use Rattle.questions.specs.declared.reply.Reply.TheVariants.{Yes, No, Told}
 use Rattle.questions.proofs.MapsAsked.{passed_found, member_beyond, member_below, asked-not, asked-map}
 
 -- An outcome is in words one that lets a map pass, or it is not that of a map that passes.
-either_way : (o : Outcome) → LetsMapPass (O.wording_of o) ⊎ (map_passed o ≡ false)
+either_way : (o : O.Tested) → LetsMapPass (O.wording_of o) ⊎ (map_passed o ≡ false)
 unfolding O.wording_of
-either_way SafeHolds = inl (inl refl)
-either_way Void = inl (inr refl)
-either_way TraceHolds = inr refl
-either_way FailsA = inr refl
-either_way FailsB = inr refl
-either_way FailsC = inr refl
-either_way FailsD = inr refl
-either_way FailsE = inr refl
-either_way FailsF = inr refl
-either_way (Refused n p) = inr refl
+either_way (Ok SafeHolds) = inl (inl refl)
+either_way (Ok Void) = inl (inr refl)
+either_way (Ok TraceHolds) = inr refl
+either_way (Ok FailsA) = inr refl
+either_way (Ok FailsB) = inr refl
+either_way (Ok FailsC) = inr refl
+either_way (Ok FailsD) = inr refl
+either_way (Ok FailsE) = inr refl
+either_way (Ok FailsF) = inr refl
+either_way (Err r) = inr refl
 
 -- Which of the two a bit is called.
-yes_iff : (x : Bool) → (wording_of (cond x Yes No) ≡ yes) ↔ (x ≡ true)
+yes_iff : (x : Bool) → (wording_of (Ok x) ≡ yes) ↔ (x ≡ true)
 unfolding wording_of
 yes_iff true = (λ e. refl, λ e. refl)
 yes_iff false = (λ e. cc, λ e. cc)
 
-no_iff : (x : Bool) → (wording_of (cond x Yes No) ≡ no) ↔ (x ≡ false)
+no_iff : (x : Bool) → (wording_of (Ok x) ≡ no) ↔ (x ≡ false)
 unfolding wording_of
 no_iff true = (λ e. cc, λ e. cc)
 no_iff false = (λ e. refl, λ e. refl)
@@ -84,10 +88,10 @@ module _ (text : List ℕ) (m : Model) (says : TextSays text m) (b : List ℕ) (
 
     no-map : ¬ (LetsMapPass (answer_to text b)) → reply_to text b t ≡ told (answer_to text b)
     unfolding wording_of
-    no-map h = ap wording_of (said text m says b t ∙ asked-not (system_of m) b t (failed h)) ∙ ap (λ (o : Outcome). told (O.wording_of o)) (C.said text m says b)
+    no-map h = ap wording_of (said text m says b t ∙ asked-not (system_of m) b t (failed h)) ∙ ap told (wording_declined (outcome_of (system_of m) b) ∙ ap O.wording_of (C.said text m says b))
 
     no-state : LetsMapPass (answer_to text b) → state_count m ≤ t → reply_to text b t ≡ told (O.returned 10 0)
-    unfolding wording_of O.wording_of
+    unfolding wording_of O.wording_of O.wording_of_declined number_of reason_of
     no-state h l = of_map h ∙ ap wording_of (member_beyond (state_count m) (map_of (system_of m) b) t l)
 
     module _ (h : LetsMapPass (answer_to text b)) (map : List ℕ) (w : SheetSays (system_of m) b (safe map)) (l : t < state_count m) where
@@ -98,11 +102,11 @@ module _ (text : List ℕ) (m : Model) (says : TextSays text m) (b : List ℕ) (
           let j = (map_found (system_of m) b (passed_found (system_of m) b (passed h))).reads in
           cc
 
-      of_member : reply_to text b t ≡ wording_of (cond (in_map map t) Yes No)
+      of_member : reply_to text b t ≡ wording_of (Ok (in_map map t))
       of_member =
           of_map h
           ∙ ap wording_of (member_below (state_count m) (map_of (system_of m) b) t l)
-          ∙ ap (λ (n : List ℕ). wording_of (cond (in_map n t) Yes No)) (sym same_map)
+          ∙ ap (λ (n : List ℕ). wording_of (Ok (in_map n t))) (sym same_map)
 
 pub reached-tells : ReachedTells
 reached-tells text m says b hb t =
@@ -114,31 +118,34 @@ reached-tells text m says b hb t =
     }
 
 pub refusal-tells : RefusalTells
-unfolding reached_of reached_in wording_of O.wording_of
-refusal-tells text n i r b t = ap (λ (o : N.Outcome). wording_of (reached_in o b t)) (refused-answer r)
+unfolding reached_of reached_in wording_of O.wording_of O.wording_of_declined
+refusal-tells text n i r b t =
+    let e = refused-answer r in
+    ap (λ (o : N.Outcome). wording_of (reached_in o b t)) e ∙ ap (λ (k : ℕ). told (O.returned k i)) (text_reason text n i e)
 
 pub asked_without_case : AskedWithoutCase
 unfolding reached_of
 asked_without_case text other r b t = ap (λ (o : N.Outcome). wording_of (reached_in o b t)) (answers_recased r)
 
 -- Only a refusal has numbers: 10 and 0 where there is no such state, and else those of the test's answer.
-bounded_if : (x y z : Bool) (o : Outcome) → T.Bounded (O.wording_of o) → Bounded (wording_of (cond x (cond y (cond z Yes No) (Told (Refused 10 0))) (Told o)))
-unfolding wording_of O.wording_of
-bounded_if true true true o h = tt
-bounded_if true true false o h = tt
-bounded_if true false z o h = (omega arith, omega arith, omega arith)
-bounded_if false y z o h = h
+bounded_if : (x y z : Bool) (d : Declined) → T.Bounded (O.wording_of_declined d) → Bounded (wording_of (cond x (cond y (Ok z) (Err (Refused (refusal_of 10 0)))) (Err d)))
+unfolding wording_of O.wording_of O.wording_of_declined number_of reason_of
+bounded_if true true true d h = tt
+bounded_if true true false d h = tt
+bounded_if true false z d h = (omega arith, omega arith, omega arith)
+bounded_if false y z d h = h
 
 asked_bounded : (M : System) (b : List ℕ) (t : ℕ) → T.Bounded (O.wording_of (outcome_of M b)) → Bounded (wording_of (asked_of M b t))
 unfolding asked_of member_reply
-asked_bounded M b t h = bounded_if (map_passed (outcome_of M b)) (ltb t (size M)) (in_map (map_of M b) t) (outcome_of M b) h
+asked_bounded M b t h =
+    bounded_if (map_passed (outcome_of M b)) (ltb t (size M)) (in_map (map_of M b) t) (declined (outcome_of M b)) (subst T.Bounded (sym (wording_declined (outcome_of M b))) h)
 
 pub replies_bounded : RepliesBounded
 replies_bounded text b t = go (one_answer text).some
   where
     go : ((m : Model) × TextSays text m) ⊎ ((n i : ℕ) × TextRefused text n i) → Bounded (reply_to text b t)
     go (inl (m, says)) =
-        subst (λ (r : Reply). Bounded (wording_of r)) (sym (said text m says b t))
-        (asked_bounded (system_of m) b t (subst (λ (o : Outcome). T.Bounded (O.wording_of o)) (sym (C.said text m says b)) (answers_bounded text b)))
+        subst (λ (r : Result Bool Declined). Bounded (wording_of r)) (sym (said text m says b t))
+        (asked_bounded (system_of m) b t (subst (λ (o : O.Tested). T.Bounded (O.wording_of o)) (sym (C.said text m says b)) (answers_bounded text b)))
     go (inr (n, i, r)) =
         subst Bounded (sym (refusal-tells text n i r b t)) (subst T.Bounded (C.text_comes_first text n i r b) (answers_bounded text b))

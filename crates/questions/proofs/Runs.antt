@@ -70,8 +70,8 @@ module _ (text : List ℕ) (m : Model) (says : TextSays text m) (first second sh
   -- A call that gave a map was not refused, so there was room.
   not-refused : (i p : ℕ) → ¬ (GaveMap (left_alone i p first second sheet) n k)
   unfolding S.wording_of
-  not-refused i p (inl e) = (not-verdict i p n k).0 e
-  not-refused i p (inr e) = (not-verdict i p n k).1 e
+  not-refused i p (inl e) = (not-verdict _ p n k).0 e
+  not-refused i p (inr e) = (not-verdict _ p n k).1 e
 
   room : GaveMap left n k → Room m first second sheet
   room =

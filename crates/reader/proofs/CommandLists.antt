@@ -1,5 +1,6 @@
 -- Commands one after the other: what the loop that reads them has still to do gives what all of it gave where it began.
 -- Assumes nothing.
+use Rattle.std.specs.Prelude.{Ok, Err}
 use mathlib.Core.Path.{◌≡◌, refl, sym, ap, ◌∙◌, subst}
 use mathlib.Core.List.{List, [], ◌∷◌, ◌++◌, append_assoc, append-nil, map, map-append}
 use Prim.Native.Nat.{ℕ, suc, ◌+◌, ◌≤◌, ◌<◌}
@@ -18,8 +19,8 @@ use Rattle.notation.specs.working.Descent.{Got, got, stop, then_reads, reader, s
 use Rattle.notation.proofs.Readers.{reader_token, then_then, then_ruling}
 use Rattle.statements.specs.declared.cursor.Cursor.{Cursor}
 use Rattle.statements.specs.declared.cursor.Ledger.{Ledger}
-use Rattle.reader.specs.declared.clauses.Declared.{Declared}
-use Rattle.reader.specs.declared.clauses.Declared.TheVariants as D
+use Rattle.refusals.specs.declared.Refusal.{Refusal}
+use Rattle.lexer.specs.working.Kinds.{kind_number}
 use Rattle.lexer.specs.working.Pieces.{listed}
 use Rattle.statements.specs.working.Names.{shared_words, row_words}
 use Rattle.statements.specs.working.Cursors.{book_of}
@@ -113,13 +114,13 @@ module _ (text names : List ℕ) (l : Ledger) (c : Cursor) where
   abbrev more : List Command → List Lexeme → Book → Got (List Command)
   more xs ts b = then_reads (reader (length text) T.commands ts b) (λ ys ts b. got (xs ++ ys) ts b)
 
-  pub commands-is : c.next.kind ≡ 5 → commands_at text names l c ≡ then_reads (one_at text names l c) more
+  pub commands-is : kind_number c.next.kind ≡ 5 → commands_at text names l c ≡ then_reads (one_at text names l c) more
   unfolding title_at sequence find lines skips
   commands-is u = rw (listed-sign text c.next 5 u (omega arith), reader_token (length text) T.commands) (simp (then_ruling, then_then))
 
-  pub commands-end : (c.next.kind ≡ 5 → ⊥) → commands_at text names l c ≡ got [] (listed text c.next) (book_of text names l c)
+  pub commands-end : (kind_number c.next.kind ≡ 5 → ⊥) → commands_at text names l c ≡ got [] (listed text c.next) (book_of text names l c)
   unfolding skips find lines
-  commands-end u = passed text c.next T.commands (length text) (book_of text names l c) refl (rw (ne_eqb 5 c.next.kind (λ z. u (sym z))) refl) refl
+  commands-end u = passed text c.next T.commands (length text) (book_of text names l c) refl (rw (ne_eqb 5 (kind_number c.next.kind) (λ z. u (sym z))) refl) refl
 
 -- ---- the loop
 
@@ -133,7 +134,7 @@ pub record Going (text : List ℕ) (l : Ledger) (c : Cursor) (s : Arrays) (l' : 
   pub shared : shared_words text s'.names l' ≡ shared_words text s.names l
   pub row : row_words text s'.names l' ≡ row_words text s.names l
   pub naming : Naming text s'.names l' c'
-  pub kind : c'.next.kind ≡ 5
+  pub kind : kind_number c'.next.kind ≡ 5
 
 -- Names stored further on leave the shared and the row words as they were.
 module _ (text : List ℕ) (l : Ledger) where
@@ -148,7 +149,7 @@ module _ (text : List ℕ) (l : Ledger) where
   keep_row (n ∷ ns) names j h k = keep_row ns (placed names j (n ∷ [])) (suc j) (omega arith) (omega arith) ∙ kept_row text names j n (omega arith) l k
 
 module _ (text : List ℕ) where
-  pub going_none : (l : Ledger) (c : Cursor) (s : Arrays) → Naming text s.names l c → c.next.kind ≡ 5 → Going text l c s l c s
+  pub going_none : (l : Ledger) (c : Cursor) (s : Arrays) → Naming text s.names l c → kind_number c.next.kind ≡ 5 → Going text l c s l c s
   unfolding placed joined ends_from
   going_none l c s g u = record {
     tree = [];
@@ -173,20 +174,17 @@ module _ (text : List ℕ) where
     goes : commands_at text s.names l c ≡ rest (one_at text s'.names l' c')
     goes = h.says ∙ ap (λ (o : Got (List Command)). then_reads o (λ ys ts b. got (h.tree ++ ys) ts b)) (commands-is text s'.names l' c' h.kind)
 
-    pub going_bad : (r : Declared) (n i : ℕ) (t : Arrays) → CommandsSay text l' c' s' (one_at text s'.names l' c') t r → r ≡ D.Refused n i
-        → CommandsSay text l c s (commands_at text s.names l c) t r
+    pub going_bad : (q : Refusal) (t : Arrays) → CommandsSay text l' c' s' (one_at text s'.names l' c') t (Err q) → CommandsSay text l c s (commands_at text s.names l c) t (Err q)
     unfolding CommandsSay
-    going_bad r n i t d e =
-        let k : CommandsSay text l' c' s' (one_at text s'.names l' c') t (D.Refused n i) = subst (λ (z : Declared). CommandsSay text l' c' s' (one_at text s'.names l' c') t z) e d in
-        subst (λ (z : Declared). CommandsSay text l c s (commands_at text s.names l c) t z) (sym e) (
-          goes ∙ ap rest k.0,
-          wrote_commands (shared_words text s.names l) (row_words text s.names l) l l' c.emitted c'.emitted h.tree s s' t h.stored h.ledger h.place k.1,
-        )
+    going_bad q t k = (
+      goes ∙ ap rest k.0,
+      wrote_commands (shared_words text s.names l) (row_words text s.names l) l l' c.emitted c'.emitted h.tree s s' t h.stored h.ledger h.place k.1,
+    )
 
-    module _ (r : Declared) (t : Arrays) (d : Cursor) (k : Ledger) (x : CommandsSay text l' c' s' (one_at text s'.names l' c') t r) (e : r ≡ D.Ok d k) where
+    module _ (t : Arrays) (d : Cursor) (k : Ledger) (x : CommandsSay text l' c' s' (one_at text s'.names l' c') t (Ok (d, k))) where
       one : Commanded text l' c' s' (one_at text s'.names l' c') t d k
       unfolding CommandsSay
-      one = subst (λ (z : Declared). CommandsSay text l' c' s' (one_at text s'.names l' c') t z) e x
+      one = x
 
       abbrev ws : List Word
       ws = shared_words text s.names l
@@ -251,14 +249,14 @@ module _ (text : List ℕ) where
           ap (λ (z : Ledger). row_words text t.names z) one.ledger ∙ ap (λ (z : Arrays). row_words text z.names (with_commands (length one.tree) l')) one.stored
           ∙ keep_row text (with_commands (length one.tree) l') (map title_of one.tree) s'.names (l'.shared + l'.row + l'.commands) few (omega arith) ∙ h.row
 
-      pub going_more : d.next.kind ≡ 5 → Going text l c s k d t
+      pub going_more : kind_number d.next.kind ≡ 5 → Going text l c s k d t
       going_more u = record { tree = xs; says = says_is; stored = stored_is; place = place_is; ledger = ledger-is; shared = shared-is; row = row_is; naming = one.naming; kind = u }
 
       -- one command more, and not too many
       pub going_less : (l'.commands < k.commands) × (k.commands ≤ 16)
       going_less = (subst (λ (z : Ledger). l'.commands < z.commands) (sym one.ledger) (omega (arith, one.some)), one.naming.ready.commands)
 
-      pub going-stop : (d.next.kind ≡ 5 → ⊥) → CommandsSay text l c s (commands_at text s.names l c) t (D.Ok d k)
+      pub going-stop : (kind_number d.next.kind ≡ 5 → ⊥) → CommandsSay text l c s (commands_at text s.names l c) t (Ok (d, k))
       unfolding CommandsSay
       going-stop u = record {
         tree = xs;

@@ -1,5 +1,6 @@
 -- Declarations, a sign with names and a full stop each, and the two of them that a text begins with.
 -- Assumes nothing.
+use Rattle.std.specs.Prelude.{Result, Ok, Err}
 use mathlib.Core.Path.{◌≡◌, refl, sym, ap, ◌∙◌, subst}
 use mathlib.Core.Bool.{Bool, true, false}
 use mathlib.Core.List.{List, ◌++◌, append-nil}
@@ -11,26 +12,23 @@ use Rattle.notation.specs.Tokens.{Word, Name, Lexeme}
 use Rattle.notation.specs.Texts.{words_of}
 use Rattle.notation.specs.working.Ledger.{Book, blank_book}
 use Rattle.notation.specs.working.Table as T
-use Rattle.notation.specs.working.Descent.{Got, got, stop, then_reads, reader}
+use Rattle.notation.specs.working.Descent.{Got, got, then_reads, reader}
 use Rattle.lexer.specs.declared.pieces.Piece.{Piece}
 use Rattle.statements.specs.declared.cursor.Cursor.{Cursor}
 use Rattle.statements.specs.declared.cursor.Ledger.{Ledger}
-use Rattle.statements.specs.declared.cursor.Parsed.{Parsed}
-use Rattle.statements.specs.declared.cursor.Parsed.TheVariants.{Ok, Refused}
-use Rattle.reader.specs.declared.clauses.Declared.{Declared}
-use Rattle.reader.specs.declared.clauses.Declared.TheVariants as D
+use Rattle.refusals.specs.declared.Refusal.{Refusal}
 use Rattle.lexer.specs.working.Pieces.{listed}
 use Rattle.lexer.specs.working.Names.{words_in}
 use Rattle.statements.specs.working.Names.{shared_words, names_kept}
-use Rattle.statements.specs.working.Cursors.{book_of, moved, Expected}
+use Rattle.statements.specs.working.Cursors.{reached, stopped, book_of, moved, Expected}
 use Rattle.statements.specs.working.Items.{kind_of}
 use Rattle.reader.specs.Read.{placed}
-use Rattle.reader.specs.working.Clauses.{grown, Listing, list_at, Noted, NamesSay}
+use Rattle.reader.specs.working.Clauses.{Declared, reached_with, grown, Listing, list_at, Noted, NamesSay}
 use Rattle.statements.specs.working.Sequences.{pair_of, pairing, signed_by}
 use Rattle.reader.specs.working.Whole.{head_reader, head_at, heads_at, Heads, HeadsSay}
 use Rattle.lexer.proofs.Lexing.{Tokened}
 use Rattle.statements.proofs.StoredCode.{then_bad}
-use Rattle.statements.proofs.Moves.{Past, expected_said, is-past}
+use Rattle.statements.proofs.Moves.{Past, is-past}
 use Rattle.statements.proofs.Sequences.{expected_ok, expected_bad}
 use Rattle.reader.proofs.NameLists.{placed-append, named-same, named_behind, grown-names, listed_ok, listed_bad}
 
@@ -44,7 +42,7 @@ onto d z = moved d.next z z.items z.nodes z.stars
 past-listing : (text names : List ℕ) (l : Ledger) (rows : Bool) (c d : Cursor) → Listing text names l rows c → Past text c c.items c.nodes c.stars d → Listing text names l rows d
 past-listing text names l rows c d g q = record { fits = g.fits; fresh = q.next.fresh; long = g.long; shared = g.shared; row = g.row; few = g.few; commands = g.commands; order = g.order }
 
-module _ (text names : List ℕ) (l : Ledger) (rows : Bool) (kind : ℕ) (c : Cursor) (g : Listing text names l rows c) (small : kind < 24) (sign : Parsed) (h : Expected text c kind sign) where
+module _ (text names : List ℕ) (l : Ledger) (rows : Bool) (kind : ℕ) (c : Cursor) (g : Listing text names l rows c) (small : kind < 24) where
   abbrev At : Got (List Name)
   At = head_at text names l rows kind c
 
@@ -55,18 +53,14 @@ module _ (text names : List ℕ) (l : Ledger) (rows : Bool) (kind : ℕ) (c : Cu
   abbrev inside : List Lexeme → Book → Got (List Name)
   inside ts b = signed_by (length text) 18 (reader (length text) (T.names (kind_of rows)) ts b)
 
-  pub head_bad : (n i : ℕ) → sign ≡ Refused n i → SaysAt names (D.Refused n i)
+  pub head_bad : (q : Refusal) → Expected text c kind (Err q) → SaysAt names (Err q)
   unfolding NamesSay
-  head_bad n i f = (
-    then_bad (λ u ts b. inside ts b) refl
-        (expected_bad text names l c kind n i g.fresh (expected_said text c kind sign (Refused n i) h f)),
+  head_bad q h = (
+    then_bad (λ u ts b. inside ts b) q refl (expected_bad text names l c kind q g.fresh h),
     named-same refl,
   )
 
-  module _ (v : Cursor) (f : sign ≡ Ok v) where
-    there : Expected text c kind (Ok v)
-    there = expected_said text c kind sign (Ok v) h f
-
+  module _ (v : Cursor) (there : Expected text c kind (Ok v)) where
     pub sign-listing : Listing text names l rows v
     unfolding Expected
     sign-listing = past-listing text names l rows c v g (is-past there.1)
@@ -78,31 +72,28 @@ module _ (text names : List ℕ) (l : Ledger) (rows : Bool) (kind : ℕ) (c : Cu
     goes : At ≡ signed_by (length text) 18 listed-names
     goes = ap (λ (o : Got (Unit {0})). then_reads o (λ u ts b. inside ts b)) (expected_ok text names l c kind v small there)
 
-    module _ (m : List ℕ) (list : Declared) (q : NamesSay text names l rows v listed-names m list) where
-      pub list_bad : (n i : ℕ) → list ≡ D.Refused n i → SaysAt m list
+    module _ (m : List ℕ) where
+      pub list_bad : (q : Refusal) → NamesSay text names l rows v listed-names m (Err q) → SaysAt m (Err q)
       unfolding NamesSay
-      list_bad n i e =
-          let k = listed_bad text names l rows v listed-names m list q n i e in
-          subst (λ (x : Declared). SaysAt m x) (sym e) (goes ∙ ap (signed_by (length text) 18) k.0, k.1)
+      list_bad q k = (goes ∙ ap (signed_by (length text) 18) k.0, k.1)
 
-      module _ (a : Cursor) (l' : Ledger) (e : list ≡ D.Ok a l') (end : Parsed) (k : Expected text a 18 end) where
+      module _ (a : Cursor) (l' : Ledger) (h : NamesSay text names l rows v listed-names m (Ok (a, l'))) where
         noted : Noted text names l rows v listed-names m a l'
-        noted = listed_ok text names l rows v listed-names m list q a l' e
+        noted = listed_ok text names l rows v listed-names m a l' h
 
         ends : (o : Got (Unit {0})) → reader (length text) (T.lit 18) (listed text a.next) (book_of text m l' a) ≡ o → At ≡ then_reads o (λ u ts b. got noted.tree ts b)
         ends o x = goes ∙ ap (signed_by (length text) 18) noted.says ∙ ap (λ (y : Got (Unit {0})). then_reads y (λ u ts b. got noted.tree ts b)) x
 
-        pub end_bad : (n i : ℕ) → end ≡ Refused n i → SaysAt m (D.Refused n i)
+        end_bad : (q : Refusal) → Expected text a 18 (Err q) → SaysAt m (Err q)
         unfolding NamesSay
-        end_bad n i x = (
-          ends (stop n i) (expected_bad text m l' a 18 n i noted.listing.fresh (expected_said text a 18 end (Refused n i) k x)),
+        end_bad q k = (
+          ends (stopped q) (expected_bad text m l' a 18 q noted.listing.fresh k),
           record { names = noted.tree; is = noted.stored },
         )
 
-        pub end_ok : (d : Cursor) → end ≡ Ok d → SaysAt m (D.Ok d l')
+        end_ok : (d : Cursor) → Expected text a 18 (Ok d) → SaysAt m (Ok (d, l'))
         unfolding NamesSay Expected
-        end_ok d x =
-            let last : Expected text a 18 (Ok d) = expected_said text a 18 end (Ok d) k x in
+        end_ok d last =
             let first : Past text c c.items c.nodes c.stars v = is-past there.1 in
             let next : Past text a a.items a.nodes a.stars d = is-past last.1 in
             record {
@@ -115,6 +106,11 @@ module _ (text names : List ℕ) (l : Ledger) (rows : Bool) (kind : ℕ) (c : Cu
               same = next.is ∙ ap (onto d) (noted.same ∙ ap (onto a) first.is);
               listing = past-listing text m l' rows a d noted.listing next;
             }
+
+        -- The full stop is there, or missing.
+        pub end_says : (y : Result (Unit {0}) Refusal) (d : Cursor) → Expected text a 18 (reached y d) → SaysAt m (reached_with y d l')
+        end_says (Ok u) d k = end_ok d k
+        end_says (Err q) d k = end_bad q k
 
 -- ---- the shared names and the row names
 
@@ -136,16 +132,16 @@ module _ (text names : List ℕ) (first : Piece) (t : Tokened text 0 first) wher
   unfolding names_kept words_in
   heads_are = ap (λ (ts : List Lexeme). pairing (head_reader (length text) false 0 ts blank_book) row) t.tokens
 
-  module _ (m : List ℕ) (one : Declared) (q : NamesSay text names bare false front shared m one) where
-    pub shared_bad : (n i : ℕ) → one ≡ D.Refused n i → HeadsSay text names m one
+  module _ (m : List ℕ) where
+    pub shared_bad : (q : Refusal) → NamesSay text names bare false front shared m (Err q) → HeadsSay text names m (Err q)
     unfolding HeadsSay
-    shared_bad n i e =
-        let k = listed_bad text names bare false front shared m one q n i e in
-        subst (λ (x : Declared). HeadsSay text names m x) (sym e) (heads_are ∙ ap (λ (o : Got (List Name)). pairing o row) k.0, k.1)
+    shared_bad q h =
+        let k = listed_bad text names bare false front shared m q h in
+        (heads_are ∙ ap (λ (o : Got (List Name)). pairing o row) k.0, k.1)
 
-    module _ (a : Cursor) (l : Ledger) (e : one ≡ D.Ok a l) where
+    module _ (a : Cursor) (l : Ledger) (h : NamesSay text names bare false front shared m (Ok (a, l))) where
       noted_shared : Noted text names bare false front shared m a l
-      noted_shared = listed_ok text names bare false front shared m one q a l e
+      noted_shared = listed_ok text names bare false front shared m a l h
 
       abbrev ws : List Name
       ws = noted_shared.tree
@@ -195,8 +191,8 @@ module _ (text names : List ℕ) (first : Piece) (t : Tokened text 0 first) wher
 
       pub heads_say : (m' : List ℕ) (y : Declared) → NamesSay text m l true a (head_at text m l true 1 a) m' y → HeadsSay text names m' y
       unfolding NamesSay HeadsSay
-      heads_say m' (D.Ok d l') r = both m' d l' r
-      heads_say m' (D.Refused n i) r = (
-        then_bad (λ vs ts b. got (pair_of ws vs) ts b) after-shared r.0,
+      heads_say m' (Ok (d, l')) r = both m' d l' r
+      heads_say m' (Err q) r = (
+        then_bad (λ vs ts b. got (pair_of ws vs) ts b) q after-shared r.0,
         named_behind names m m' 0 (l.shared + l.row) ws noted_shared.stored many r.1,
       )

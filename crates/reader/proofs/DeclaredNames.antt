@@ -1,5 +1,6 @@
 -- A name to declare: what the rules say of it, by the look-up and the counts, and the names and the book with one name more.
 -- Assumes nothing.
+use Rattle.std.specs.Prelude.{Ok, Err}
 use mathlib.Core.Path.{◌≡◌, refl, sym, ap, ◌∙◌, subst}
 use mathlib.Core.Bool.{Bool, true, false, cond}
 use mathlib.Core.List.{List, [], ◌∷◌, ◌++◌, map-append, append-nil, append_assoc}
@@ -19,11 +20,14 @@ use Rattle.notation.specs.working.Descent.{got, ruling}
 use Rattle.lexer.specs.declared.pieces.Piece.{Piece}
 use Rattle.statements.specs.declared.cursor.Cursor.{Cursor}
 use Rattle.statements.specs.declared.cursor.Ledger.{Ledger}
-use Rattle.reader.specs.declared.clauses.Declared.TheVariants as D
+use Rattle.refusals.specs.declared.Reason.{Reason}
+use Rattle.refusals.specs.declared.Reason.TheVariants.{Redeclared, TooMany}
+use Rattle.refusals.specs.declared.Refusal.{Refusal}
+use Rattle.refusals.specs.Reasons.{number_of}
 use Rattle.lexer.specs.working.Pieces.{name_in, listed, piece_at}
 use Rattle.lexer.specs.working.Names.{words_in}
 use Rattle.statements.specs.working.Names.{shared_words, row_words, kinded, names_kept}
-use Rattle.statements.specs.working.Cursors.{book_of, moved}
+use Rattle.statements.specs.working.Cursors.{refused_at, stopped, book_of, moved}
 use Rattle.statements.specs.working.Items.{kind_of}
 use Rattle.reader.specs.Read.{placed}
 use Rattle.reader.specs.working.Clauses.{grown, Listing, name_at, NameSays}
@@ -117,9 +121,9 @@ module _ (text names : List ℕ) (l : Ledger) (rows : Bool) (c : Cursor) (g : Li
 
   -- ---- the answers
 
-  refuses : (k : ℕ) → fault B role ≡ some k → NameSays text names l rows c names (D.Refused k t.start)
+  refuses : (q : Reason) (r : Refusal) → r ≡ refused_at q t → fault B role ≡ some (number_of q) → NameSays text names l rows c names (Err r)
   unfolding NameSays name_at
-  refuses k e = (ap (λ (o : Option ℕ). ruling t.start o (got w rest (note B role))) e, refl)
+  refuses q r z e = (ap (λ (o : Option ℕ). ruling t.start o (got w rest (note B role))) e ∙ ap stopped (sym z), refl)
 
   -- the look-up ended at i
   module _ (i : ℕ) (h : i ≡ 0 + place_of w.word (words_in text names 0 (n - 0))) where
@@ -128,21 +132,25 @@ module _ (text names : List ℕ) (l : Ledger) (rows : Bool) (c : Cursor) (g : Li
         let e : n + l.commands ≡ n - 0 = omega (arith, g.commands) in
         any_name text names l w.word ∙ ap (λ (k : ℕ). among w.word (words_in text names 0 k)) e ∙ found_among text names w.word n 0 ∙ ap (λ (k : ℕ). ltb k n) (sym h)
 
-    pub name-again : i < n → NameSays text names l rows c names (D.Refused 4 t.start)
-    name-again a = refuses 4 (declares-again text names l c rows w (looked ∙ lt-ltb i n a))
+    pub name-again : (r : Refusal) → r ≡ refused_at Redeclared t → i < n → NameSays text names l rows c names (Err r)
+    unfolding number_of
+    name-again r z a = refuses Redeclared r z (declares-again text names l c rows w (looked ∙ lt-ltb i n a))
 
     module _ (a : n ≤ i) where
       new : has (names_kept text names l) (λ s. true) w.word ≡ false
       new = looked ∙ le-ltb i n a
 
-      pub name-many : 12 ≤ n → NameSays text names l rows c names (D.Refused 7 t.start)
-      name-many k = refuses 7 (declares-many text names l c rows w new k)
+      pub name-many : (r : Refusal) → r ≡ refused_at TooMany t → 12 ≤ n → NameSays text names l rows c names (Err r)
+      unfolding number_of
+      name-many r z k = refuses TooMany r z (declares-many text names l c rows w new k)
 
-      pub row_full : rows ≡ true → 10 ≤ l.row → NameSays text names l rows c names (D.Refused 7 t.start)
-      row_full e k = refuses 7 (declares_full text names l c rows w new (rw e k))
+      pub row_full : (r : Refusal) → r ≡ refused_at TooMany t → rows ≡ true → 10 ≤ l.row → NameSays text names l rows c names (Err r)
+      unfolding number_of
+      row_full r z e k = refuses TooMany r z (declares_full text names l c rows w new (rw e k))
 
-      pub shared_full : rows ≡ false → 8 ≤ l.shared → NameSays text names l rows c names (D.Refused 7 t.start)
-      shared_full e k = refuses 7 (declares_full text names l c rows w new (rw e k))
+      pub shared_full : (r : Refusal) → r ≡ refused_at TooMany t → rows ≡ false → 8 ≤ l.shared → NameSays text names l rows c names (Err r)
+      unfolding number_of
+      shared_full r z e k = refuses TooMany r z (declares_full text names l c rows w new (rw e k))
 
       module _ (k : n < 12) (d : Cursor) (z : d ≡ moved (piece_at text c.next.end) c c.items c.nodes c.stars) (m : List ℕ) (s : m ≡ more) where
         q : Past text c c.items c.nodes c.stars d
@@ -179,14 +187,14 @@ module _ (text names : List ℕ) (l : Ledger) (rows : Bool) (c : Cursor) (g : Li
               order = o;
             }
 
-        name-declared : (l' : Ledger) → l' ≡ grown rows 1 l → cond rows l.row l.shared < cond rows 10 8 → NameSays text names l rows c m (D.Ok d l')
+        name-declared : (l' : Ledger) → l' ≡ grown rows 1 l → cond rows l.row l.shared < cond rows 10 8 → NameSays text names l rows c m (Ok (d, l'))
         unfolding NameSays
         name-declared l' e f =
-            subst (λ (x : List ℕ). NameSays text names l rows c x (D.Ok d l')) (sym s)
-            (subst (λ (x : Ledger). NameSays text names l rows c more (D.Ok d x)) (sym e) (declared f, (placed_one, (refl, (z, listing-more f)))))
+            subst (λ (x : List ℕ). NameSays text names l rows c x (Ok (d, l'))) (sym s)
+            (subst (λ (x : Ledger). NameSays text names l rows c more (Ok (d, x))) (sym e) (declared f, (placed_one, (refl, (z, listing-more f)))))
 
-        pub row-declared : rows ≡ true → l.row < 10 → NameSays text names l rows c m (D.Ok d (record { shared = l.shared; row = l.row + 1; commands = l.commands }))
+        pub row-declared : rows ≡ true → l.row < 10 → NameSays text names l rows c m (Ok (d, record { shared = l.shared; row = l.row + 1; commands = l.commands }))
         row-declared e f = name-declared _ (grown-row rows l e) (rw e f)
 
-        pub shared-declared : rows ≡ false → l.shared < 8 → NameSays text names l rows c m (D.Ok d (record { shared = l.shared + 1; row = l.row; commands = l.commands }))
+        pub shared-declared : rows ≡ false → l.shared < 8 → NameSays text names l rows c m (Ok (d, record { shared = l.shared + 1; row = l.row; commands = l.commands }))
         shared-declared e f = name-declared _ (grown-shared rows l e) (rw e f)

@@ -1,6 +1,7 @@
 -- Names to declare, one after the other: what the loop that reads them has still to do gives what all of it gave where it began.
 -- Assumes nothing.
-use mathlib.Core.Path.{◌≡◌, refl, sym, ap, ◌∙◌, subst}
+use Rattle.std.specs.Prelude.{Ok, Err}
+use mathlib.Core.Path.{◌≡◌, refl, sym, ap, ◌∙◌}
 use mathlib.Core.Bool.{Bool, true, false, cond}
 use mathlib.Core.List.{List, [], ◌∷◌, ◌++◌, map-append, append-nil, append_assoc}
 use Prim.Native.Nat.{ℕ, suc, ◌+◌, ◌-◌, ◌<◌}
@@ -15,11 +16,11 @@ use Rattle.notation.specs.working.Descent.{Got, got, stop, then_reads, reader, s
 use Rattle.notation.proofs.Readers.{reader_token, then_ruling}
 use Rattle.statements.specs.declared.cursor.Cursor.{Cursor}
 use Rattle.statements.specs.declared.cursor.Ledger.{Ledger}
-use Rattle.reader.specs.declared.clauses.Declared.{Declared}
-use Rattle.reader.specs.declared.clauses.Declared.TheVariants as D
+use Rattle.refusals.specs.declared.Refusal.{Refusal}
+use Rattle.lexer.specs.working.Kinds.{kind_number}
 use Rattle.lexer.specs.working.Pieces.{name_in, listed}
 use Rattle.statements.specs.working.Names.{shared_words, row_words}
-use Rattle.statements.specs.working.Cursors.{book_of, moved}
+use Rattle.statements.specs.working.Cursors.{stopped, book_of, moved}
 use Rattle.statements.specs.working.Items.{kind_of}
 use Rattle.reader.specs.Read.{placed}
 use Rattle.reader.specs.working.Clauses.{grown, Listing, name_at, list_at, Noted, WroteNames, NameSays, NamesSay}
@@ -87,11 +88,11 @@ module _ (text : List ℕ) (rows : Bool) where
   all g = then_reads g (λ w ts b. after (w ∷ []) (reader (length text) (T.names (kind_of rows)) ts b))
 
   module _ (names : List ℕ) (l : Ledger) (c : Cursor) where
-    list_turn : c.next.kind ≡ 24 → list_at text names l rows c ≡ all (name_at text names l rows c)
+    list_turn : kind_number c.next.kind ≡ 24 → list_at text names l rows c ≡ all (name_at text names l rows c)
     unfolding name_at sequence find lines skips
     list_turn u = rw (listed-name text c.next u, reader_token (length text) (T.names (kind_of rows))) (simp then_ruling)
 
-    list-stops : (c.next.kind ≡ 24 → ⊥) → list_at text names l rows c ≡ got [] (listed text c.next) (book_of text names l c)
+    list-stops : (kind_number c.next.kind ≡ 24 → ⊥) → list_at text names l rows c ≡ got [] (listed text c.next) (book_of text names l c)
     unfolding find lines skips
     list-stops u = passed_by text c.next (T.names (kind_of rows)) (length text) (book_of text names l c) refl refl (λ z. absurd (u z))
 
@@ -122,7 +123,7 @@ module _ (text : List ℕ) (rows : Bool) where
     abbrev ws : List Name
     ws = h.noted.tree
 
-    pub rest-stop : (c.next.kind ≡ 24 → ⊥) → NamesSay text names₀ l₀ rows c₀ (list_at text names₀ l₀ rows c₀) names (D.Ok c l)
+    pub rest-stop : (kind_number c.next.kind ≡ 24 → ⊥) → NamesSay text names₀ l₀ rows c₀ (list_at text names₀ l₀ rows c₀) names (Ok (c, l))
     unfolding NamesSay
     rest-stop u = record {
       tree = ws;
@@ -135,18 +136,15 @@ module _ (text : List ℕ) (rows : Bool) where
       listing = h.noted.listing;
     }
 
-    module _ (u : c.next.kind ≡ 24) (m : List ℕ) (one : Declared) (s : NameSays text names l rows c m one) where
+    module _ (u : kind_number c.next.kind ≡ 24) (m : List ℕ) where
       goes : list_at text names₀ l₀ rows c₀ ≡ after ws (all (name_at text names l rows c))
       goes = h.says ∙ ap (after ws) (list_turn names l c u)
 
-      pub rest_bad : (n i : ℕ) → one ≡ D.Refused n i → NamesSay text names₀ l₀ rows c₀ (list_at text names₀ l₀ rows c₀) m one
+      pub rest_bad : (r : Refusal) → NameSays text names l rows c m (Err r) → NamesSay text names₀ l₀ rows c₀ (list_at text names₀ l₀ rows c₀) m (Err r)
       unfolding NameSays NamesSay
-      rest_bad n i e =
-          let k : NameSays text names l rows c m (D.Refused n i) = subst (λ (x : Declared). NameSays text names l rows c m x) e s in
-          subst (λ (x : Declared). NamesSay text names₀ l₀ rows c₀ (list_at text names₀ l₀ rows c₀) m x) (sym e)
-          (goes ∙ ap (λ (g : Got Name). after ws (all g)) k.0, record { names = ws; is = k.1 ∙ h.noted.stored })
+      rest_bad r k = (goes ∙ ap (λ (g : Got Name). after ws (all g)) k.0, record { names = ws; is = k.1 ∙ h.noted.stored })
 
-      module _ (d : Cursor) (l' : Ledger) (e : one ≡ D.Ok d l') where
+      module _ (d : Cursor) (l' : Ledger) (said : NameSays text names l rows c m (Ok (d, l'))) where
         abbrev w : Name
         w = name_in text c.next
 
@@ -155,9 +153,6 @@ module _ (text : List ℕ) (rows : Bool) where
 
         abbrev n₀ : ℕ
         n₀ = l₀.shared + l₀.row
-
-        said : NameSays text names l rows c m (D.Ok d l')
-        said = subst (λ (x : Declared). NameSays text names l rows c m x) e s
 
         many : n ≡ n₀ + length ws
         many = ap (λ (x : Ledger). x.shared + x.row) h.noted.ledger ∙ grown-names rows (length ws) l₀
@@ -196,11 +191,11 @@ module _ (text : List ℕ) (rows : Bool) where
 
 -- ---- the answer of a list, taken apart
 
-module _ (text names : List ℕ) (l : Ledger) (rows : Bool) (c : Cursor) (g : Got (List Name)) (m : List ℕ) (r : Declared) (h : NamesSay text names l rows c g m r) where
-  pub listed_ok : (d : Cursor) (l' : Ledger) → r ≡ D.Ok d l' → Noted text names l rows c g m d l'
+module _ (text names : List ℕ) (l : Ledger) (rows : Bool) (c : Cursor) (g : Got (List Name)) (m : List ℕ) where
+  pub listed_ok : (d : Cursor) (l' : Ledger) → NamesSay text names l rows c g m (Ok (d, l')) → Noted text names l rows c g m d l'
   unfolding NamesSay
-  listed_ok d l' e = subst (λ (x : Declared). NamesSay text names l rows c g m x) e h
+  listed_ok d l' h = h
 
-  pub listed_bad : (n i : ℕ) → r ≡ D.Refused n i → (g ≡ stop n i) × WroteNames (l.shared + l.row) names m
+  pub listed_bad : (r : Refusal) → NamesSay text names l rows c g m (Err r) → (g ≡ stopped r) × WroteNames (l.shared + l.row) names m
   unfolding NamesSay
-  listed_bad n i e = subst (λ (x : Declared). NamesSay text names l rows c g m x) e h
+  listed_bad r h = h

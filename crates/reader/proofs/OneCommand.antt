@@ -1,5 +1,6 @@
 -- A command: its title and its body, and what is stored of it.
 -- Assumes nothing.
+use Rattle.std.specs.Prelude.{false, Ok, Err}
 use mathlib.Core.Path.{◌≡◌, refl, sym, ap, ◌∙◌, subst}
 use mathlib.Core.List.{List, [], ◌∷◌, append_assoc, append-nil}
 use Prim.Native.Nat.{ℕ, ◌+◌, ◌*◌, ◌≤◌, ◌<◌}
@@ -13,10 +14,7 @@ use Rattle.notation.specs.Layout.{command_code, ends_from, joined}
 use Rattle.notation.specs.working.Descent.{Got, got, then_reads}
 use Rattle.statements.specs.declared.cursor.Cursor.{Cursor}
 use Rattle.statements.specs.declared.cursor.Ledger.{Ledger}
-use Rattle.statements.specs.declared.cursor.Parsed.{Parsed}
-use Rattle.statements.specs.declared.cursor.Parsed.TheVariants.{Ok, Refused}
-use Rattle.reader.specs.declared.clauses.Declared.{Declared}
-use Rattle.reader.specs.declared.clauses.Declared.TheVariants as D
+use Rattle.refusals.specs.declared.Refusal.{Refusal}
 use Rattle.lexer.specs.working.Pieces.{listed}
 use Rattle.statements.specs.working.Names.{shared_words, row_words}
 use Rattle.statements.specs.working.Cursors.{book_of, Ready, Done}
@@ -49,28 +47,26 @@ placed-length names j n = simp length-set
 
 -- The code of a body is that of the command, and its stars are the command's.
 module _ (text names : List ℕ) (l : Ledger) (n : Name) (v : Tested Item) where
-  body-words : (tested_words text names l (items_words text names l) 0 v).is ≡ command_words (shared_words text names l) (row_words text names l) l.shared (made n v)
+  body-words : (tested_words text names l (items_words text names l false) 0 v).is ≡ command_words (shared_words text names l) (row_words text names l) l.shared (made n v)
   unfolding expr_words items_words command_of command_code
   body-words = simp append_assoc
 
-  body-stars : (tested_words text names l (items_words text names l) 0 v).next ≡ stars_in (shared_words text names l) (row_words text names l) (made n v)
+  body-stars : (tested_words text names l (items_words text names l false) 0 v).next ≡ stars_in (shared_words text names l) (row_words text names l) (made n v)
   unfolding expr_words items_words
   body-stars = refl
 
-module _ {text names : List ℕ} {l : Ledger} {c : Cursor} (g : Naming text names l c) {titled : Declared} (names' : List ℕ) (h : TitleSays text names l c names' titled) where
-  pub title-refused : (ops ends stars : List ℕ) {n i : ℕ} → titled ≡ D.Refused n i → CommandsSay text l c (arrays names ops ends stars) (one_at text names l c) (arrays names' ops ends stars) titled
+module _ {text names : List ℕ} {l : Ledger} {c : Cursor} (g : Naming text names l c) (names' : List ℕ) where
+  pub title-refused : (ops ends stars : List ℕ) (q : Refusal) → TitleSays text names l c names' (Err q) → CommandsSay text l c (arrays names ops ends stars) (one_at text names l c) (arrays names' ops ends stars) (Err q)
   unfolding TitleSays CommandsSay
-  title-refused ops ends stars {n} {i} e =
-      let k : TitleSays text names l c names' (D.Refused n i) = subst (λ (z : Declared). TitleSays text names l c names' z) e h in
-      subst (λ (z : Declared). CommandsSay text l c (arrays names ops ends stars) (one_at text names l c) (arrays names' ops ends stars) z) (sym e) (
-        ap (λ (o : Got Name). then_reads (then_reads o (λ n ts b. then_reads (body_reader (length text) ts b) (λ v ts b. got (made n v) ts b))) (λ x ts b. got (x ∷ []) ts b)) k.0,
-        record { names = named-same k.1; ops = wrote_none; ends = wrote_none; stars = wrote_none },
-      )
+  title-refused ops ends stars q k = (
+    ap (λ (o : Got Name). then_reads (then_reads o (λ n ts b. then_reads (body_reader (length text) ts b) (λ v ts b. got (made n v) ts b))) (λ x ts b. got (x ∷ []) ts b)) k.0,
+    record { names = named-same k.1; ops = wrote_none; ends = wrote_none; stars = wrote_none },
+  )
 
-  module _ {d : Cursor} {l' : Ledger} (e : titled ≡ D.Ok d l') where
+  module _ (d : Cursor) (l' : Ledger) (h : TitleSays text names l c names' (Ok (d, l'))) where
     abbrev T : Titled text names l c names' d l'
     unfolding TitleSays
-    T = subst (λ (z : Declared). TitleSays text names l c names' z) e h
+    T = h
 
     same : d ≡ record { next = d.next; emitted = c.emitted; items = c.items; nodes = c.nodes; stars = 0 }
     same = T.same
@@ -99,21 +95,21 @@ module _ {text names : List ℕ} {l : Ledger} {c : Cursor} (g : Naming text name
     from_place_lem : d.emitted ≡ c.emitted
     from_place_lem = ap (λ (z : Cursor). z.emitted) same
 
-    pub body_refused : (ends stars : List ℕ) {ops ops' : List ℕ} {read : Parsed} {n i : ℕ} → BodySays text names' l' d ops ops' read → read ≡ Refused n i →
-        CommandsSay text l c (arrays names ops ends stars) (one_at text names l c) (arrays names' ops' ends stars) (D.Refused n i)
+    pub body_refused : (ends stars : List ℕ) {ops ops' : List ℕ} {q : Refusal} → BodySays text names' l' d ops ops' (Err q) →
+        CommandsSay text l c (arrays names ops ends stars) (one_at text names l c) (arrays names' ops' ends stars) (Err q)
     unfolding CommandsSay
-    body_refused ends stars b f =
-        let k = said_bad b f in (
+    body_refused ends stars b =
+        let k = said_bad b in (
           titled_is ∙ ap (λ (o : Got (Tested Item)). then_reads (then_reads o (λ v ts b. got (made T.tree v) ts b)) (λ x ts b. got (x ∷ []) ts b)) k.0,
           record { names = record { names = T.tree ∷ []; is = T.stored }; ops = wrote_from from_place_lem k.1; ends = wrote_none; stars = wrote_none },
         )
 
-    module _ {ops ops' : List ℕ} {read : Parsed} {v : Cursor} (b : BodySays text names' l' d ops ops' read) (f : read ≡ Ok v) where
+    module _ {ops ops' : List ℕ} {v : Cursor} (b : BodySays text names' l' d ops ops' (Ok v)) where
       abbrev W : ℕ → Tested Item → Numbered (List ℕ)
-      W = tested_words text names' l' (items_words text names' l')
+      W = tested_words text names' l' (items_words text names' l' false)
 
       done : Done text names' l' W 3 d ops body ops' v
-      done = said_ok b f
+      done = said_ok b
 
       pub command-small : (v.emitted < 65536) × (v.stars < 65536)
       command-small = (omega (arith, title-ready.room, title-ready.commands, done.level, done.nodes, done.items), omega (arith, done.stars))
@@ -157,7 +153,7 @@ module _ {text names : List ℕ} {l : Ledger} {c : Cursor} (g : Naming text name
       ops_are = done.stored ∙ ap (λ (i : ℕ). sets ops i (W d.stars done.tree).is) from_place_lem ∙ ap (λ (z : List ℕ). sets ops c.emitted z) words_are_lem
 
       pub command-says : (ends stars : List ℕ) →
-          CommandsSay text l c (arrays names ops ends stars) (one_at text names l c) (arrays names' ops' (set ends (4 + l.commands) v.emitted) (set stars l.commands v.stars)) (D.Ok v l')
+          CommandsSay text l c (arrays names ops ends stars) (one_at text names l c) (arrays names' ops' (set ends (4 + l.commands) v.emitted) (set stars l.commands v.stars)) (Ok (v, l'))
       unfolding CommandsSay joined ends_from
       command-says ends stars = record {
         tree = x ∷ [];

@@ -1,6 +1,7 @@
 -- Segments, a sign and an expression each, and clauses, which are two segments and a full stop.
 -- Assumes nothing.
-use mathlib.Core.Path.{◌≡◌, refl, sym, ap, ◌∙◌, subst}
+use Rattle.std.specs.Prelude.{Ok, Err}
+use mathlib.Core.Path.{◌≡◌, refl, sym, ap, ◌∙◌}
 use mathlib.Core.Bool.{Bool, true, false}
 use mathlib.Core.List.{List, [], ◌∷◌}
 use Prim.Native.Nat.{ℕ, ◌+◌, ◌<◌}
@@ -16,22 +17,22 @@ use Rattle.notation.specs.Texts.{Numbered}
 use Rattle.notation.specs.working.Ledger.{Book}
 use Rattle.notation.specs.working.Table as T
 use Rattle.notation.specs.working.Table.{find, lines, skips}
-use Rattle.notation.specs.working.Descent.{Got, got, stop, then_reads, reader, sequence, or_reader}
+use Rattle.notation.specs.working.Descent.{Got, got, then_reads, reader, sequence, or_reader}
 use Rattle.notation.proofs.Readers.{reader_token, then_then, then_ruling}
 use Rattle.statements.specs.declared.cursor.Cursor.{Cursor}
 use Rattle.statements.specs.declared.cursor.Ledger.{Ledger}
 use Rattle.statements.specs.declared.cursor.Scope.{Scope}
-use Rattle.statements.specs.declared.cursor.Parsed.{Parsed}
-use Rattle.statements.specs.declared.cursor.Parsed.TheVariants.{Ok, Refused}
+use Rattle.refusals.specs.declared.Refusal.{Refusal}
+use Rattle.lexer.specs.working.Kinds.{kind_number}
 use Rattle.lexer.specs.working.Pieces.{listed}
-use Rattle.statements.specs.working.Cursors.{mode_of, book_of, Expected, Ready, Done, Wrote, Says}
+use Rattle.statements.specs.working.Cursors.{Parsed, stopped, mode_of, book_of, Expected, Ready, Done, Wrote, Says}
 use Rattle.statements.specs.working.Expressions.{expr_words, SaysExpr, or_at}
 use Rattle.reader.specs.working.Clauses.{fixed_in, segment_at, SegmentSays, clause_words, clause_ends, clause_at, ClauseSays}
 use Rattle.statements.proofs.Symbols.{listed-sign, missing, lit_missing}
-use Rattle.statements.proofs.StoredCode.{wrote_none, wrote_same, is_read_lem, is-refused, said_ok, said_bad, says_of, done_then, done-ready, then_bad}
-use Rattle.statements.proofs.Moves.{expected_said, is-past}
+use Rattle.statements.proofs.StoredCode.{wrote_none, wrote_same, said_ok, said_bad, says_of, done_then, done-ready, then_bad}
+use Rattle.statements.proofs.Moves.{is-past}
 use Rattle.statements.specs.working.Sequences.{Pair, pair_of, paired, pairing, signed_by}
-use Rattle.statements.proofs.Sequences.{expected_ok, expected_bad, pair_done, pair_bad, says_map, says-sign, says-from}
+use Rattle.statements.proofs.Sequences.{expected_ok, expected_bad, pair_done, pair_bad, says_map, says-sign, says-from, says-behind}
 
 -- ---- a segment
 
@@ -43,31 +44,28 @@ module _ (text names : List ℕ) (l : Ledger) (rows : Bool) (kind i : ℕ) (c : 
   SaysAt = SegmentSays text names l rows kind i c p e
 
   -- An answer taken apart by what it is, and a refusal as an answer.
-  segment_ok : (a e' : List ℕ) (y : Parsed) (d : Cursor) → SaysAt a e' y → y ≡ Ok d → Done text names l (expr_words text names l) 0 c p At a d × (e' ≡ set e i d.emitted)
+  segment_ok : (a e' : List ℕ) (d : Cursor) → SaysAt a e' (Ok d) → Done text names l (expr_words text names l) 0 c p At a d × (e' ≡ set e i d.emitted)
   unfolding SegmentSays
-  segment_ok a e' y d h f = subst (λ (z : Parsed). SaysAt a e' z) f h
+  segment_ok a e' d h = h
 
-  segment_bad : (a e' : List ℕ) (y : Parsed) (n j : ℕ) → SaysAt a e' y → y ≡ Refused n j → (At ≡ stop n j) × (Wrote c.emitted p a × (e' ≡ e))
+  segment_bad : (a e' : List ℕ) (q : Refusal) → SaysAt a e' (Err q) → (At ≡ stopped q) × (Wrote c.emitted p a × (e' ≡ e))
   unfolding SegmentSays
-  segment_bad a e' y n j h f = subst (λ (z : Parsed). SaysAt a e' z) f h
+  segment_bad a e' q h = h
 
-  segment-stops : (a : List ℕ) (y : Parsed) (n j : ℕ) → y ≡ Refused n j → At ≡ stop n j → Wrote c.emitted p a → SaysAt a e y
+  segment-stops : (a : List ℕ) (q : Refusal) → At ≡ stopped q → Wrote c.emitted p a → SaysAt a e (Err q)
   unfolding SegmentSays
-  segment-stops a y n j f h w = subst (λ (z : Parsed). SaysAt a e z) (sym f) (h, (w, refl))
+  segment-stops a q h w = (h, (w, refl))
 
-  module _ (r : Ready text l 0 c) (small : kind < 24) (sign : Parsed) (h : Expected text c kind sign) where
-    pub sign_bad : (n j : ℕ) → sign ≡ Refused n j → SaysAt p e sign
-    sign_bad n j f =
-        segment-stops p sign n j f
-        (then_bad (λ u ts b. or_reader (length text) (fixed_in rows) 0 ts b) refl (expected_bad text names l c kind n j r.fresh (expected_said text c kind sign (Refused n j) h f)))
+  module _ (r : Ready text l 0 c) (small : kind < 24) where
+    pub sign_bad : (q : Refusal) → Expected text c kind (Err q) → SaysAt p e (Err q)
+    sign_bad q h =
+        segment-stops p q
+        (then_bad (λ u ts b. or_reader (length text) (fixed_in rows) 0 ts b) q refl (expected_bad text names l c kind q r.fresh h))
         wrote_none
 
-    module _ (v : Cursor) (f : sign ≡ Ok v) where
+    module _ (v : Cursor) (there : Expected text c kind (Ok v)) where
       abbrev sc : Scope
       sc = record { rows = rows; stars = false }
-
-      there : Expected text c kind (Ok v)
-      there = expected_said text c kind sign (Ok v) h f
 
       mode_is : fixed_in rows ≡ mode_of sc
       mode_is = go rows
@@ -82,20 +80,18 @@ module _ (text names : List ℕ) (l : Ledger) (rows : Bool) (kind i : ℕ) (c : 
           ap (λ (o : Got (Unit {0})). then_reads o (λ u ts b. or_reader (length text) (fixed_in rows) 0 ts b)) (expected_ok text names l c kind v small there)
           ∙ ap (λ (m : Mode). or_reader (length text) m 0 (listed text v.next) (book_of text names l v)) mode_is
 
-      module _ (a : List ℕ) (read : Parsed) (q : SaysExpr text names l v p (or_at text names sc l 16 v) a read) where
-        signed_says : SaysExpr text names l c p At a read
+      module _ (a : List ℕ) where
+        pub read_bad : (q : Refusal) → SaysExpr text names l v p (or_at text names sc l 16 v) a (Err q) → SaysAt a e (Err q)
         unfolding Expected
-        signed_says =
-            says_of goes (says-from (is-past there.1) q (omega arith) (omega arith) (omega arith))
+        read_bad q h =
+            let s : SaysExpr text names l c p At a (Err q) = says-behind (is-past there.1) h (λ z. goes ∙ z) in
+            let k = said_bad s in
+            segment-stops a q k.0 k.1
 
-        pub read_bad : (n j : ℕ) → read ≡ Refused n j → SaysAt a e read
-        read_bad n j g =
-            let k = said_bad signed_says g in
-            segment-stops a read n j g k.0 k.1
-
-        module _ (d : Cursor) (g : read ≡ Ok d) where
+        module _ (d : Cursor) (h : SaysExpr text names l v p (or_at text names sc l 16 v) a (Ok d)) where
           done : Done text names l (expr_words text names l) 0 c p At a d
-          done = said_ok signed_says g
+          unfolding Expected
+          done = said_ok (says_of goes (says-from (is-past there.1) h (omega arith) (omega arith) (omega arith)))
 
           pub read_small : d.emitted < 65536
           read_small = omega (arith, r.room, r.commands, done.level, done.nodes, done.items)
@@ -130,53 +126,52 @@ module _ (text names : List ℕ) (l : Ledger) (kind i : ℕ) (c : Cursor) (r : R
   -- A clause is its two segments and a full stop; where its first sign is missing, both are refused alike.
   clause-is : clause_at text names l kind c ≡ ended both
   unfolding sequence find lines skips
-  clause-is = go (eqb c.next.kind kind) refl
+  clause-is = go (eqb (kind_number c.next.kind) kind) refl
     where
-      go : (x : Bool) → eqb c.next.kind kind ≡ x → clause_at text names l kind c ≡ ended both
+      go : (x : Bool) → eqb (kind_number c.next.kind) kind ≡ x → clause_at text names l kind c ≡ ended both
       go true u = rw (
-        listed-sign text c.next kind (eqb-true c.next.kind kind u) small,
+        listed-sign text c.next kind (eqb-true (kind_number c.next.kind) kind u) small,
         reader_token (length text) (T.clause kind),
         reader_token
             (length text) (T.lit kind),
         eq-eqb kind kind refl,
       ) (simp (then_ruling, then_then))
       go false u =
-          let k : (c.next.kind ≡ kind → ⊥) = eqb-false c.next.kind kind u in
-          missing text c.next (T.clause kind) (book_of text names l c) r.fresh refl (rw (ne_eqb kind c.next.kind (λ z. k (sym z))) refl) (λ z. refl)
+          let k : (kind_number c.next.kind ≡ kind → ⊥) = eqb-false (kind_number c.next.kind) kind u in
+          missing text c.next (T.clause kind) (book_of text names l c) r.fresh refl (rw (ne_eqb kind (kind_number c.next.kind) (λ z. k (sym z))) refl) (λ z. refl)
           ∙ ap (λ (o : Got (Unit {0})). ended (pairing (then_reads o (λ u ts b. or_reader (length text) fixed_shared 0 ts b)) each))
           (sym (lit_missing text c.next kind (book_of text names l c) r.fresh k))
 
-  clause-stops : (p e a e' : List ℕ) (y : Parsed) (n j : ℕ) → y ≡ Refused n j → both ≡ stop n j → Wrote c.emitted p a → Wrote i e e' →
-      ClauseSays text names l kind i c p e a e' y
+  clause-stops : (p e a e' : List ℕ) (q : Refusal) → both ≡ stopped q → Wrote c.emitted p a → Wrote i e e' → ClauseSays text names l kind i c p e a e' (Err q)
   unfolding ClauseSays
-  clause-stops p e a e' y n j f h w v = subst (λ (z : Parsed). ClauseSays text names l kind i c p e a e' z) (sym f) (clause-is ∙ ap ended h, (w, v))
+  clause-stops p e a e' q h w v = (clause-is ∙ ap ended h, (w, v))
 
-  module _ (p e a₁ e₁ : List ℕ) (whole : Parsed) (s₁ : SegmentSays text names l false kind i c p e a₁ e₁ whole) where
-    pub whole_bad : (n j : ℕ) → whole ≡ Refused n j → ClauseSays text names l kind i c p e a₁ e₁ whole
-    whole_bad n j f =
-        let k = segment_bad text names l false kind i c p e a₁ e₁ whole n j s₁ f in
-        clause-stops p e a₁ e₁ whole n j f (pair_bad each k.0) k.1.0 (wrote_same k.1.1 wrote_none)
+  module _ (p e a₁ e₁ : List ℕ) where
+    pub whole_bad : (q : Refusal) → SegmentSays text names l false kind i c p e a₁ e₁ (Err q) → ClauseSays text names l kind i c p e a₁ e₁ (Err q)
+    whole_bad q s =
+        let k = segment_bad text names l false kind i c p e a₁ e₁ q s in
+        clause-stops p e a₁ e₁ q (pair_bad each q k.0) k.1.0 (wrote_same k.1.1 wrote_none)
 
-    module _ (m : Cursor) (f₁ : whole ≡ Ok m) where
+    module _ (m : Cursor) (s₁ : SegmentSays text names l false kind i c p e a₁ e₁ (Ok m)) where
       -- What the first segment gave; the second follows below.
       first : Done text names l words 0 c p (segment_at text names l false kind c) a₁ m × (e₁ ≡ set e i m.emitted)
-      first = segment_ok text names l false kind i c p e a₁ e₁ whole m s₁ f₁
+      first = segment_ok text names l false kind i c p e a₁ e₁ m s₁
 
       pub middle_ready : Ready text l 0 m
       middle_ready = done-ready first.0 0 r
 
-      module _ (a₂ e₂ : List ℕ) (last : Parsed) (s₂ : SegmentSays text names l true 4 (i + 1) m a₁ e₁ a₂ e₂ last) where
-        pub each_bad : (n j : ℕ) → last ≡ Refused n j → ClauseSays text names l kind i c p e a₂ e₂ last
-        each_bad n j f =
-            let k = segment_bad text names l true 4 (i + 1) m a₁ e₁ a₂ e₂ last n j s₂ f in
-            clause-stops p e a₂ e₂ last n j f
+      module _ (a₂ e₂ : List ℕ) where
+        pub each_bad : (q : Refusal) → SegmentSays text names l true 4 (i + 1) m a₁ e₁ a₂ e₂ (Err q) → ClauseSays text names l kind i c p e a₂ e₂ (Err q)
+        each_bad q s =
+            let k = segment_bad text names l true 4 (i + 1) m a₁ e₁ a₂ e₂ q s in
+            clause-stops p e a₂ e₂ q
             (ap (λ (o : Got Expr). pairing o each) first.0.says ∙ ap (λ (o : Got Expr). then_reads o (λ v ts b. got (pair_of first.0.tree v) ts b)) k.0)
             (done_then first.0 k.1.0)
             (record { words = m.emitted ∷ []; is = k.1.1 ∙ first.1 })
 
-        module _ (d : Cursor) (f₂ : last ≡ Ok d) where
+        module _ (d : Cursor) (s₂ : SegmentSays text names l true 4 (i + 1) m a₁ e₁ a₂ e₂ (Ok d)) where
           second : Done text names l words 0 m a₁ (segment_at text names l true 4 m) a₂ d × (e₂ ≡ set e₁ (i + 1) d.emitted)
-          second = segment_ok text names l true 4 (i + 1) m a₁ e₁ a₂ e₂ last d s₂ f₂
+          second = segment_ok text names l true 4 (i + 1) m a₁ e₁ a₂ e₂ d s₂
 
           done_both : Done text names l (paired words words) 0 c p both a₂ d
           done_both = pair_done each first.0 second.0
@@ -203,10 +198,10 @@ module _ (text names : List ℕ) (l : Ledger) (kind i : ℕ) (c : Cursor) (r : R
 
           pub clause-says : (y : Parsed) → Expected text d 18 y → ClauseSays text names l kind i c p e a₂ e₂ y
           unfolding ClauseSays
-          clause-says (Refused n j) h =
-              let k = is-refused (says_all (Refused n j) h) in
+          clause-says (Err q) h =
+              let k = said_bad (says_all (Err q) h) in
               (k.0, (k.1, record { words = clause_ends text names l c.stars c.emitted tree; is = ends_are }))
           clause-says (Ok v) h =
-              let q = is_read_lem (says_all (Ok v) h) in
+              let q = said_ok (says_all (Ok v) h) in
               let same : q.tree ≡ tree = cc (q.says, tree_is v h) in
               record { done = q; ends = ends_are ∙ ap (λ (x : Clause). sets e i (clause_ends text names l c.stars c.emitted x)) (sym same) }

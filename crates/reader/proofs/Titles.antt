@@ -1,5 +1,6 @@
 -- `command` and its name: what the descent answers, and the name stored.
 -- Assumes nothing.
+use Rattle.std.specs.Prelude.{Ok, Err}
 use mathlib.Core.Path.{◌≡◌, refl, sym, ap, ◌∙◌}
 use mathlib.Core.Bool.{true, false}
 use mathlib.Core.List.{List, [], ◌∷◌, ◌++◌, append_assoc, map-append}
@@ -17,16 +18,19 @@ use Rattle.notation.specs.Texts.{place_of, among}
 use Rattle.notation.specs.working.Lexing.{tokens_from}
 use Rattle.notation.specs.working.Ledger.{Book, note, fault, tally, exceeds}
 use Rattle.notation.specs.working.Table.{title, find, lines, skips}
-use Rattle.notation.specs.working.Descent.{Got, got, stop, ruling, reader, sequence}
+use Rattle.notation.specs.working.Descent.{Got, got, ruling, reader, sequence}
 use Rattle.notation.proofs.Readers.{reader_token}
+use Rattle.lexer.specs.working.Kinds.{kind_number}
 use Rattle.lexer.specs.declared.pieces.Piece.{Piece}
 use Rattle.statements.specs.declared.cursor.Cursor.{Cursor}
 use Rattle.statements.specs.declared.cursor.Ledger.{Ledger}
-use Rattle.reader.specs.declared.clauses.Declared.TheVariants as D
-use Rattle.lexer.specs.working.Pieces.{name_in, listed, Fresh}
+use Rattle.refusals.specs.declared.Reason.TheVariants.{Redeclared, TooMany}
+use Rattle.refusals.specs.declared.Refusal.{Refusal}
+use Rattle.refusals.specs.Reasons.{number_of}
+use Rattle.lexer.specs.working.Pieces.{misplaced, name_in, listed, Fresh}
 use Rattle.lexer.specs.working.Names.{words_in}
 use Rattle.statements.specs.working.Names.{shared_words, row_words, command_words, names_kept}
-use Rattle.statements.specs.working.Cursors.{book_of}
+use Rattle.statements.specs.working.Cursors.{refused_at, stopped, book_of}
 use Rattle.reader.specs.Read.{placed}
 use Rattle.reader.specs.working.Commands.{with_commands, title_at, TitleSays}
 use Rattle.statements.proofs.Moves.{Past}
@@ -34,9 +38,9 @@ use Rattle.statements.proofs.Symbols.{listed-name, missing}
 use Rattle.lexer.proofs.Lookup.{piece_word, piece_length, found_among, with_name, words-kept, words-declared}
 use Rattle.statements.proofs.NameKinds.{any_name}
 
-pub title_bad : (text names : List ℕ) (l : Ledger) (c : Cursor) (n i : ℕ) → title_at text names l c ≡ stop n i → TitleSays text names l c names (D.Refused n i)
+pub title_bad : (text names : List ℕ) (l : Ledger) (c : Cursor) (r q : Refusal) → r ≡ q → title_at text names l c ≡ stopped q → TitleSays text names l c names (Err r)
 unfolding TitleSays
-title_bad text names l c n i h = (h, refl)
+title_bad text names l c r q e h = (h ∙ ap stopped (sym e), refl)
 
 -- ---- the name stored
 
@@ -100,14 +104,14 @@ module _ (text names : List ℕ) (l : Ledger) (c : Cursor) where
   unfolding note view tally elem name_counts
   note-title n = refl
 
-  title-is : (t : Piece) (b : Book) → t.kind ≡ 24 → reader (length text) title (listed text t) b
+  title-is : (t : Piece) (b : Book) → kind_number t.kind ≡ 24 → reader (length text) title (listed text t) b
       ≡ ruling t.start (fault b (part (declares command_name) (name (name_in text t))))
       (got (name_in text t) (tokens_from text t.end) (note b (part (declares command_name) (name (name_in text t)))))
   unfolding sequence find lines skips
   title-is t b u = rw (listed-name text t u, reader_token (length text) title) refl
 
-  pub title_full : 16 ≤ l.commands → title_at text names l c ≡ stop 7 c.next.start
-  unfolding title_at
+  pub title_full : 16 ≤ l.commands → title_at text names l c ≡ stopped (refused_at TooMany c.next)
+  unfolding title_at number_of
   title_full h = ap (λ (o : Option ℕ). ruling c.next.start o (reader (length text) title (tokens_from text c.next.end) (note B (part begins_command (sign 5))))) (begins_full (sign 5) h)
 
   module _ (h : l.commands < 16) (d : Cursor) (q : Past text c c.items c.nodes 0 d) where
@@ -116,11 +120,11 @@ module _ (text names : List ℕ) (l : Ledger) (c : Cursor) where
     title-goes = ap (λ (o : Option ℕ). ruling c.next.start o (reader (length text) title (tokens_from text c.next.end) (note B (part begins_command (sign 5))))) (begins-fits (sign 5) h)
         ∙ ap (λ (b : Book). reader (length text) title (tokens_from text c.next.end) b) (note-begins (sign 5)) ∙ ap (λ (ts : List Lexeme). reader (length text) title ts begun) q.next.tokens
 
-    pub title_missing : (d.next.kind ≡ 24 → ⊥) → title_at text names l c ≡ stop d.next.fault d.next.start
+    pub title_missing : (kind_number d.next.kind ≡ 24 → ⊥) → title_at text names l c ≡ stopped (misplaced d.next)
     unfolding skips find lines
     title_missing u = title-goes ∙ missing text d.next title begun q.next.fresh refl refl (λ z. absurd (u z))
 
-    module _ (u : d.next.kind ≡ 24) (n i : ℕ) (e : n ≡ l.shared + l.row + l.commands) (k : i ≡ 0 + place_of (name_in text d.next).word (words_in text names 0 (n - 0))) where
+    module _ (u : kind_number d.next.kind ≡ 24) (n i : ℕ) (e : n ≡ l.shared + l.row + l.commands) (k : i ≡ 0 + place_of (name_in text d.next).word (words_in text names 0 (n - 0))) where
       abbrev N : Name
       N = name_in text d.next
 
@@ -132,12 +136,13 @@ module _ (text names : List ℕ) (l : Ledger) (c : Cursor) where
       abbrev named : Got Name
       named = got N (tokens_from text d.next.end) (note begun (part (declares command_name) (name N)))
 
-      pub title_twice : i < n → title_at text names l c ≡ stop 4 d.next.start
+      pub title_twice : i < n → title_at text names l c ≡ stopped (refused_at Redeclared d.next)
+      unfolding number_of
       title_twice x = title-goes ∙ title-is d.next begun u ∙ ap (λ (o : Option ℕ). ruling d.next.start o named) (title-again N (declared-before ∙ lt-ltb i n x))
 
       pub title-says : n ≤ i → length names ≡ 56 → l.shared + l.row ≤ 12 → (v : Cursor) → Past text d d.items d.nodes d.stars v → (names' : List ℕ) →
           names' ≡ set (set names n d.next.start) (28 + n) (d.next.end - d.next.start)
-          → TitleSays text names l c names' (D.Ok v (record { shared = l.shared; row = l.row; commands = l.commands + 1 }))
+          → TitleSays text names l c names' (Ok (v, record { shared = l.shared; row = l.row; commands = l.commands + 1 }))
       unfolding TitleSays
       title-says x long few v p names' s =
           let stored : names' ≡ placed names n (N ∷ []) = s ∙ place-one text names d.next q.next.fresh long n in

@@ -19,15 +19,17 @@ use Rattle.notation.specs.working.Machine.{Outcome, read, refused, reading}
 use Rattle.notation.specs.working.Descent.{Got, got, stop, then_reads, taken, reader, sequence}
 use Rattle.notation.proofs.Descents.{follow, at_close, descent}
 use Rattle.notation.proofs.Readers.{reader_token, reader-end, reader_byte, then_then, then_ruling}
+use Rattle.refusals.specs.Reasons.{number_of}
+use Rattle.lexer.specs.working.Kinds.{kind_number}
 use Rattle.lexer.specs.declared.pieces.Piece.{Piece}
 use Rattle.statements.specs.declared.cursor.Cursor.{Cursor}
 use Rattle.statements.specs.declared.cursor.Ledger.{Ledger}
-use Rattle.lexer.specs.working.Pieces.{name_in, token_of, listed, Fresh}
+use Rattle.lexer.specs.working.Pieces.{misplaced, name_in, token_of, listed, Fresh}
 use Rattle.statements.specs.working.Cursors.{book_of}
 use Rattle.statements.specs.working.Sequences.{Pair, pairing}
 use Rattle.reader.specs.working.Whole.{head_reader, heads_reader, heads_at, clauses_at}
 use Rattle.reader.specs.working.Commands.{commands_at}
-use Rattle.statements.proofs.Symbols.{listed-sign, missing}
+use Rattle.statements.proofs.Symbols.{listed-sign, missing, fault_number}
 
 -- ---- symbols that begin with a sign of their own
 
@@ -97,13 +99,13 @@ module _ (text : List ℕ) where
       after-clauses : reading len (tokens text) ≡ closing (commands_rest len made (listed text d.next) (book_of text names l d))
       after-clauses = after_heads ∙ ap (λ (o : Got (Pair Clause Clause)). closing (then_reads o (λ k ts b. commands_rest len (λ xs. tree' v.one v.two k.one k.two xs) ts b))) e
 
-      pub command_missing : Fresh text d.next → (d.next.kind ≡ 5 → ⊥) → reading len (tokens text) ≡ refused d.next.fault d.next.start
+      pub command_missing : Fresh text d.next → (kind_number d.next.kind ≡ 5 → ⊥) → reading len (tokens text) ≡ refused (number_of (misplaced d.next).reason) d.next.start
       unfolding skips find lines
       command_missing f u =
           after-clauses ∙ ap (λ (o : Got Command). closing (then_reads o (λ x ts b. then_reads (reader len T.commands ts b) (λ xs ts b. got (made (x ∷ xs)) ts b))))
-          (missing text d.next T.one_command (book_of text names l d) f refl (rw (ne_eqb 5 d.next.kind (λ z. u (sym z))) refl) (λ z. refl))
+          (missing text d.next T.one_command (book_of text names l d) f refl (rw (ne_eqb 5 (kind_number d.next.kind) (λ z. u (sym z))) refl) (λ z. refl))
 
-      module _ (u : d.next.kind ≡ 5) where
+      module _ (u : kind_number d.next.kind ≡ 5) where
         -- one command and the rest are the commands
         commands_are : commands_rest len made (listed text d.next) (book_of text names l d) ≡ then_reads (commands_at text names l d) (λ xs ts b. got (made xs) ts b)
         unfolding find lines skips sequence
@@ -116,16 +118,16 @@ module _ (text : List ℕ) where
           after-commands : reading len (tokens text) ≡ at_close len (made xs) (listed text t)
           after-commands = after-clauses ∙ ap closing (commands_are ∙ ap (λ (o : Got (List Command)). then_reads o (λ xs ts b. got (made xs) ts b)) f)
 
-          pub text-ends : t.kind ≡ 26 → reading len (tokens text) ≡ read (made xs)
+          pub text-ends : kind_number t.kind ≡ 26 → reading len (tokens text) ≡ read (made xs)
           unfolding listed
           text-ends z = after-commands ∙ rw z refl
 
-          pub text-goes-on : Fresh text t → (t.kind ≡ 26 → ⊥) → reading len (tokens text) ≡ refused t.fault t.start
+          pub text-goes-on : Fresh text t → (kind_number t.kind ≡ 26 → ⊥) → reading len (tokens text) ≡ refused (number_of (misplaced t).reason) t.start
           unfolding listed token_of
-          text-goes-on r z = after-commands ∙ rw (ne_eqb t.kind 26 z) (go (eqb t.kind 25) r.fault)
+          text-goes-on r z = after-commands ∙ rw (ne_eqb (kind_number t.kind) 26 z) (go (eqb (kind_number t.kind) 25) (fault_number text t))
             where
-              go : (x : Bool) → t.fault ≡ cond x 2 3 → at_close len (made xs)
-                  (at t.start (cond x none (some (cond (eqb t.kind 24) (name (name_in text t)) (sign t.kind)))) ∷ tokens_from text t.end)
-                  ≡ refused t.fault t.start
+              go : (x : Bool) → number_of (misplaced t).reason ≡ cond x 2 3 → at_close len (made xs)
+                  (at t.start (cond x none (some (cond (eqb (kind_number t.kind) 24) (name (name_in text t)) (sign (kind_number t.kind))))) ∷ tokens_from text t.end)
+                  ≡ refused (number_of (misplaced t).reason) t.start
               go true e = ap (λ (n : ℕ). refused n t.start) (sym e)
               go false e = ap (λ (n : ℕ). refused n t.start) (sym e)

@@ -1,6 +1,7 @@
 -- A whole text that was read: its two clauses, and the flat form of its model in the arrays.
 -- Assumes nothing.
-use mathlib.Core.Path.{◌≡◌, refl, sym, ap, ◌∙◌, subst}
+use Rattle.std.specs.Prelude.{Ok, Err}
+use mathlib.Core.Path.{◌≡◌, refl, sym, ap, ◌∙◌}
 use mathlib.Core.List.{List, ◌++◌, map}
 use Prim.Native.Nat.{ℕ, ◌+◌}
 use native.Mathlib.Nat.{zero-add}
@@ -14,18 +15,18 @@ use Rattle.notation.specs.Texts.{Numbered, words_of, model_of, title_of, names_o
 use Rattle.notation.specs.Layout.{joined, ends_from, layout_of}
 use Rattle.notation.specs.working.Lexing.{tokens}
 use Rattle.notation.specs.working.Table as T
-use Rattle.notation.specs.working.Machine.{read, reading}
+use Rattle.notation.specs.working.Machine.{Outcome, read, refused, reading}
 use Rattle.notation.specs.working.Descent.{Got, got, then_reads, reader}
 use Rattle.notation.proofs.Outcomes.{says_iff}
 use Rattle.notation.proofs.Regular.{tree_regular}
 use Rattle.statements.specs.declared.cursor.Cursor.{Cursor}
 use Rattle.statements.specs.declared.cursor.Ledger.{Ledger}
-use Rattle.statements.specs.declared.cursor.Parsed.{Parsed}
-use Rattle.statements.specs.declared.cursor.Parsed.TheVariants.{Ok, Refused}
-use Rattle.reader.specs.declared.clauses.Declared.{Declared}
-use Rattle.reader.specs.declared.clauses.Declared.TheVariants as D
+use Rattle.refusals.specs.declared.Refusal.{Refusal}
+use Rattle.refusals.specs.Reasons.{number_of}
+use Rattle.lexer.specs.working.Kinds.{kind_number}
+use Rattle.lexer.specs.working.Pieces.{misplaced}
 use Rattle.statements.specs.working.Names.{row_words}
-use Rattle.statements.specs.working.Cursors.{book_of, Ready}
+use Rattle.statements.specs.working.Cursors.{Parsed, book_of, Ready}
 use Rattle.reader.specs.Read.{placed}
 use Rattle.reader.specs.working.Clauses.{WroteNames, clause_words, clause_ends, ClauseDone, ClauseSays}
 use Rattle.statements.specs.working.Sequences.{Pair, pair_of, paired, pairing}
@@ -43,28 +44,25 @@ use Rattle.reader.proofs.StoredModel.{stars_layout, code_layout, ends_layout, na
 two_ends : (text names : List ℕ) (l : Ledger) (k i : ℕ) (x : Clause) → length (clause_ends text names l k i x) ≡ 2
 two_ends text names l k i (clause' a b) = refl
 
-module _ (text names : List ℕ) (l : Ledger) (c : Cursor) (p e a e' : List ℕ) (start : Parsed) (h : ClauseSays text names l 2 0 c p e a e' start) where
+module _ (text names : List ℕ) (l : Ledger) (c : Cursor) (p e a e' : List ℕ) where
   abbrev words : ℕ → Clause → Numbered (List ℕ)
   words = clause_words text names l
 
-  pub start_bad : (n i : ℕ) → start ≡ Refused n i → ClausesSay text names l c p e a e' start
+  pub start_bad : (q : Refusal) → ClauseSays text names l 2 0 c p e a e' (Err q) → ClausesSay text names l c p e a e' (Err q)
   unfolding ClauseSays ClausesSay
-  start_bad n i f =
-      let k : ClauseSays text names l 2 0 c p e a e' (Refused n i) = subst (λ (z : Parsed). ClauseSays text names l 2 0 c p e a e' z) f h in
-      subst (λ (z : Parsed). ClausesSay text names l c p e a e' z) (sym f)
-      (pair_bad (λ ts b. reader (length text) (T.clause 3) ts b) k.0, k.1)
+  start_bad q k = (pair_bad (λ ts b. reader (length text) (T.clause 3) ts b) q k.0, k.1)
 
-  module _ (d : Cursor) (f : start ≡ Ok d) where
+  module _ (d : Cursor) (h : ClauseSays text names l 2 0 c p e a e' (Ok d)) where
     first : ClauseDone text names l 2 0 c p e a e' d
     unfolding ClauseSays
-    first = subst (λ (z : Parsed). ClauseSays text names l 2 0 c p e a e' z) f h
+    first = h
 
     pub keep-ready : Ready text l 0 c → Ready text l 0 d
     keep-ready r = done-ready first.done 0 r
 
     pub clauses-say : (a' e'' : List ℕ) (y : Parsed) → ClauseSays text names l 3 2 d a e' a' e'' y → ClausesSay text names l c p e a' e'' y
     unfolding ClauseSays ClausesSay pair_done
-    clauses-say a' e'' (Refused n i) q = (
+    clauses-say a' e'' (Err r) q = (
       ap (λ (o : Got Clause). pairing o (λ ts b. reader (length text) (T.clause 3) ts b)) first.done.says
           ∙ ap (λ (o : Got Clause). then_reads o (λ v ts b. got (pair_of first.done.tree v) ts b)) q.0,
       (
@@ -90,23 +88,24 @@ module _ (text names : List ℕ) (l : Ledger) (c : Cursor) (p e a e' : List ℕ)
 
 -- ---- the whole
 
-module _ (text : List ℕ) (s : Arrays) (head : Declared) (names' : List ℕ) (h : HeadsSay text s.names names' head) where
-  pub head-refused : (n i : ℕ) → head ≡ D.Refused n i → ModelSays text s (arrays names' s.ops s.ends s.stars) head
-  unfolding HeadsSay ModelSays
-  head-refused n i e =
-      let k : HeadsSay text s.names names' (D.Refused n i) = subst (λ (z : Declared). HeadsSay text s.names names' z) e h in
-      subst (λ (z : Declared). ModelSays text s (arrays names' s.ops s.ends s.stars) z) (sym e)
-      (heads_bad text n i k.0, record { names = k.1; ops = wrote_none; ends = wrote_none; stars = wrote_none })
+-- The outcome of a text that is refused so.
+abbrev refused_so : Refusal → Outcome
+refused_so r = refused (number_of r.reason) r.place
 
-  module _ (c : Cursor) (l : Ledger) (e : head ≡ D.Ok c l) where
+module _ (text : List ℕ) (s : Arrays) (names' : List ℕ) where
+  pub head-refused : (q : Refusal) → HeadsSay text s.names names' (Err q) → ModelSays text s (arrays names' s.ops s.ends s.stars) (Err q)
+  unfolding HeadsSay ModelSays
+  head-refused q k = (heads_bad text (number_of q.reason) q.place k.0, record { names = k.1; ops = wrote_none; ends = wrote_none; stars = wrote_none })
+
+  module _ (c : Cursor) (l : Ledger) (h : HeadsSay text s.names names' (Ok (c, l))) where
     headed : Heads text s.names names' c l
     unfolding HeadsSay
-    headed = subst (λ (z : Declared). HeadsSay text s.names names' z) e h
+    headed = h
 
     pub head-ready : Ready text l 0 c
     head-ready = headed.naming.ready
 
-    module _ (ops' ends' : List ℕ) (both : Parsed) (q : ClausesSay text names' l c s.ops s.ends ops' ends' both) where
+    module _ (ops' ends' : List ℕ) where
       -- The arrays after the clauses.
       abbrev S : Arrays
       S = arrays names' ops' ends' s.stars
@@ -117,21 +116,17 @@ module _ (text : List ℕ) (s : Arrays) (head : Declared) (names' : List ℕ) (h
       wrote_names : WroteNames 0 s.names names'
       wrote_names = record { names = headed.tree.one ++ headed.tree.two; is = headed.stored }
 
-      pub both_refused : (n i : ℕ) → both ≡ Refused n i → ModelSays text s S (D.Refused n i)
+      pub both_refused : (q : Refusal) → ClausesSay text names' l c s.ops s.ends ops' ends' (Err q) → ModelSays text s S (Err q)
       unfolding ClausesSay ModelSays
-      both_refused n i f =
-          let k : ClausesSay text names' l c s.ops s.ends ops' ends' (Refused n i) = subst (λ (z : Parsed). ClausesSay text names' l c s.ops s.ends ops' ends' z) f q in (
-            clauses_bad text names' l c headed.tree headed.says n i k.0,
-            record { names = wrote_names; ops = wrote_from from_front k.1.0; ends = k.1.1; stars = wrote_none },
-          )
+      both_refused q k = (
+        clauses_bad text names' l c headed.tree headed.says (number_of q.reason) q.place k.0,
+        record { names = wrote_names; ops = wrote_from from_front k.1.0; ends = k.1.1; stars = wrote_none },
+      )
 
-      module _ (d : Cursor) (f : both ≡ Ok d) where
+      module _ (d : Cursor) (q : ClausesSay text names' l c s.ops s.ends ops' ends' (Ok d)) where
         claused : ClausesDone text names' l c s.ops s.ends ops' ends' d
         unfolding ClausesSay
-        claused = subst (λ (z : Parsed). ClausesSay text names' l c s.ops s.ends ops' ends' z) f q
-
-        abbrev clauses_words : ℕ → Pair Clause Clause → Numbered (List ℕ)
-        clauses_words = paired (clause_words text names' l) (clause_words text names' l)
+        claused = q
 
         -- the ends of the clauses' expressions, if their stars are numbered from j on and their code begins at place i
         abbrev clauses_ends : ℕ → ℕ → List ℕ
@@ -169,10 +164,10 @@ module _ (text : List ℕ) (s : Arrays) (head : Declared) (names' : List ℕ) (h
               stars = wrote_from none_yet w.stars;
             }
 
-        pub first_missing : (d.next.kind ≡ 5 → ⊥) → ModelSays text s S (D.Refused d.next.fault d.next.start)
+        pub first_missing : (r : Refusal) → r ≡ misplaced d.next → (kind_number d.next.kind ≡ 5 → ⊥) → ModelSays text s S (Err r)
         unfolding ModelSays
-        first_missing u = (
-          command_missing text names' l c headed.tree headed.says d claused.done.tree claused.done.says claused.done.fresh u,
+        first_missing r e u = (
+          command_missing text names' l c headed.tree headed.says d claused.done.tree claused.done.says claused.done.fresh u ∙ ap refused_so (sym e),
           wrote_all S arrays-same,
         )
 
@@ -182,24 +177,22 @@ module _ (text : List ℕ) (s : Arrays) (head : Declared) (names' : List ℕ) (h
           long = headed.naming.long;
         }
 
-        module _ (u : d.next.kind ≡ 5) (all : Declared) (t : Arrays) (k : CommandsSay text l d (arrays names' ops' ends' s.stars) (commands_at text names' l d) t all) where
-          pub all-refused : (n i : ℕ) → all ≡ D.Refused n i → ModelSays text s t all
+        module _ (u : kind_number d.next.kind ≡ 5) (t : Arrays) where
+          pub all-refused : (r : Refusal) → CommandsSay text l d (arrays names' ops' ends' s.stars) (commands_at text names' l d) t (Err r) → ModelSays text s t (Err r)
           unfolding CommandsSay ModelSays
-          all-refused n i g =
-              let z : CommandsSay text l d S (commands_at text names' l d) t (D.Refused n i) = subst (λ (z : Declared). CommandsSay text l d S (commands_at text names' l d) t z) g k in
-              subst (λ (z : Declared). ModelSays text s t z) (sym g)
-              (commands_bad text names' l c headed.tree headed.says d claused.done.tree claused.done.says u n i z.0, wrote_all t z.1)
+          all-refused r z =
+              (commands_bad text names' l c headed.tree headed.says d claused.done.tree claused.done.says u (number_of r.reason) r.place z.0, wrote_all t z.1)
 
-          module _ (v : Cursor) (m : Ledger) (g : all ≡ D.Ok v m) where
+          module _ (v : Cursor) (m : Ledger) (k : CommandsSay text l d (arrays names' ops' ends' s.stars) (commands_at text names' l d) t (Ok (v, m))) where
             commanded : Commanded text l d (arrays names' ops' ends' s.stars) (commands_at text names' l d) t v m
             unfolding CommandsSay
-            commanded = subst (λ (z : Declared). CommandsSay text l d (arrays names' ops' ends' s.stars) (commands_at text names' l d) t z) g k
+            commanded = k
 
-            pub more_follows : (v.next.kind ≡ 26 → ⊥) → ModelSays text s t (D.Refused v.next.fault v.next.start)
+            pub more_follows : (r : Refusal) → r ≡ misplaced v.next → (kind_number v.next.kind ≡ 26 → ⊥) → ModelSays text s t (Err r)
             unfolding ModelSays
-            more_follows n = (
+            more_follows r e n = (
               text-goes-on text names' l c headed.tree headed.says d claused.done.tree claused.done.says u v.next commanded.tree (book_of text t.names m v) commanded.says
-                  commanded.naming.ready.fresh n,
+                  commanded.naming.ready.fresh n ∙ ap refused_so (sym e),
               wrote_all t (commanded_wrote text l d S (commands_at text names' l d) t v m commanded),
             )
 
@@ -218,7 +211,7 @@ module _ (text : List ℕ) (s : Arrays) (head : Declared) (names' : List ℕ) (h
             abbrev x : Tree
             x = tree' ws vs ks.one ks.two xs
 
-            module _ (n : v.next.kind ≡ 26) where
+            module _ (n : kind_number v.next.kind ≡ 26) where
               said : reading (length text) (tokens text) ≡ read x
               said = text-ends text names' l c headed.tree headed.says d ks claused.done.says u v.next xs (book_of text t.names m v) commanded.says n
 
@@ -283,6 +276,6 @@ module _ (text : List ℕ) (s : Arrays) (head : Declared) (names' : List ℕ) (h
                   let i : 0 + length xs ≡ length (map (command_of (words_of ws) (words_of vs)) xs) = zero-add (length xs) ∙ sym (length-map xs (command_of (words_of ws) (words_of vs))) in
                   commanded.ledger ∙ ap (with_commands (length xs)) headed.ledger ∙ ap (λ (j : ℕ). record { shared = length ws; row = length vs; commands = j }) i
 
-              pub model-says : ModelSays text s t (D.Ok v m)
+              pub model-says : ModelSays text s t (Ok m)
               unfolding ModelSays
               model-says = record { tree = x; says = said; names = names-stored; ops = ops-stored; ends = ends-stored; stars = stars-stored; ledger = ledger-is }

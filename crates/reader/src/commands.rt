@@ -1,77 +1,67 @@
 // Commands.
 ghost use Rattle.std.specs.Prelude.{◌≡◌, ◌<◌};
 ghost use Rattle.notation.specs.Tokens.{COMMAND};
-ghost use Rattle.statements.specs.working.Cursors.{Ready};
+ghost use Rattle.lexer.specs.working.Kinds.{kind_number};
+ghost use Rattle.statements.specs.working.Cursors.{Ready, reached};
+ghost use Rattle.reader.specs.working.Clauses.{reached_with};
 ghost use Rattle.reader.specs.working.Commands.{Naming, TitleSays, BodySays, CommandsSay, at_entry, at_exit, one_at, commands_at};
 
-use crate::clauses::Declared;
 use lexer::names::{declare, find_name};
-use lexer::pieces::{COMMAND, DO, DOT, ELSE, IF, NAME};
-use statements::cursor::{Cursor, Ledger, Parsed, Scope, expect, past};
+use lexer::pieces::Kind;
+use refusals::Reason;
+use statements::cursor::{Cursor, Ledger, Parsed, Scope};
 use statements::expressions::{MAX_DEPTH, or_level};
 use statements::items::{DONE, OTHERWISE, WHEN, items, mark};
 
 const MAX_COMMANDS: usize = 16;
 
 // `command` and its name.
-pub fn title(text: &[u8], names: &mut [u16; 56], c: Cursor, l: Ledger) -> Declared
-    requires { Naming text.now names.old l c × (c.next.kind ≡ COMMAND) }
-    ensures { TitleSays text.now names.old l c names.new result }
+pub fn title(text: &[u8], names: &mut [u16; 56], c: &mut Cursor, l: &mut Ledger) -> Parsed
+    requires { Naming text.now names.old l.old c.old × (kind_number c.old.next.kind ≡ COMMAND) }
+    ensures { TitleSays text.now names.old l.old c.old names.new (reached_with result c.new l.new) }
 {
-    let t = c.next;
     let k = l.commands;
     if MAX_COMMANDS <= k {
-        return Declared::Refused(7, t.start);
+        return Err(Reason::TooMany.at(c.next.start));
     }
-    let word = past(text, c, c.items, c.nodes, 0);
-    let w = word.next;
-    if w.kind != NAME {
-        return Declared::Refused(w.fault, w.start);
+    c.stars = 0;
+    c.pass(text);
+    let w = c.next;
+    if w.kind != Kind::Name {
+        return Err(w.misplaced());
     }
-    let a = l.shared;
-    let b = l.row;
-    let n = a + b + k;
-    let i = find_name(text, names, 0, n, w);
-    if i < n {
-        return Declared::Refused(4, w.start);
+    let n = l.shared + l.row + k;
+    if find_name(text, names, 0, n, w).is_some() {
+        return Err(Reason::Redeclared.at(w.start));
     }
     declare(names, n, w);
-    let after = past(text, word, word.items, word.nodes, word.stars);
-    Declared::Ok(
-        after,
-        Ledger {
-            shared: a,
-            row: b,
-            commands: k + 1,
-        },
-    )
+    c.pass(text);
+    l.commands += 1;
+    Ok(())
 }
 
 // `if`, a shared expression, `do`, items, `else`, items, full stop.
-pub fn body(text: &[u8], names: &[u16; 56], ops: &mut [u16; 2048], c: Cursor, l: Ledger) -> Parsed
-    requires { Ready text.now l 3 c }
-    ensures { BodySays text.now names.now l c ops.old ops.new result }
+pub fn body(
+    text: &[u8],
+    names: &[u16; 56],
+    ops: &mut [u16; 2048],
+    c: &mut Cursor,
+    l: Ledger,
+) -> Parsed
+    requires { Ready text.now l 3 c.old }
+    ensures { BodySays text.now names.now l c.old ops.old ops.new (reached result c.new) }
 {
-    let sign = expect(text, c, IF);
-    let Parsed::Ok(inside) = sign else {
-        return sign;
-    };
+    c.expect(text, Kind::If)?;
     let sc = Scope {
         rows: false,
         stars: true,
     };
-    let test = or_level(text, names, ops, MAX_DEPTH, inside, sc, l);
-    let first = mark(text, ops, test, DO, WHEN);
-    let Parsed::Ok(yes) = first else {
-        return first;
-    };
-    let done = items(text, names, ops, yes, l);
-    let second = mark(text, ops, done, ELSE, OTHERWISE);
-    let Parsed::Ok(no) = second else {
-        return second;
-    };
-    let rest = items(text, names, ops, no, l);
-    mark(text, ops, rest, DOT, DONE)
+    or_level(text, names, ops, MAX_DEPTH, c, sc, l)?;
+    mark(text, ops, c, Kind::Do, WHEN)?;
+    items(text, names, ops, c, l, false)?;
+    mark(text, ops, c, Kind::Else, OTHERWISE)?;
+    items(text, names, ops, c, l, false)?;
+    mark(text, ops, c, Kind::Dot, DONE)
 }
 
 // A command. Its end and its number of stars are stored.
@@ -81,26 +71,18 @@ pub fn command(
     ops: &mut [u16; 2048],
     ends: &mut [u16; 20],
     stars: &mut [u16; 16],
-    c: Cursor,
-    l: Ledger,
-) -> Declared
-    requires { Naming text.now names.old l c × (c.next.kind ≡ COMMAND) }
-    ensures { CommandsSay text.now l c (at_entry names ops ends stars) (one_at text.now names.old l c) (at_exit names ops ends stars) result }
+    c: &mut Cursor,
+    l: &mut Ledger,
+) -> Parsed
+    requires { Naming text.now names.old l.old c.old × (kind_number c.old.next.kind ≡ COMMAND) }
+    ensures { CommandsSay text.now l.old c.old (at_entry names ops ends stars) (one_at text.now names.old l.old c.old) (at_exit names ops ends stars) (reached_with result c.new l.new) }
 {
     let k = l.commands;
-    let titled = title(text, names, c, l);
-    let Declared::Ok(inside, more) = titled else {
-        return titled;
-    };
-    let read = body(text, names, ops, inside, more);
-    match read {
-        Parsed::Ok(after) => {
-            ends[4 + k] = after.emitted as u16;
-            stars[k] = after.stars as u16;
-            Declared::Ok(after, more)
-        }
-        Parsed::Refused(n, i) => Declared::Refused(n, i),
-    }
+    title(text, names, c, l)?;
+    body(text, names, ops, c, *l)?;
+    ends[4 + k] = c.emitted as u16;
+    stars[k] = c.stars as u16;
+    Ok(())
 }
 
 // Commands, one or more: the next piece is `command`.
@@ -110,24 +92,16 @@ pub fn commands(
     ops: &mut [u16; 2048],
     ends: &mut [u16; 20],
     stars: &mut [u16; 16],
-    c: Cursor,
-    l: Ledger,
-) -> Declared
-    requires { Naming text.now names.old l c × (c.next.kind ≡ COMMAND) }
-    ensures { CommandsSay text.now l c (at_entry names ops ends stars) (commands_at text.now names.old l c) (at_exit names ops ends stars) result }
+    c: &mut Cursor,
+    l: &mut Ledger,
+) -> Parsed
+    requires { Naming text.now names.old l.old c.old × (kind_number c.old.next.kind ≡ COMMAND) }
+    ensures { CommandsSay text.now l.old c.old (at_entry names ops ends stars) (commands_at text.now names.old l.old c.old) (at_exit names ops ends stars) (reached_with result c.new l.new) }
 {
-    let mut cur = c;
-    let mut led = l;
     'each: loop {
-        let one = command(text, names, ops, ends, stars, cur, led);
-        let Declared::Ok(after, more) = one else {
-            return one;
-        };
-        cur = after;
-        led = more;
-        let t = cur.next;
-        if t.kind != COMMAND {
-            return Declared::Ok(cur, led);
+        command(text, names, ops, ends, stars, c, l)?;
+        if c.next.kind != Kind::Command {
+            return Ok(());
         }
     }
 }

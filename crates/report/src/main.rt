@@ -6,51 +6,28 @@
 mod progress;
 
 use progress::search_showing;
-use reporting::{put_report, write_report};
+use reporting::put_report;
+use search::search;
 use std::env::Env;
-use std::io::{Read, Write};
+use std::io::Write;
 use streams::arguments::{argument, argument_count};
 use streams::output::write_out;
 use streams::told::tell;
-use streams::whole::{Got, read_in};
+use streams::whole::read_in;
 
-// Writes the report of a text to standard output.
-fn report(out: &mut impl Write, errors: &mut impl Write, text: &[u8]) {
+// Writes the report of a text to standard output. With progress, it is told how far the search is.
+fn report(out: &mut impl Write, errors: &mut impl Write, text: &[u8], showing: bool) {
     let mut first = [0u16; 4096];
     let mut second = [0u16; 4096];
     let mut sheet = [0u8; 40967];
     let mut written = [0u8; 147457];
-    let n = write_report(text, &mut first, &mut second, &mut sheet, &mut written);
-    write_out(out, errors, b"report", &written[..n]);
-}
-
-// The same, with progress.
-fn report_showing(out: &mut impl Write, errors: &mut impl Write, text: &[u8]) {
-    let mut first = [0u16; 4096];
-    let mut second = [0u16; 4096];
-    let mut sheet = [0u8; 40967];
-    let mut written = [0u8; 147457];
-    let found = search_showing(errors, text, &mut first, &mut second, &mut sheet);
+    let found = if showing {
+        search_showing(errors, text, &mut first, &mut second, &mut sheet)
+    } else {
+        search(text, &mut first, &mut second, &mut sheet)
+    };
     let n = put_report(text, found, &sheet, &mut written);
     write_out(out, errors, b"report", &written[..n]);
-}
-
-// Reads the text into its room, and reports.
-fn report_into(
-    input: &mut impl Read,
-    out: &mut impl Write,
-    errors: &mut impl Write,
-    text: &mut [u8],
-    showing: bool,
-) {
-    let Got::Bytes(n) = read_in(input, errors, b"report", text) else {
-        return;
-    };
-    if showing {
-        report_showing(out, errors, &text[..n]);
-    } else {
-        report(out, errors, &text[..n]);
-    }
 }
 
 // Whether the one argument asks for progress.
@@ -61,16 +38,15 @@ fn asks_progress(rt: &impl Env) -> bool {
 }
 
 // The room has a byte more than the longest text, so a longer one is refused by the search itself.
-fn answer(input: &mut impl Read, out: &mut impl Write, errors: &mut impl Write, showing: bool) {
-    let mut text = [0u8; 16385];
-    report_into(input, out, errors, &mut text, showing);
-}
-
 fn main(rt: HostRuntime) {
     let mut errors = rt.stderr();
-    match argument_count(&rt) {
-        1 => answer(&mut rt.stdin(), &mut rt.stdout(), &mut errors, false),
-        2 if asks_progress(&rt) => answer(&mut rt.stdin(), &mut rt.stdout(), &mut errors, true),
-        _ => tell(&mut errors, b"usage: report [--progress] < TEXT\n"),
+    let showing = match argument_count(&rt) {
+        1 => false,
+        2 if asks_progress(&rt) => true,
+        _ => return tell(&mut errors, b"usage: report [--progress] < TEXT\n"),
+    };
+    let mut text = [0u8; 16385];
+    if let Some(n) = read_in(&mut rt.stdin(), &mut errors, b"report", &mut text) {
+        report(&mut rt.stdout(), &mut errors, &text[..n], showing);
     }
 }

@@ -5,12 +5,11 @@ ghost use Rattle.search.specs.Answers.{pause_for};
 ghost use Rattle.report.specs.working.Underway.{Underway};
 
 use reporting::{Sheet, Table};
-use reserving::{Reservation, reserve};
-use search::position::{Paused, Position, open};
-use search::search;
+use reserving::reserve;
+use search::position::{Position, open};
 use std::io::Write;
 use streams::told::tell;
-use verdicts::finding::Finding;
+use verdicts::finding::Searched;
 
 // A portion has about so many trials: a search of fewer is over before anybody reads a line.
 const TRIALS: usize = 262144;
@@ -25,27 +24,15 @@ struct Portions {
     all: usize,
 }
 
-// The number, but no 0.
-fn at_least_one(n: usize) -> usize
-    ensures { 1 ≤ result }
-{
-    if n == 0 { 1 } else { n }
-}
-
 // As many states as have about so many trials at most.
 fn portions_of(text: &[u8]) -> Portions {
-    let needs = reserve(text);
-    match needs {
-        Reservation::Refused(_, _) => Portions { states: 1, all: 1 },
-        Reservation::Needs(entries, _, trials) => {
-            let all = at_least_one(entries);
-            let each = at_least_one(trials / all);
-            Portions {
-                states: at_least_one(TRIALS / each),
-                all: all,
-            }
-        }
-    }
+    let Ok(needs) = reserve(text) else {
+        return Portions { states: 1, all: 1 };
+    };
+    let all = needs.entries.max(1);
+    let each = (needs.trials / all).max(1);
+    let states = (TRIALS / each).max(1);
+    Portions { states, all }
 }
 
 // How far the search is, in place of the line before. Where it can't be shown, the search goes on all the same.
@@ -54,13 +41,6 @@ fn show(errors: &mut impl Write, expanded: usize, met: usize, all: usize) {
         errors,
         "\rreport: {expanded} of at most {all} states expanded, {met} met"
     );
-}
-
-// The line is taken away, if one was shown: a portion was then counted.
-fn clear_line(errors: &mut impl Write, left: usize) {
-    if left < PORTIONS {
-        tell(errors, b"\r\x1b[K");
-    }
 }
 
 // The next position. No portion is refused that goes on from one of the same search.
@@ -74,14 +54,10 @@ fn next_position(
     requires { Underway text.now (pause_for position) first.old second.old }
     ensures { Underway text.now (pause_for result) first.new second.new }
 {
-    let next = position.portion(states, text, first, second);
-    match next {
-        Paused::At(p) => p,
-        Paused::Refused(_, _) => position,
-    }
+    position.portion(states, text, first, second).unwrap()
 }
 
-// Portions up to the end. It is told how far the search is after each that did not come there.
+// Portions up to the end. It is told how far the search is after each that did not come there; the line is taken away at last.
 fn search_on(
     errors: &mut impl Write,
     start: Position,
@@ -93,43 +69,33 @@ fn search_on(
     ensures { Underway text.now (pause_for result) first.new second.new }
 {
     let portions = portions_of(text);
-    let states = portions.states;
-    let all = portions.all;
     let mut position = start;
-    let mut left: usize = PORTIONS;
-    'portions: while 0 < left {
-        position = next_position(position, states, text, first, second);
-        if position.broke {
-            clear_line(errors, left);
-            return position;
+    let mut shown = false;
+    for _ in 0..PORTIONS {
+        position = next_position(position, portions.states, text, first, second);
+        if position.broke || position.met <= position.expanded {
+            break;
         }
-        if position.met <= position.expanded {
-            clear_line(errors, left);
-            return position;
-        }
-        show(errors, position.expanded, position.met, all);
-        left -= 1;
+        show(errors, position.expanded, position.met, portions.all);
+        shown = true;
     }
-    clear_line(errors, left);
+    if shown {
+        tell(errors, b"\r\x1b[K");
+    }
     position
 }
 
-// The search of a text, whose answer and sheet make its report. Where it is refused, a search in one go tells so.
+// The search of a text, whose answer and sheet make its report.
 pub fn search_showing(
     errors: &mut impl Write,
     text: &[u8],
     first: &mut Table,
     second: &mut Table,
     sheet: &mut Sheet,
-) -> Finding
+) -> Searched
     ensures { Searched text.now result sheet.new }
 {
-    let opened = open(text, first, second);
-    match opened {
-        Paused::Refused(_, _) => search(text, first, second, sheet),
-        Paused::At(start) => {
-            let position = search_on(errors, start, text, first, second);
-            position.finish(text, first, second, sheet)
-        }
-    }
+    let start = open(text, first, second)?;
+    let position = search_on(errors, start, text, first, second);
+    position.finish(text, first, second, sheet)
 }

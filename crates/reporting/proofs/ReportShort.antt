@@ -1,11 +1,10 @@
 -- No report is longer than the room for it.
 -- Assumes nothing.
-use mathlib.Core.Path.{◌≡◌, refl, sym, ap, ◌∙◌, subst}
+use mathlib.Core.Path.{◌≡◌, refl, sym, subst}
 use mathlib.Core.List.{List, [], ◌∷◌, ◌++◌}
 use Prim.Native.Nat.{ℕ, ◌+◌, ◌*◌, ◌≤◌, ◌<◌}
 use native.Mathlib.Omega.{arith}
 use lib.ListN.{length, length-append}
-use lib.Seq.{sets}
 use lib.Pow.{pow_mono}
 use Rattle.notation.specs.Bytes.{bytes}
 use Rattle.notation.specs.Tokens.{Word}
@@ -19,10 +18,7 @@ use Rattle.meaning.specs.OneRow.{state_count, TraceStep}
 use Rattle.meaning.specs.Evidence.{StepFits, Verdict, safe_by, void_by, unsafe_by}
 use Rattle.notation.proofs.Members.{weaken}
 use Rattle.verdicts.proofs.SheetBytes.{word_lt}
-use Rattle.io.specs.Counts.{IsPrefixLen}
 use Rattle.lines.specs.Lines.{decimal_of}
-use Rattle.lines.specs.Puts.{Fits, Puts}
-use Rattle.lines.proofs.Stores.{front-counts}
 use Rattle.lines.proofs.Digits.{digits-below}
 use Rattle.lines.proofs.Parts.{refusal-short}
 use Rattle.lines.proofs.LineLengths.{one_word, two-words, four_words, five-words}
@@ -141,13 +137,3 @@ reports_fit text = go (answer text) refl
         let says = (says_iff_answer text x).1 q in
         subst (λ l. length l ≤ longest_report) (sym (found-lines text x says)) (found-short text x says (found_for (model_of x)) refl)
     go (N.refused n p) q = subst (λ l. length l ≤ longest_report) (sym (refused-lines text n p q)) (omega (arith, refusal-short n p))
-
--- What was put at the front of a buffer with that room, and is the report.
-module _ (text v : List ℕ) (e : v ≡ report_of text) (l : List ℕ) (h : longest_report ≤ length l) where
-  pub report-fits : Fits l 0 v
-  report-fits = record { room = omega (arith, reports_fit text, ap length e) }
-
-  pub report-put : (x : List ℕ) (r : ℕ) → Puts l 0 v x r → ((x ≡ sets l 0 (report_of text)) × (r ≡ length (report_of text))) × IsPrefixLen r x
-  report-put x r P =
-      let z : r ≡ length v = omega (arith, P.ends) in
-      ((P.stored ∙ ap (sets l 0) e, z ∙ ap length e), front-counts x l v r P.stored (omega (arith, reports_fit text, ap length e)))

@@ -1,104 +1,92 @@
--- The loop over the steps of a run: what is left to write, and what writes it.
+-- The lines of the steps of a run, one step more at a time.
 -- Assumes nothing.
 use mathlib.Core.Path.{◌≡◌, refl, sym, ap, ◌∙◌, subst}
-use mathlib.Core.List.{List, [], ◌∷◌, ◌++◌}
-use Prim.Native.Nat.{ℕ, suc, ◌+◌, ◌-◌, ◌*◌, ◌<◌, ◌≤◌}
+use mathlib.Core.List.{List, [], ◌∷◌, ◌++◌, append_assoc, append-nil}
+use Prim.Native.Nat.{ℕ, zero, suc, ◌+◌, ◌-◌, ◌*◌, ◌<◌}
 use native.Mathlib.Omega.{arith}
 use lib.ListN.{length}
+use Rattle.notation.specs.Tokens.{Word}
 use Rattle.notation.specs.Regular.{Every}
 use Rattle.meaning.specs.OneRow.{TraceStep}
 use Rattle.sheets.specs.SheetTexts.{step_in}
 use Rattle.sheets.specs.working.SheetReading.{steps_in}
-use Rattle.lines.specs.Puts.{Fits, Puts}
-use Rattle.lines.proofs.Stores.{none, behind, keeps, first_fits, rest-fits}
-use Rattle.names.specs.working.Arrays.{name_in, Named}
-use Rattle.reporting.specs.Reports.{step_lines}
-use Rattle.reporting.specs.working.Writing.{record_line}
+use Rattle.lines.specs.declared.Writer.{Writer}
+use Rattle.lines.specs.Writers.{HasRoom, Writes}
+use Rattle.lines.proofs.Writers.{nothing, behind, first-room, rest-room}
+use Rattle.reporting.specs.Reports.{step_line, step_lines}
 
--- The lines of n steps, whose records begin at `from`; those before step i are written.
-module _ (text names : List ℕ) (base : ℕ) (sheet : List ℕ) (from n : ℕ) where
-  abbrev left : ℕ → List TraceStep
-  left i = steps_in sheet (from + 10 * i) (n - i)
-
-  abbrev pub rest : ℕ → List ℕ
-  rest i = step_lines (λ k. name_in text names (base + k)) (i + 1) (left i)
-
-  abbrev Called : List TraceStep → Type 0
-  Called xs = Every (λ (x : TraceStep). Named text names (base + x.command)) xs
-
-  left_next : (i : ℕ) → i < n → left i ≡ step_in sheet (from + 10 * i + 6) ∷ left (i + 1)
+-- So many records and more records behind them.
+module _ (sheet : List ℕ) where
+  steps-parted : (from m d : ℕ) → steps_in sheet from (m + d) ≡ steps_in sheet from m ++ steps_in sheet (from + 10 * m) d
   unfolding steps_in
-  left_next i h =
-      let e : n - i ≡ suc (n - (i + 1)) = omega arith in
-      let g : from + 10 * i + 10 ≡ from + 10 * (i + 1) = omega arith in
-      ap (λ k. steps_in sheet (from + 10 * i) k) e
-      ∙ ap (λ q. step_in sheet (from + 10 * i + 6) ∷ steps_in sheet q (n - (i + 1))) g
+  steps-parted from zero d =
+      let e : 0 + d ≡ d = omega arith in
+      let f : from ≡ from + 10 * 0 = omega arith in
+      ap (steps_in sheet from) e ∙ ap (λ p. steps_in sheet p d) f
+  steps-parted from (suc m) d =
+      let e : suc m + d ≡ suc (m + d) = omega arith in
+      let f : from + 10 + 10 * m ≡ from + 10 * suc m = omega arith in
+      ap (steps_in sheet from) e
+      ∙ ap (λ l. step_in sheet (from + 6) ∷ l) (steps-parted (from + 10) m d ∙ ap (λ p. steps_in sheet (from + 10) m ++ steps_in sheet p d) f)
 
-  rest-next : (i : ℕ) → i < n → rest i ≡ record_line text names base (i + 1) (step_in sheet (from + 10 * i + 6)) ++ rest (i + 1)
-  unfolding step_lines
-  rest-next i h = ap (step_lines (λ k. name_in text names (base + k)) (i + 1)) (left_next i h)
+  steps-many : (from m : ℕ) → length (steps_in sheet from m) ≡ m
+  unfolding steps_in
+  steps-many from zero = refl
+  steps-many from (suc m) = ap suc (steps-many (from + 10) m)
 
-  rest_none : (i : ℕ) → n ≤ i → rest i ≡ []
+lines-parted : (called : ℕ → Word) (k : ℕ) (xs ys : List TraceStep) → step_lines called k (xs ++ ys) ≡ step_lines called k xs ++ step_lines called (k + length xs) ys
+unfolding step_lines
+lines-parted called k [] ys = let e : k ≡ k + 0 = omega arith in ap (λ i. step_lines called i ys) e
+lines-parted called k (x ∷ xs) ys =
+    let e : k + 1 + length xs ≡ k + suc (length xs) = omega arith in
+    ap (λ l. step_line k (called x.command) x.word x.after ++ l) (lines-parted called (k + 1) xs ys ∙ ap (λ i. step_lines called (k + 1) xs ++ step_lines called i ys) e)
+    ∙ sym (append_assoc (step_line k (called x.command) x.word x.after) (step_lines called (k + 1) xs) (step_lines called (k + suc (length xs)) ys))
+
+-- The lines of the steps whose records begin at `from`.
+module _ (called : ℕ → Word) (sheet : List ℕ) (from : ℕ) where
+  abbrev pub lines : ℕ → List ℕ
+  lines i = step_lines called 1 (steps_in sheet from i)
+
+  more-lines : (i d : ℕ) → lines (i + d) ≡ lines i ++ step_lines called (1 + i) (steps_in sheet (from + 10 * i) d)
+  more-lines i d =
+      ap (step_lines called 1) (steps-parted sheet from i d)
+      ∙ lines-parted called 1 (steps_in sheet from i) (steps_in sheet (from + 10 * i) d)
+      ∙ ap (λ k. lines i ++ step_lines called (1 + k) (steps_in sheet (from + 10 * i) d)) (steps-many sheet from i)
+
+  pub lines-begun : {out : Writer} → Writes out (lines 0) out
   unfolding step_lines steps_in
-  rest_none i h =
-      let e : n - i ≡ 0 = omega arith in
-      ap (λ k. step_lines (λ j. name_in text names (base + j)) (i + 1) (steps_in sheet (from + 10 * i) k)) e
+  lines-begun = nothing
 
-  all_left : left 0 ≡ steps_in sheet from n
-  all_left =
-      let e : from + 10 * 0 ≡ from = omega arith in
-      let f : n - 0 ≡ n = omega arith in
-      ap (λ q. steps_in sheet q (n - 0)) e ∙ ap (steps_in sheet from) f
+  -- The record of step i.
+  abbrev step : ℕ → TraceStep
+  step i = step_in sheet (from + 10 * i + 6)
 
-  pub all_lines : rest 0 ≡ step_lines (λ k. name_in text names (base + k)) 1 (steps_in sheet from n)
-  all_lines = ap (step_lines (λ k. name_in text names (base + k)) 1) all_left
+  -- Where the lines of the steps before it are put, its own is next.
+  module _ {s t : Writer} (i : ℕ) (P : Writes s (lines i) t) (v : List ℕ) (same : v ≡ step_line (i + 1) (called (step i).command) (step i).word (step i).after) where
+    one-more : lines (i + 1) ≡ lines i ++ v
+    unfolding step_lines steps_in
+    one-more =
+        let k : 1 + i ≡ i + 1 = omega arith in
+        more-lines i 1
+        ∙ ap (λ l. lines i ++ l)
+        (append-nil (step_line (1 + i) (called (step i).command) (step i).word (step i).after)
+        ∙ ap (λ j. step_line j (called (step i).command) (step i).word (step i).after) k ∙ sym same)
 
-  pub record Going (out₀ : List ℕ) (end₀ : ℕ) (out : List ℕ) (end i : ℕ) : Type 0 where
-    pub within : i ≤ n
-    pub few : base ≤ 28
-    pub inside : from + 10 * n ≤ length sheet
-    pub long : length out ≡ length out₀
-    pub named : Called (left i)
-    pub room : Fits out end (rest i)
-    -- what writes the rest from here on writes all of it from where the loop began
-    pub back : (x : List ℕ) (r : ℕ) → Puts out end (rest i) x r → Puts out₀ end₀ (rest 0) x r
+    pub next-room : (n : ℕ) → i < n → HasRoom s (lines n) → HasRoom t v
+    next-room n h f =
+        let d = n - (i + 1) in
+        let e : n ≡ i + 1 + d = omega arith in
+        let all : lines n ≡ lines (i + 1) ++ step_lines called (1 + (i + 1)) (steps_in sheet (from + 10 * (i + 1)) d) = ap lines e ∙ more-lines (i + 1) d in
+        let some = first-room (lines (i + 1)) (step_lines called (1 + (i + 1)) (steps_in sheet (from + 10 * (i + 1)) d)) (subst (HasRoom s) all f) in
+        rest-room v P (subst (HasRoom s) one-more some)
 
-  pub begun : {out : List ℕ} {end : ℕ} → base ≤ 28 → from + 10 * n ≤ length sheet → Called (steps_in sheet from n)
-      → Fits out end (step_lines (λ k. name_in text names (base + k)) 1 (steps_in sheet from n)) → Going out end out end 0
-  begun {out} {end} b h c f =
-      record {
-        within = omega arith;
-        few = b;
-        inside = h;
-        long = refl;
-        named = subst Called (sym all_left) c;
-        room = subst (Fits out end) (sym all_lines) f;
-        back = λ x r P. P;
-      }
+    pub next-put : {u : Writer} → Writes t v u → Writes s (lines (i + 1)) u
+    next-put {u} Q = subst (λ l. Writes s l u) (sym one-more) (behind P Q)
 
-  module _ {out₀ out : List ℕ} {end₀ end i : ℕ} (G : Going out₀ end₀ out end i) where
-    pub next-named : i < n → Named text names (base + (step_in sheet (from + 10 * i + 6)).command)
-    next-named h = (subst Called (left_next i h) G.named).0
-
-    next-room : i < n → Fits out end (record_line text names base (i + 1) (step_in sheet (from + 10 * i + 6)) ++ rest (i + 1))
-    next-room h = subst (Fits out end) (rest-next i h) G.room
-
-    pub next_fits : i < n → Fits out end (record_line text names base (i + 1) (step_in sheet (from + 10 * i + 6)))
-    next_fits h = first_fits (record_line text names base (i + 1) (step_in sheet (from + 10 * i + 6))) (rest (i + 1)) (next-room h)
-
-    pub went : {x : List ℕ} {r : ℕ} → i < n → Puts out end (record_line text names base (i + 1) (step_in sheet (from + 10 * i + 6))) x r → Going out₀ end₀ x r (i + 1)
-    went {x} {r} h P =
-        record {
-          within = omega arith;
-          few = G.few;
-          inside = G.inside;
-          long = keeps P ∙ G.long;
-          named = (subst Called (left_next i h) G.named).1;
-          room = rest-fits (rest (i + 1)) P (next-room h);
-          back = λ y s Q. G.back y s (subst (λ v. Puts out end v y s) (sym (rest-next i h)) (behind P Q));
-        }
-
-    pub done : n ≤ i → Puts out₀ end₀ (step_lines (λ k. name_in text names (base + k)) 1 (steps_in sheet from n)) out end
-    done h =
-        subst (λ v. Puts out₀ end₀ v out end) all_lines
-        (G.back out end (subst (λ v. Puts out end v out end) (sym (rest_none i h)) none))
+-- What holds of every step holds of step i.
+pub each-step : (P : TraceStep → Type 0) (sheet : List ℕ) (from n i : ℕ) → i < n → Every P (steps_in sheet from n) → P (step_in sheet (from + 10 * i + 6))
+unfolding steps_in
+each-step P sheet from zero i h a = absurd (omega (arith, h))
+each-step P sheet from (suc n) zero h a = let e : from + 6 ≡ from + 10 * 0 + 6 = omega arith in subst (λ p. P (step_in sheet p)) e a.0
+each-step P sheet from (suc n) (suc i) h a =
+    let e : from + 10 + 10 * i + 6 ≡ from + 10 * suc i + 6 = omega arith in subst (λ p. P (step_in sheet p)) e (each-step P sheet (from + 10) n i (omega (arith, h)) a.1)

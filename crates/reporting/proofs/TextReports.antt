@@ -20,7 +20,8 @@ use Rattle.meaning.specs.Evidence.{safe, trace, StepFits, TracePasses, Verdict, 
 use Rattle.notation.proofs.Members.{weaken}
 use Rattle.evaluation.proofs.Powers.{pow_small}
 use Rattle.reader.specs.declared.Code.{Code}
-use Rattle.reader.specs.Read.{code_of, name_array, reading_in, reading_of}
+use Rattle.reader.specs.Read.{code_of, code_in, name_array, reading_in, reading_of, read_code}
+use Rattle.std.specs.Prelude.{Ok}
 use Rattle.sheets.specs.Sheets.{System, system_of, sheet_bytes, header_bytes, map_bytes, start_bytes, steps_bytes, record_bytes, little}
 use Rattle.sheets.specs.SheetTexts.{two_at, AreBytes, IsMap}
 use Rattle.sheets.specs.working.SheetReading.{map_in, steps_in}
@@ -115,9 +116,13 @@ module _ (text : List ℕ) (x : Tree) (says : TextSaysTree text x) where
   abbrev code : Code
   code = code_of (layout_of m) (names_of x)
 
-  code_read : (reading_of text).code ≡ code
+  code_read : read_code text ≡ code
   unfolding reading_in
-  code_read = ap (λ (o : N.Outcome). (reading_in o).code) (says-answer says)
+  code_read = ap (λ (o : N.Outcome). code_in (reading_in o)) (says-answer says)
+
+  pub was_read : reading_of text ≡ Ok (read_code text)
+  unfolding reading_in
+  was_read = ap reading_in (says-answer says) ∙ ap (λ c. Ok c) (sym code_read)
 
   -- Where a map is found.
   module _ (map : List ℕ) (e : S ≡ safe_by map) where
@@ -131,11 +136,14 @@ module _ (text : List ℕ) (x : Tree) (says : TextSaysTree text x) where
     unfolding code_of layout_of
     counted-map =
         record {
-          few_bits = regular.few_names;
-          few_shared = regular.few_shared;
-          inside = omega (arith, map-sheet-length m map);
-          map = subst (IsMap (state_count m)) (sym (map_read m map)) exact.fits;
-          bytes = subst AreBytes (sym (map_read m map)) exact.bytes;
+          long = omega (arith, map-sheet-length m map);
+          map =
+              record {
+                few_bits = regular.few_names;
+                few_shared = regular.few_shared;
+                map = subst (IsMap (state_count m)) (sym (map_read m map)) exact.fits;
+                bytes = subst AreBytes (sym (map_read m map)) exact.bytes;
+              };
         }
 
     safe-lines : safe_report code (map_sheet m map) ≡ report_lines text x (safe_by map)
@@ -143,10 +151,10 @@ module _ (text : List ℕ) (x : Tree) (says : TextSaysTree text x) where
     safe-lines =
         ap (λ l. counts_line m.shared_names m.row_names (length m.commands) ++ (safe_line ++ count_lines (state_count m) (setting_count m) l)) (map_read m map)
 
-    pub map_shown : MapShown (reading_of text).code (map_sheet m map)
+    pub map_shown : MapShown (read_code text) (map_sheet m map)
     map_shown = subst (λ c. MapShown c (map_sheet m map)) (sym code_read) counted-map
 
-    pub safe_said : safe_report (reading_of text).code (map_sheet m map) ≡ report_of text
+    pub safe_said : safe_report (read_code text) (map_sheet m map) ≡ report_of text
     safe_said = ap (λ c. safe_report c (map_sheet m map)) code_read ∙ safe-lines ∙ sym (found-lines text x says ∙ ap (report_lines text x) e)
 
   -- Where nothing starts.
@@ -154,7 +162,7 @@ module _ (text : List ℕ) (x : Tree) (says : TextSaysTree text x) where
   unfolding report_lines verdict_lines code_of layout_of
   void-lines map = refl
 
-  pub void_said : (map : List ℕ) → S ≡ void_by map → void_report (reading_of text).code ≡ report_of text
+  pub void_said : (map : List ℕ) → S ≡ void_by map → void_report (read_code text) ≡ report_of text
   void_said map e = ap void_report code_read ∙ void-lines map ∙ sym (found-lines text x says ∙ ap (report_lines text x) e)
 
   -- Where a trace is found.
@@ -197,8 +205,8 @@ module _ (text : List ℕ) (x : Tree) (says : TextSaysTree text x) where
         (lines_same called (command_name text x) 1 xs
         (weaken (StepFits m) (λ (y : TraceStep). called y.command ≡ command_name text x y.command) (λ y k. (told text x says regular y.command k.command).word) xs passes.steps_fit))
 
-    pub trace_shown : Printable text (reading_of text).code sheet
+    pub trace_shown : Printable text (read_code text) sheet
     trace_shown = subst (λ c. Printable text c sheet) (sym code_read) shown
 
-    pub trace_said : trace_report text (reading_of text).code sheet ≡ report_of text
+    pub trace_said : trace_report text (read_code text) sheet ≡ report_of text
     trace_said = ap (λ c. trace_report text c sheet) code_read ∙ trace-lines ∙ sym (found-lines text x says ∙ ap (report_lines text x) e)

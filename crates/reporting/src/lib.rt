@@ -6,17 +6,16 @@ mod run;
 ghost use Rattle.std.specs.Prelude.{◌≡◌, length};
 ghost use Rattle.std.proofs.lemmas.List.Edits.{sets};
 ghost use Rattle.io.specs.Counts.{IsPrefixLen};
-ghost use Rattle.lines.specs.Puts.{Fits, Puts};
-ghost use Rattle.reader.specs.Read.{reading_of};
+ghost use Rattle.lines.specs.Writers.{HasRoom, Writes};
 ghost use Rattle.verdicts.specs.Left.{Leaves};
 ghost use Rattle.verdicts.specs.working.Searching.{search_of};
-ghost use Rattle.reporting.specs.Reports.{counts_line};
-ghost use Rattle.reporting.specs.working.Writing.{safe_report, void_report, trace_report, MapShown, Printable};
+ghost use Rattle.reporting.specs.working.Writing.{counts, safe_report, void_report, trace_report, MapShown, Printable};
 ghost use Rattle.reporting.specs.working.Reporting.{report_of, Searched};
 
 use counting::count_lines::put_count_lines;
-use lines::{put, put_number, put_refusal};
-use reader::read;
+use lines::Writer;
+use reader::{Code, read};
+use refusals::Refusal;
 use run::put_run;
 use search::search;
 use sheets::fields::HEADER;
@@ -33,83 +32,80 @@ pub type Sheet = [u8; 40967];
 pub type Report = [u8; 147457];
 
 // `model`, and how many shared names, row names and commands there are.
-fn put_counts(out: &mut [u8], at: usize, shared: usize, row: usize, commands: usize) -> usize
-    requires { Fits out.old at (counts_line shared row commands) }
-    ensures { Puts out.old at (counts_line shared row commands) out.new result }
+fn put_counts(out: &mut Writer, code: &Code)
+    requires { HasRoom out.old (counts code.now) }
+    ensures { Writes out.old (counts code.now) out.new }
 {
-    let title = put(out, at, b"model");
-    let first = put_number(out, title, shared);
-    let second = put_number(out, first, row);
-    let third = put_number(out, second, commands);
-    put(out, third, b"\n")
+    out.put(b"model");
+    out.put_number(code.shared);
+    out.put_number(code.row);
+    out.put_number(code.commands);
+    out.put(b"\n");
 }
 
 // The report of a safe model, whose map stands in the sheet.
-fn put_safe(out: &mut [u8], text: &[u8], sheet: &[u8]) -> usize
-    requires { MapShown (reading_of text.now).code sheet.now × Fits out.old 0 (safe_report (reading_of text.now).code sheet.now) }
-    ensures { Puts out.old 0 (safe_report (reading_of text.now).code sheet.now) out.new result }
+fn put_safe(out: &mut Writer, code: &Code, sheet: &[u8])
+    requires { MapShown code.now sheet.now × HasRoom out.old (safe_report code.now sheet.now) }
+    ensures { Writes out.old (safe_report code.now sheet.now) out.new }
 {
-    let code = read(text).code;
-    let shared = code.shared;
-    let row = code.row;
-    let counted = put_counts(out, 0, shared, row, code.commands);
-    let judged = put(out, counted, b"safe\n");
-    let from = HEADER + 6;
-    put_count_lines(
-        out,
-        judged,
-        sheet,
-        from,
-        sheet.len() - from,
-        shared + row,
-        shared,
-    )
+    put_counts(out, code);
+    out.put(b"safe\n");
+    let map = &sheet[HEADER + 6..];
+    put_count_lines(out, map, code.shared + code.row, code.shared);
 }
 
 // The report of a void model.
-fn put_void(out: &mut [u8], text: &[u8]) -> usize
-    requires { Fits out.old 0 (void_report (reading_of text.now).code) }
-    ensures { Puts out.old 0 (void_report (reading_of text.now).code) out.new result }
+fn put_void(out: &mut Writer, code: &Code)
+    requires { HasRoom out.old (void_report code.now) }
+    ensures { Writes out.old (void_report code.now) out.new }
 {
-    let code = read(text).code;
-    let counted = put_counts(out, 0, code.shared, code.row, code.commands);
-    put(out, counted, b"void\n")
+    put_counts(out, code);
+    out.put(b"void\n");
 }
 
 // The report of an unsafe model, whose trace is the sheet.
-fn put_unsafe(out: &mut [u8], text: &[u8], sheet: &[u8]) -> usize
-    requires { Printable text.now (reading_of text.now).code sheet.now × Fits out.old 0 (trace_report text.now (reading_of text.now).code sheet.now) }
-    ensures { Puts out.old 0 (trace_report text.now (reading_of text.now).code sheet.now) out.new result }
+fn put_unsafe(out: &mut Writer, text: &[u8], code: &Code, sheet: &[u8])
+    requires { Printable text.now code.now sheet.now × HasRoom out.old (trace_report text.now code.now sheet.now) }
+    ensures { Writes out.old (trace_report text.now code.now sheet.now) out.new }
 {
-    let code = read(text).code;
-    let shared = code.shared;
-    let row = code.row;
-    let names = code.names;
-    let counted = put_counts(out, 0, shared, row, code.commands);
-    put_run(out, counted, text, &names, shared + row, sheet)
+    put_counts(out, code);
+    put_run(out, text, code, sheet);
 }
 
-// Puts the report of a text at the front of `out`, from what a search of it answered and left in the sheet; how long it is.
-pub fn put_report(text: &[u8], found: Finding, sheet: &Sheet, out: &mut Report) -> usize
+// The report of a text, from what a search of it answered and left in the sheet. Only a text that was read has a finding.
+fn put_found(out: &mut Writer, text: &[u8], found: Result<Finding, Refusal>, sheet: &Sheet)
+    requires { Searched text.now found sheet.now × HasRoom out.old (report_of text.now) }
+    ensures { Writes out.old (report_of text.now) out.new }
+{
+    let finding = match found {
+        Ok(finding) => finding,
+        Err(refusal) => {
+            out.put_refusal(refusal);
+            return;
+        }
+    };
+    let code = read(text).unwrap();
+    match finding {
+        Finding::Safe { length, .. } => put_safe(out, &code, &sheet[..length]),
+        Finding::Void { .. } => put_void(out, &code),
+        Finding::Unsafe { length } => put_unsafe(out, text, &code, &sheet[..length]),
+    }
+}
+
+// Puts it at the front of `out`; how long it is.
+pub fn put_report(
+    text: &[u8],
+    found: Result<Finding, Refusal>,
+    sheet: &Sheet,
+    out: &mut Report,
+) -> usize
     requires { Searched text.now found sheet.now }
     ensures out_after { (out.new ≡ sets out.old 0 (report_of text.now)) × (result ≡ length (report_of text.now)) }
     ensures within { IsPrefixLen result out.new }
 {
-    match found {
-        Finding::Refused(number, place) => {
-            let n = number as usize;
-            put_refusal(out, 0, n, place)
-        }
-        Finding::Safe(n, _) => {
-            let bytes: &[u8] = sheet;
-            put_safe(out, text, &bytes[..n])
-        }
-        Finding::Void(_) => put_void(out, text),
-        Finding::Unsafe(n) => {
-            let bytes: &[u8] = sheet;
-            put_unsafe(out, text, &bytes[..n])
-        }
-    }
+    let mut report = Writer::new(out);
+    put_found(&mut report, text, found, sheet);
+    report.len()
 }
 
 // Writes the report of a text at the front of `out`; how long it is.

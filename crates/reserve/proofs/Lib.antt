@@ -1,2 +1,2 @@
--- Laws that the proofs of the functions cite.
-pub mod LinesPut
+-- Laws of the lines of a reservation.
+pub mod LinesTold

@@ -4,42 +4,46 @@
 
 ghost use Rattle.io.specs.Counts.{IsPrefixLen};
 ghost use Rattle.lines.specs.Puts.{Puts};
+ghost use Rattle.lines.specs.Writers.{HasRoom, Writes};
 ghost use Rattle.reserving.specs.Answers.{wording_of};
-ghost use Rattle.reserve.specs.Lines.{needs_lines, lines_of};
+ghost use Rattle.reserve.specs.Lines.{lines_of};
 
-use lines::{put_number_line, put_refusal};
+use lines::Writer;
+use refusals::Refusal;
 use reserving::{Reservation, reserve};
-use std::io::{Read, Write};
+use std::io::Write;
 use streams::arguments::argument_count;
 use streams::output::write_out;
 use streams::told::tell;
-use streams::whole::{Got, read_in};
+use streams::whole::read_in;
 
 // Room for three lines of a word of at most 7 bytes and a number of at most 20 digits.
 type Lines = [u8; 96];
 
-// The lines of what a search needs.
-fn put_needs(out: &mut Lines, entries: usize, bytes: usize, trials: usize) -> usize
-    ensures puts { Puts out.old 0 (needs_lines entries bytes trials) out.new result }
-    ensures within { IsPrefixLen result out.new }
+// The lines of what a search needs, or of the refusal.
+#[tactic(auto, unfolding(crate::specs::Lines::lines_of, crate::specs::Lines::needs_lines, reserving::specs::Answers::wording_of, notation::specs::Bytes::bytes))]
+fn put_needs(out: &mut Writer, needs: Result<Reservation, Refusal>)
+    requires { HasRoom out.old (lines_of (wording_of needs)) }
+    ensures { Writes out.old (lines_of (wording_of needs)) out.new }
 {
-    let first = put_number_line(out, 0, b"entries", entries);
-    let second = put_number_line(out, first, b"bytes", bytes);
-    put_number_line(out, second, b"trials", trials)
+    match needs {
+        Ok(needs) => {
+            out.put_number_line(b"entries", needs.entries);
+            out.put_number_line(b"bytes", needs.bytes);
+            out.put_number_line(b"trials", needs.trials);
+        }
+        Err(refusal) => out.put_refusal(refusal),
+    }
 }
 
-// The lines of a reservation.
-fn put_reservation(out: &mut Lines, reservation: Reservation) -> usize
-    ensures puts { Puts out.old 0 (lines_of (wording_of reservation)) out.new result }
-    ensures within { IsPrefixLen result out.new }
+// Puts the lines of a reservation at the front; how long they are.
+fn put_reservation(lines: &mut Lines, needs: Result<Reservation, Refusal>) -> usize
+    ensures puts { Puts lines.old 0 (lines_of (wording_of needs)) lines.new result }
+    ensures within { IsPrefixLen result lines.new }
 {
-    match reservation {
-        Reservation::Needs(entries, bytes, trials) => put_needs(out, entries, bytes, trials),
-        Reservation::Refused(number, place) => {
-            let n = number as usize;
-            put_refusal(out, 0, n, place)
-        }
-    }
+    let mut out = Writer::new(lines);
+    put_needs(&mut out, needs);
+    out.len()
 }
 
 // Writes the reservation of a text to standard output.
@@ -49,26 +53,14 @@ fn answer(out: &mut impl Write, errors: &mut impl Write, text: &[u8]) {
     write_out(out, errors, b"reserve", &lines[..n]);
 }
 
-// Reads the text into its room, and answers.
-fn answer_into(
-    input: &mut impl Read,
-    out: &mut impl Write,
-    errors: &mut impl Write,
-    text: &mut [u8],
-) {
-    let Got::Bytes(n) = read_in(input, errors, b"reserve", text) else {
-        return;
-    };
-    answer(out, errors, &text[..n]);
-}
-
 // The room has a byte more than the longest text, so a longer one is refused by the reader itself.
 fn main(rt: HostRuntime) {
     let mut errors = rt.stderr();
     if argument_count(&rt) != 1 {
-        tell(&mut errors, b"usage: reserve < TEXT\n");
-        return;
+        return tell(&mut errors, b"usage: reserve < TEXT\n");
     }
     let mut text = [0u8; 16385];
-    answer_into(&mut rt.stdin(), &mut rt.stdout(), &mut errors, &mut text);
+    if let Some(n) = read_in(&mut rt.stdin(), &mut errors, b"reserve", &mut text) {
+        answer(&mut rt.stdout(), &mut errors, &text[..n]);
+    }
 }

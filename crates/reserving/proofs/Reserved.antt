@@ -5,6 +5,7 @@ use mathlib.Core.Logic.{◌⊎◌, inl, inr}
 use mathlib.Core.List.{List}
 use Prim.Native.Nat.{ℕ, ◌+◌, ◌*◌, ◌≤◌}
 use native.Mathlib.Omega.{arith}
+use Rattle.std.specs.Prelude.{Ok}
 use Rattle.notation.specs.Model.{Model}
 use Rattle.notation.specs.Texts.{TextSays, TextRefused}
 use Rattle.notation.specs.working.Machine as N
@@ -17,7 +18,7 @@ use Rattle.exploration.proofs.TrialCounts.{trials-few}
 use Rattle.verdicts.specs.Promises.{Room, SearchRefused}
 use Rattle.verdicts.specs.working.Searching.{search_of}
 use Rattle.verdicts.proofs.Places.{made-within, trials_bounded}
-use Rattle.verdicts.proofs.SearchTells.{made_of, search-tells, searched-not-refused}
+use Rattle.verdicts.proofs.SearchTells.{made_of, of_text, search-tells, searched-not-refused}
 use Rattle.verdicts.proofs.SheetsPass.{few}
 use Rattle.reserving.specs.Answers.{Wording, reserved, returned, wording_of}
 use Rattle.reserving.specs.Promises.{answer_for, ReserveTells, RefusalTells, ReservedWithoutCase, JustEnough, ReservesJustEnough, Bounded, ReservationsBounded}
@@ -26,11 +27,11 @@ use Rattle.reserving.specs.working.Reserving.{needs_of, reserve_in, reserve_of}
 pub reserve-tells : ReserveTells
 unfolding reserve_of reserve_in wording_of
 reserve-tells text m s =
-    ap (λ (o : N.Outcome). wording_of (reserve_in o)) (says-answer s.says) ∙ ap (λ (n : Model). wording_of (needs_of n)) s.meant
+    ap (λ (o : N.Outcome). wording_of (reserve_in o)) (says-answer s.says) ∙ ap (λ (n : Model). wording_of (Ok (needs_of n))) s.meant
 
 pub refusal-tells : RefusalTells
 unfolding reserve_of reserve_in wording_of
-refusal-tells text n i r = ap (λ (o : N.Outcome). wording_of (reserve_in o)) (refused-answer r)
+refusal-tells text n i r = ap (λ (o : N.Outcome). wording_of (reserve_in o)) (refused-answer r) ∙ ap (λ k. returned k i) (of_text r)
 
 pub reserved_without_case : ReservedWithoutCase
 unfolding reserve_of

@@ -2,56 +2,50 @@
 #![tactic(auto)]
 
 ghost use Rattle.std.specs.Prelude.{◌≡◌, ◌≤◌};
-ghost use Rattle.evaluation.specs.working.CodeSystem.{Sound};
 ghost use Rattle.reserving.specs.working.Reserving.{all_words, needs_in, reserve_of};
 
-use acceptance::plans::read_plan;
+use acceptance::plans::read_table;
 use evaluation::numbers::power;
-use evaluation::one_row::word_count;
-use evaluation::plan::Plan;
-use reader::Answer;
+use evaluation::one_row::OneRow;
+use refusals::Refusal;
 use sheets::fields::sheet_room;
 
-// The entries of one table, the bytes of the sheet buffer and the most trials; or the text is refused: the refusal's number and place.
-#[derive(Clone, Copy)]
-pub enum Reservation {
-    Needs(usize, usize, usize),
-    Refused(u8, usize),
+// The entries of one table, the bytes of the sheet buffer and the most trials.
+#[derive(Clone, Copy, Debug, PartialEq, Eq)]
+pub struct Reservation {
+    pub entries: usize,
+    pub bytes: usize,
+    pub trials: usize,
 }
 
 // How many choice words all commands have.
-fn all_words(plan: Plan) -> usize
-    requires { Sound plan }
-    ensures { (result ≡ all_words plan) × (result ≤ 4096) }
+fn all_words(table: &OneRow) -> usize
+    ensures { (result ≡ all_words table.now.plan) × (result ≤ 4096) }
 {
-    let commands = plan.commands;
     let mut sum: usize = 0;
-    'commands: for k in 0..commands {
-        sum += word_count(plan, k);
+    'commands: for k in 0..table.plan.commands {
+        sum += table.word_count(k);
     }
     sum
 }
 
 // What a search over a model's flat form needs.
-fn needs_of(plan: Plan) -> Reservation
-    requires { Sound plan }
-    ensures { result ≡ needs_in plan }
+fn needs_of(table: &OneRow) -> Reservation
+    ensures { result ≡ needs_in table.now.plan }
 {
-    let states = power(plan.bits);
-    let bytes = sheet_room(states);
-    let words = all_words(plan);
-    Reservation::Needs(states, bytes, states * words)
+    let states = power(table.plan.bits);
+    Reservation {
+        entries: states,
+        bytes: sheet_room(states),
+        trials: states * all_words(table),
+    }
 }
 
 // What a search of the model that a text says needs, or the text's refusal.
-pub fn reserve(text: &[u8]) -> Reservation
+pub fn reserve(text: &[u8]) -> Result<Reservation, Refusal>
     ensures { result ≡ reserve_of text.now }
 {
     let mut ops = [0u16; 2048];
-    let told = read_plan(text, &mut ops);
-    let answer = told.answer;
-    match answer {
-        Answer::Refused(n, p) => Reservation::Refused(n, p),
-        Answer::Read => needs_of(told.plan),
-    }
+    let table = read_table(text, &mut ops)?;
+    Ok(needs_of(&table))
 }

@@ -8,18 +8,21 @@ use native.Mathlib.Omega.{arith}
 use lib.Dec.{leb, ltb}
 use lib.ListN.{length, get_or, take}
 use lib.Seq.{length-take-le, get_or-take}
-use borrow.Author.Tests.{le-leb, lt-leb, lt-ltb, le-ltb}
+use borrow.Author.Tests.{leb-true, lt-ltb, le-ltb}
 use Rattle.notation.specs.working.Machine as N
 use Rattle.notation.specs.working.Answer.{answer}
-use Rattle.reader.specs.declared.Answer.{Answer}
-use Rattle.reader.specs.declared.Answer.TheVariants as A
-use Rattle.reader.specs.Read.{reading_of}
+use Rattle.std.specs.Prelude.{Result, Ok, Err}
+use Rattle.refusals.specs.declared.Refusal.{Refusal}
+use Rattle.refusals.specs.Reasons.{number_of, refusal_of}
+use Rattle.refusals.proofs.Texts.{text_reason}
+use Rattle.notation.proofs.Booleans.{and_split}
 use Rattle.evaluation.specs.declared.plan.Plan.{Plan}
 use Rattle.evaluation.specs.working.CodeSystem.{Sound}
 use Rattle.sheets.specs.Sheets.{System, size, sheet_room}
 use Rattle.sheets.specs.working.FlatSystem.{system_in}
+use Rattle.reader.specs.Read.{read_code}
 use Rattle.acceptance.specs.working.Test.{ReadInto}
-use Rattle.acceptance.proofs.TestTexts.{read_of, refused_of}
+use Rattle.acceptance.proofs.TestTexts.{read_of, refused_of, plan_read}
 use Rattle.exploration.specs.Pause.{Pause}
 use Rattle.exploration.specs.working.Transitions.{Transitions}
 use Rattle.exploration.specs.working.Exploring.{Progress, broke, progress}
@@ -33,49 +36,55 @@ use Rattle.exploration.proofs.Recorded.{recorded}
 use Rattle.exploration.proofs.Portions.{left_flag, left_count, left_queue, left_parents}
 use Rattle.verdicts.specs.Left.{Left}
 use Rattle.verdicts.specs.working.Searching.{left_by, found_by}
-use Rattle.verdicts.specs.declared.finding.Finding.{Finding}
-use Rattle.verdicts.specs.declared.finding.Finding.TheVariants as F
+use Rattle.verdicts.specs.Answers.{Searched}
+use Rattle.verdicts.proofs.SearchTells.{no_room}
 use Rattle.exploration.specs.working.Trials.{trial_count}
 use Rattle.exploration.specs.working.Results.{result_of}
 use Rattle.exploration.specs.working.Found.{verdict_for}
-use Rattle.conditions.specs.declared.outcome.Outcome.TheVariants as O
-use Rattle.questions.specs.declared.reply.Reply.{Reply}
-use Rattle.questions.specs.declared.reply.Reply.TheVariants as Q
+use Rattle.conditions.specs.declared.outcome.Declined.{Declined}
+use Rattle.conditions.specs.declared.outcome.Declined.TheVariants.{Refused}
 use Rattle.pauses.specs.Answers.{Wording, paused, returned}
 use Rattle.pauses.specs.Held.{Held, Holding}
 use Rattle.pauses.specs.working.Pausing.{flat_of, tabled, held_alone, held_by, nothing_left, portion_in, last_recorded, can_close, closed_by, all_from, finish_in, held_in, left_in, met_for, met_in, met_of}
-use Rattle.search.specs.working.Ends.{Ends}
-use Rattle.search.proofs.SearchesLeft.{and_first, and_second, left_kept}
+use Rattle.search.specs.working.Ends.{Ends, room_told}
+use Rattle.search.proofs.SearchesLeft.{told_none, told_some, left_kept}
 
 -- A call that may have left this answers so, and leaves the tables so.
 abbrev pub Told : Held → Wording → List ℕ → List ℕ → Type 0
 Told H w first second = (w ≡ H.answer) × Holding H first second
 
--- Whether the tables have room.
+-- A refusal in words.
+abbrev pub refused-with : Refusal → Wording
+refused-with x = returned (number_of x.reason) x.place
+
+-- Where the tables have no room the call is refused, and else it leaves what is due.
 module _ (M : System) (states : ℕ) (e : states ≡ size M) (q p : List ℕ) where
-  pub first_missing : length q < states → tabled M q p ≡ false
+  abbrev pub there : Bool
+  there = leb states (length q) && leb states (length p)
+
+  tested-tabled : there ≡ tabled M q p
   unfolding tabled
-  first_missing a = and_first _ _ (lt-leb (size M) (length q) (subst (λ (k : ℕ). length q < k) e a))
+  tested-tabled = ap (λ (n : ℕ). leb n (length q) && leb n (length p)) e
 
-  module _ (a : states ≤ length q) where
-    first-there : leb (size M) (length q) ≡ true
-    first-there = le-leb (size M) (length q) (subst (λ (k : ℕ). k ≤ length q) e a)
+  pub tables-missing : {x : Refusal} → Err x ≡ room_told there → (tabled M q p ≡ false) × (x ≡ refusal_of 8 0)
+  tables-missing h = let n = told_none there h in (sym tested-tabled ∙ n.0, n.1)
 
-    pub second_missing : length p < states → tabled M q p ≡ false
-    unfolding tabled
-    second_missing b = and_second _ _ first-there (lt-leb (size M) (length p) (subst (λ (k : ℕ). length p < k) e b))
+  pub tables_there : {u : Unit {0}} → Ok u ≡ room_told there → tabled M q p ≡ true
+  tables_there h = sym tested-tabled ∙ told_some there h
 
-    pub both_there : states ≤ length p → tabled M q p ≡ true
-    unfolding tabled
-    both_there b = and_second _ _ first-there (le-leb (size M) (length p) (subst (λ (k : ℕ). k ≤ length p) e b))
+  -- There is room for both.
+  pub tables-fit : {u : Unit {0}} → Ok u ≡ room_told there → (states ≤ length q) × (states ≤ length p)
+  tables-fit h = let a = and_split (leb states (length q)) _ (told_some there h) in (leb-true _ _ a.0, leb-true _ _ a.1)
 
--- Without room a call is refused, and else it leaves what is due.
-module _ (due : Held) (q p : List ℕ) (b : Bool) where
-  pub told-refused : b ≡ false → Told (cond b due (held_alone 8 0 q p)) (returned 8 0) q p
-  told-refused h = subst (λ (H : Held). Told H (returned 8 0) q p) (sym (ap (λ (t : Bool). cond t due (held_alone 8 0 q p)) h)) (refl, (refl, refl))
+  module _ (due : Held) where
+    pub told-refused : {x : Refusal} → Err x ≡ room_told there → Told (cond (tabled M q p) due (held_alone 8 0 q p)) (refused-with x) q p
+    told-refused {x} h =
+        let n = tables-missing h in
+        subst (λ (H : Held). Told H (refused-with x) q p) (sym (ap (λ (t : Bool). cond t due (held_alone 8 0 q p)) n.0))
+        (ap refused-with n.1 ∙ ap (λ (k : ℕ). returned k 0) no_room, (refl, refl))
 
-  pub told_due : b ≡ true → {w : Wording} {q₁ p₁ : List ℕ} → Told due w q₁ p₁ → Told (cond b due (held_alone 8 0 q p)) w q₁ p₁
-  told_due h {w} {q₁} {p₁} t = subst (λ (H : Held). Told H w q₁ p₁) (sym (ap (λ (t : Bool). cond t due (held_alone 8 0 q p)) h)) t
+    pub told_due : {u : Unit {0}} → Ok u ≡ room_told there → {w : Wording} {q₁ p₁ : List ℕ} → Told due w q₁ p₁ → Told (cond (tabled M q p) due (held_alone 8 0 q p)) w q₁ p₁
+    told_due h {w} {q₁} {p₁} t = subst (λ (H : Held). Told H w q₁ p₁) (sym (ap (λ (b : Bool). cond b due (held_alone 8 0 q p)) (tables_there h))) t
 
 pause_same : {e₁ e₂ m₁ m₂ t₁ t₂ : ℕ} {b₁ b₂ : Bool} → e₁ ≡ e₂ → m₁ ≡ m₂ → b₁ ≡ b₂ → t₁ ≡ t₂
     → ◌≡◌ {A = Pause} (record { expanded = e₁; met = m₁; broke = b₁; trials = t₁ }) (record { expanded = e₂; met = m₂; broke = b₂; trials = t₂ })
@@ -119,7 +128,7 @@ module _ (ops : List ℕ) (plan : Plan) where
 
   -- What a search that is finished leaves.
   module _ (S : Sound plan) (states : ℕ) (e : states ≡ size M) (o : List ℕ) (room : sheet_room M ≤ length o) (a : Pause) (q₀ p₀ : List ℕ) where
-    pub finish-anew : intact (size M) a q₀ p₀ ≡ false → {r : Finding} {q₂ p₂ o₂ : List ℕ} → Ends (found_by M q₀ p₀ o) r q₂ p₂ o₂ → Ends (finish_in M a q₀ p₀ o) r q₂ p₂ o₂
+    pub finish-anew : intact (size M) a q₀ p₀ ≡ false → {r : Searched} {q₂ p₂ o₂ : List ℕ} → Ends (found_by M q₀ p₀ o) r q₂ p₂ o₂ → Ends (finish_in M a q₀ p₀ o) r q₂ p₂ o₂
     unfolding finish_in
     finish-anew h {r} {q₂} {p₂} {o₂} l =
         subst (λ (L : Left). Ends L r q₂ p₂ o₂)
@@ -138,7 +147,7 @@ module _ (ops : List ℕ) (plan : Plan) where
           ap (λ (t : Bool). cond t (closed_by M (all_from M a q₀ p₀).went (all_from M a q₀ p₀).trials q₀ p₀ o) (found_by M q₀ p₀ o)) h
           ∙ ap (λ (s : Stand). closed_by M s.went s.trials q₀ p₀ o) (sym all_same)
 
-      pub finish_unclosed : can_close T went ≡ false → {r : Finding} {q₂ p₂ o₂ : List ℕ} → Ends (found_by M q p o) r q₂ p₂ o₂ → Ends (finish_in M a q₀ p₀ o) r q₂ p₂ o₂
+      pub finish_unclosed : can_close T went ≡ false → {r : Searched} {q₂ p₂ o₂ : List ℕ} → Ends (found_by M q p o) r q₂ p₂ o₂ → Ends (finish_in M a q₀ p₀ o) r q₂ p₂ o₂
       unfolding closed_by
       finish_unclosed c {r} {q₂} {p₂} {o₂} l =
           subst (λ (L : Left). Ends L r q₂ p₂ o₂)
@@ -146,7 +155,7 @@ module _ (ops : List ℕ) (plan : Plan) where
           ∙ sym (closing ∙ ap (λ (t : Bool). cond t (left_by M went b.trials q₀ p₀ o) (found_by M q₀ p₀ o)) c))
           l
 
-      pub finish-closed : can_close T went ≡ true → {r : Finding} {q₂ p₂ o₂ : List ℕ} → Ends (left_by M went b.trials q p o) r q₂ p₂ o₂ → Ends (finish_in M a q₀ p₀ o) r q₂ p₂ o₂
+      pub finish-closed : can_close T went ≡ true → {r : Searched} {q₂ p₂ o₂ : List ℕ} → Ends (left_by M went b.trials q p o) r q₂ p₂ o₂ → Ends (finish_in M a q₀ p₀ o) r q₂ p₂ o₂
       unfolding closed_by
       finish-closed c {r} {q₂} {p₂} {o₂} l =
           subst (λ (L : Left). Ends L r q₂ p₂ o₂)
@@ -189,59 +198,59 @@ module _ (T : Transitions) (b : Bool) (n : ℕ) (q p : List ℕ) where
           (h, recorded T (take T.size p) (get_or q (n - 1) 0) (R.below (n - 1) (omega arith)) (sym (close_recorded T.size refl R e h) ∙ c))
 
 -- Whether a state is met, test by test.
-module _ (M : System) (t : ℕ) (q p : List ℕ) where
-  pub unasked : tabled M q p ≡ false → Q.Told (O.Refused 8 0) ≡ met_for M t q p
+module _ (M : System) (states : ℕ) (e : states ≡ size M) (t : ℕ) (q p : List ℕ) where
+  pub unasked : {x : Refusal} → Err x ≡ room_told (there M states e q p) → Err (Refused x) ≡ met_for M t q p
   unfolding met_for
-  unasked h = rw h
+  unasked h = let n = tables-missing M states e q p h in rw n.0 (ap (λ (y : Refusal). Err (Refused y)) n.1)
 
-  module _ (h : tabled M q p ≡ true) where
-    pub no-state : size M ≤ t → Q.Told (O.Refused 10 0) ≡ met_for M t q p
+  module _ {u : Unit {0}} (h : Ok u ≡ room_told (there M states e q p)) where
+    pub no-state : states ≤ t → Err (Refused (refusal_of 10 0)) ≡ met_for M t q p
     unfolding met_for
-    no-state l = rw (h, le-ltb t (size M) l)
+    no-state l = rw (tables_there M states e q p h, le-ltb t (size M) (subst (λ (n : ℕ). n ≤ t) e l))
 
-    module _ (l : t < size M) where
-      pub not-met : get_or p t 0 ≡ 0 → Q.No ≡ met_for M t q p
-      unfolding met_for
-      not-met e = rw (h, lt-ltb t (size M) l, le-ltb 0 (get_or p t 0) (omega (arith, e)))
-
-      pub is-met : (get_or p t 0 ≡ 0 → ⊥) → Q.Yes ≡ met_for M t q p
-      unfolding met_for
-      is-met e = rw (h, lt-ltb t (size M) l, lt-ltb 0 (get_or p t 0) (positive (get_or p t 0) e))
-        where
-          positive : (n : ℕ) → (n ≡ 0 → ⊥) → 0 < n
-          positive n f = omega arith
+    pub entry-told : t < states → Ok (ltb 0 (get_or p t 0)) ≡ met_for M t q p
+    unfolding met_for
+    entry-told l = rw (tables_there M states e q p h, lt-ltb t (size M) (subst (λ (n : ℕ). t < n) e l))
 
 -- The text was read, and the code is that of its model; or it was refused.
-module _ (text : List ℕ) {told : Answer} {plan : Plan} {ops : List ℕ} (P : ReadInto text told plan ops) where
-  pub flat_same : system_in ops plan ≡ flat_of text
-  flat_same = ap (λ (x : List ℕ). system_in x plan) P.coded ∙ ap (λ (x : Plan). system_in (reading_of text).code.ops x) P.planned
+module _ (text : List ℕ) {told : Result Plan Refusal} {ops : List ℕ} (P : ReadInto text told ops) where
+  module _ {plan : Plan} (h : told ≡ Ok plan) where
+    pub flat_same : system_in ops plan ≡ flat_of text
+    flat_same = ap (λ (x : List ℕ). system_in x plan) P.coded ∙ ap (λ (x : Plan). system_in (read_code text).ops x) (plan_read text P plan h)
 
-  pub held_read : A.Read ≡ told → (due : System → List ℕ → List ℕ → Held) (q p : List ℕ) {w : Wording} {q₁ p₁ : List ℕ}
-      → Told (due (system_in ops plan) q p) w q₁ p₁ → Told (held_in (answer text) (due (flat_of text)) q p) w q₁ p₁
-  held_read h due q p {w} {q₁} {p₁} t =
-      subst (λ (H : Held). Told H w q₁ p₁)
-      (ap (λ (M : System). due M q p) flat_same ∙ sym (ap (λ (u : N.Outcome). held_in u (due (flat_of text)) q p) (read_of text P h).told))
-      t
+    pub held_read : (due : System → List ℕ → List ℕ → Held) (q p : List ℕ) {w : Wording} {q₁ p₁ : List ℕ}
+        → Told (due (system_in ops plan) q p) w q₁ p₁ → Told (held_in (answer text) (due (flat_of text)) q p) w q₁ p₁
+    held_read due q p {w} {q₁} {p₁} t =
+        subst (λ (H : Held). Told H w q₁ p₁)
+        (ap (λ (M : System). due M q p) flat_same ∙ sym (ap (λ (u : N.Outcome). held_in u (due (flat_of text)) q p) (read_of text P plan h).told))
+        t
 
-  pub held_refused : (n i : ℕ) → A.Refused n i ≡ told → (due : List ℕ → List ℕ → Held) (q p : List ℕ) → Told (held_in (answer text) due q p) (returned n i) q p
-  held_refused n i h due q p = subst (λ (H : Held). Told H (returned n i) q p) (sym (ap (λ (u : N.Outcome). held_in u due q p) (refused_of text P n i h))) (refl, (refl, refl))
+    pub left_read : (due : System → List ℕ → List ℕ → List ℕ → Left) (q p o : List ℕ) {r : Searched} {q₁ p₁ o₁ : List ℕ}
+        → Ends (due (system_in ops plan) q p o) r q₁ p₁ o₁ → Ends (left_in (answer text) (due (flat_of text)) q p o) r q₁ p₁ o₁
+    left_read due q p o {r} {q₁} {p₁} {o₁} t =
+        subst (λ (L : Left). Ends L r q₁ p₁ o₁)
+        (ap (λ (M : System). due M q p o) flat_same ∙ sym (ap (λ (u : N.Outcome). left_in u (due (flat_of text)) q p o) (read_of text P plan h).told))
+        t
 
-  pub left_read : A.Read ≡ told → (due : System → List ℕ → List ℕ → List ℕ → Left) (q p o : List ℕ) {r : Finding} {q₁ p₁ o₁ : List ℕ}
-      → Ends (due (system_in ops plan) q p o) r q₁ p₁ o₁ → Ends (left_in (answer text) (due (flat_of text)) q p o) r q₁ p₁ o₁
-  left_read h due q p o {r} {q₁} {p₁} {o₁} t =
-      subst (λ (L : Left). Ends L r q₁ p₁ o₁)
-      (ap (λ (M : System). due M q p o) flat_same ∙ sym (ap (λ (u : N.Outcome). left_in u (due (flat_of text)) q p o) (read_of text P h).told))
-      t
+    pub met-read : (t : ℕ) (q p : List ℕ) {r : Result Bool Declined} → r ≡ met_for (system_in ops plan) t q p → r ≡ met_of text t q p
+    unfolding met_in met_of
+    met-read t q p e =
+        e ∙ ap (λ (M : System). met_for M t q p) flat_same ∙ sym (ap (λ (u : N.Outcome). met_in u (met_for (flat_of text) t) q p) (read_of text P plan h).told)
 
-  pub left_refused : (n i : ℕ) → A.Refused n i ≡ told → (due : List ℕ → List ℕ → List ℕ → Left) (q p o : List ℕ) → Ends (left_in (answer text) due q p o) (F.Refused n i) q p o
-  left_refused n i h due q p o =
-      subst (λ (L : Left). Ends L (F.Refused n i) q p o) (sym (ap (λ (u : N.Outcome). left_in u due q p o) (refused_of text P n i h))) (refl, (refl, refl, refl))
+  module _ {r : Refusal} (h : told ≡ Err r) where
+    pub held_refused : (due : List ℕ → List ℕ → Held) (q p : List ℕ) → Told (held_in (answer text) due q p) (refused-with r) q p
+    held_refused due q p =
+        let t = refused_of text P r h in
+        subst (λ (H : Held). Told H (refused-with r) q p) (sym (ap (λ (u : N.Outcome). held_in u due q p) t.2))
+        (ap refused-with t.3 ∙ ap (λ (k : ℕ). returned k t.1) (text_reason text t.0 t.1 t.2), (refl, refl))
 
-  pub met-read : A.Read ≡ told → (t : ℕ) (q p : List ℕ) (r : Reply) → r ≡ met_for (system_in ops plan) t q p → r ≡ met_of text t q p
-  unfolding met_in met_of
-  met-read h t q p r e =
-      e ∙ ap (λ (M : System). met_for M t q p) flat_same ∙ sym (ap (λ (u : N.Outcome). met_in u (met_for (flat_of text) t) q p) (read_of text P h).told)
+    pub left_refused : (due : List ℕ → List ℕ → List ℕ → Left) (q p o : List ℕ) → Ends (left_in (answer text) due q p o) (Err r) q p o
+    left_refused due q p o =
+        let t = refused_of text P r h in
+        subst (λ (L : Left). Ends L (Err r) q p o) (sym (ap (λ (u : N.Outcome). left_in u due q p o) t.2)) (ap Err t.3, (refl, refl, refl))
 
-  pub met-refused : (n i : ℕ) → A.Refused n i ≡ told → (t : ℕ) (q p : List ℕ) → Q.Told (O.Refused n i) ≡ met_of text t q p
-  unfolding met_in met_of
-  met-refused n i h t q p = sym (ap (λ (u : N.Outcome). met_in u (met_for (flat_of text) t) q p) (refused_of text P n i h))
+    pub met-refused : (t : ℕ) (q p : List ℕ) → Err (Refused r) ≡ met_of text t q p
+    unfolding met_in met_of
+    met-refused s q p =
+        let t = refused_of text P r h in
+        ap (λ (x : Refusal). Err (Refused x)) t.3 ∙ sym (ap (λ (u : N.Outcome). met_in u (met_for (flat_of text) s) q p) t.2)

@@ -9,7 +9,6 @@ use lib.Dec.{leb, ltb}
 use lib.ListN.{length, get_or, take, drop, replicate}
 use lib.Pow.{pow_pos}
 use lib.Seq.{sets, length-sets}
-use borrow.Author.Tests.{le-leb, lt-leb}
 use Rattle.evaluation.proofs.Powers.{pow_small}
 use Rattle.evaluation.specs.declared.plan.Plan.{Plan}
 use Rattle.evaluation.specs.working.CodeSystem.{Sound}
@@ -22,13 +21,16 @@ use Rattle.exploration.specs.working.Exploring.{Progress, progress, search}
 use Rattle.exploration.specs.working.Results.{result}
 use Rattle.exploration.specs.working.Tables.{seen, Kept, Ran}
 use Rattle.exploration.specs.working.Trials.{trial_count}
-use Rattle.exploration.specs.working.Written.{head_bytes, run_bytes, map_from, RecordedTo, Closing, TraceStored}
+use Rattle.exploration.specs.working.Written.{head_bytes, run_bytes, map_from, Closing, TraceStored}
 use Rattle.meaning.specs.Evidence.{Verdict}
 use Rattle.verdicts.specs.Left.{Left}
 use Rattle.verdicts.specs.working.Searching.{roomy, left_with, left_by, found_by, left_alone}
-use Rattle.search.specs.working.Ends.{Ends}
-use Rattle.verdicts.specs.declared.finding.Finding.{Finding}
-use Rattle.verdicts.specs.declared.finding.Finding.TheVariants.{Safe, Void, Unsafe, Refused}
+use Rattle.search.specs.working.Ends.{Ends, room_told}
+use Rattle.verdicts.specs.declared.finding.Finding.TheVariants.{Safe, Void, Unsafe}
+use Rattle.verdicts.specs.Answers.{Searched}
+use Rattle.std.specs.Prelude.{Ok, Err}
+use Rattle.refusals.specs.declared.Refusal.{Refusal}
+use Rattle.refusals.specs.Reasons.{refusal_of}
 use Rattle.exploration.specs.working.Found.{found_in}
 use Rattle.exploration.proofs.CodeSteps.{code_lawful}
 use Rattle.exploration.proofs.Laws.{count_le}
@@ -36,14 +38,6 @@ use Rattle.exploration.proofs.Whole.{queue_cleared, parent_cleared, last_run, cl
 use Rattle.exploration.proofs.TraceSteps.{steps-count}
 use Rattle.exploration.proofs.Map.{map-length}
 use Rattle.search.proofs.SheetsFound.{trace_left, safe-map_left, void-map_left}
-
--- Room for the header.
-pub header-asked : (ops : List ℕ) (plan : Plan) (n : ℕ) → Sound plan → sheet_room (system_in ops plan) ≤ n
-    → (9 ≤ n) × (plan.shared < 256) × (plan.row < 256) × (plan.commands < 256)
-header-asked ops plan n S h =
-    let p : 0 < 2 ^ plan.bits = pow_pos plan.bits in
-    let a : plan.shared + plan.row ≤ 12 = omega (arith, S.named, S.few_bits) in
-    (omega arith, omega arith, omega arith, omega (arith, S.few_commands))
 
 -- The map of at most 4096 states has at most 512 bytes.
 pub length-small : (k states n : ℕ) → k ≤ 12 → states ≡ 2 ^ k → n ≡ map_length states → n ≤ 512
@@ -83,9 +77,6 @@ module _ (ops : List ℕ) (plan : Plan) (S : Sound plan) (states : ℕ) (e : sta
             let k = header-kept in
             omega arith
 
-        pub head-asked : at + 6 ≤ length o₁
-        head-asked = omega (arith, map-room)
-
         pub map-asked : (m : ℕ) → states ≤ m → (o₂ : List ℕ) → o₂ ≡ sets o₁ at (head_bytes n 2) → (states ≤ m) × (n ≤ 512) × (at + 6 + n ≤ length o₂)
         map-asked m s o₂ g =
             (s, length-small plan.bits states n S.few_bits e f, omega (arith, map-room, ap length g, length-sets o₁ at (head_bytes n 2)))
@@ -100,10 +91,6 @@ module _ (ops : List ℕ) (plan : Plan) (S : Sound plan) (states : ℕ) (e : sta
         pub last_within : b ≡ true → n - 1 < length q
         last_within f = let a = C.some f in let d = count_le T q n p C.ready in let g = C.ready.queue-room in omega arith
 
-        pub trace-asked : b ≡ true
-            → Sound plan × (2 ^ plan.bits ≤ length p) × RecordedTo T (take (2 ^ plan.bits) p) (get_or q (n - 1) 0) × (at + 10 * 2 ^ plan.bits ≤ length o₁ + 2)
-        trace-asked f = (S, C.ready.parent-room, C.recorded f, omega (arith, room, e, header-kept))
-
         -- What is to be left.
         abbrev Due : Left
         Due = left_by M (progress b (seen T q n p)) j q p o₀
@@ -112,7 +99,7 @@ module _ (ops : List ℕ) (plan : Plan) (S : Sound plan) (states : ℕ) (e : sta
         sized l l₁ h = subst (λ (k : ℕ). l₁ ≡ replicate k 0 ++ drop k l) e h
 
         module _ {q₁ p₁ : List ℕ} (eq : q₁ ≡ replicate states 0 ++ drop states q) (ep : p₁ ≡ replicate states 0 ++ drop states p) where
-          pub unsafe_left : b ≡ true → {o : List ℕ} {len : ℕ} → TraceStored T p (get_or q (n - 1) 0) at o₁ o len → Ends Due (Unsafe len) q₁ p₁ o
+          pub unsafe_left : b ≡ true → {o : List ℕ} {len : ℕ} → TraceStored T p (get_or q (n - 1) 0) at o₁ o len → Ends Due (Ok (Unsafe len)) q₁ p₁ o
           unfolding header_bytes record_bytes little run_bytes
           unsafe_left f w =
               trace_left M o₀ header q p (sized q q₁ eq) (sized p p₁ ep) j (closed_unsafe C f) w.bytes
@@ -132,11 +119,11 @@ module _ (ops : List ℕ) (plan : Plan) (S : Sound plan) (states : ℕ) (e : sta
                 ∙ ap (λ (u : ℕ). sets o₂ (at + 6) (map_from (map (ltb 0) (take u p)) 0 k)) e
                 ∙ ap (λ (u : ℕ). sets o₂ (at + 6) (map_from (map (ltb 0) (take (2 ^ plan.bits) p)) 0 u)) counted
 
-            pub void_left : n ≡ 0 → Ends Due (Void (at + 6 + k)) q₁ p₁ o
+            pub void_left : n ≡ 0 → Ends Due (Ok (Void (at + 6 + k))) q₁ p₁ o
             unfolding header_bytes record_bytes little
             void_left z = void-map_left M o₀ header q p (sized q q₁ eq) (sized p p₁ ep) long x stored j (closed-void C f z)
 
-            pub safe_left : 0 < n → Ends Due (Safe (at + 6 + k) j) q₁ p₁ o
+            pub safe_left : 0 < n → Ends Due (Ok (Safe (at + 6 + k) j)) q₁ p₁ o
             unfolding header_bytes record_bytes little
             safe_left z = safe-map_left M o₀ header q p (sized q q₁ eq) (sized p p₁ ep) long x stored j refl (closed-safe C f z)
 
@@ -147,7 +134,7 @@ module _ (ops : List ℕ) (plan : Plan) (S : Sound plan) (states : ℕ) (e : sta
         record { answer = (left_with M v t q p o₀).answer; first = queue_cleared K i; second = parent_cleared K i; sheet = (left_with M v t q p o₀).sheet }
 
     -- Where the whole search was run, that is what the search finds.
-    pub run_left : {q₀ p₀ q p : List ℕ} {n : ℕ} {b : Bool} {j : ℕ} → Ran T q₀ p₀ q n p b j → {r : Finding} {q₁ p₁ o : List ℕ}
+    pub run_left : {q₀ p₀ q p : List ℕ} {n : ℕ} {b : Bool} {j : ℕ} → Ran T q₀ p₀ q n p b j → {r : Searched} {q₁ p₁ o : List ℕ}
         → Ends (left_by M (progress b (seen T q n p)) j q p o₀) r q₁ p₁ o → Ends (found_by M q₀ p₀ o₀) r q₁ p₁ o
     unfolding found_in result
     run_left {q₀} {p₀} {q} {p} {n} {b} {j} R {r} {q₁} {p₁} {o} l =
@@ -157,46 +144,33 @@ module _ (ops : List ℕ) (plan : Plan) (S : Sound plan) (states : ℕ) (e : sta
         ∙ left_kept R.kept (found_in T) (trial_count T))
         l
 
--- A test that fails, or that holds, first.
-pub and_first : (a b : Bool) → a ≡ false → a && b ≡ false
-and_first a b e = rw e
+-- What was told of the room tells the test.
+pub told_none : (b : Bool) {x : Refusal} → Err x ≡ room_told b → (b ≡ false) × (x ≡ refusal_of 8 0)
+told_none true e = cc
+told_none false e = (refl, cc)
 
-pub and_second : {c : Bool} (a b : Bool) → a ≡ true → b ≡ c → a && b ≡ c
-and_second a b e f = rw e f
+pub told_some : (b : Bool) {u : Unit {0}} → Ok u ≡ room_told b → b ≡ true
+told_some true e = refl
+told_some false e = cc
 
--- Whether there is room: where there is none, the call is refused, and else it leaves what is due.
+-- Where there is no room the call is refused, and else it leaves what is due.
 module _ (M : System) (due : Left) (states : ℕ) (e : states ≡ size M) (q p o : List ℕ) where
   abbrev pub Judged : Left
   Judged = cond (roomy M q p o) due (left_alone 8 0 q p o)
 
-  no_room : roomy M q p o ≡ false → Ends Judged (Refused 8 0) q p o
-  no_room h =
-      let d : Judged ≡ left_alone 8 0 q p o = ap (λ (t : Bool). cond t due (left_alone 8 0 q p o)) h in
-      subst (λ (L : Left). Ends L (Refused 8 0) q p o) (sym d) (refl, (refl, refl, refl))
+  abbrev tested : Bool
+  tested = leb states (length q) && (leb states (length p) && leb (4 + length M.counts + 10 * states) (length o))
 
-  pub first_short_lem : length q < states → Ends Judged (Refused 8 0) q p o
+  tested-roomy : tested ≡ roomy M q p o
   unfolding roomy
-  first_short_lem a = no_room (and_first _ _ (lt-leb (size M) (length q) (subst (λ (k : ℕ). length q < k) e a)))
+  tested-roomy = ap (λ (n : ℕ). leb n (length q) && (leb n (length p) && leb (4 + length M.counts + 10 * n) (length o))) e
 
-  module _ (a : states ≤ length q) where
-    first-room : leb (size M) (length q) ≡ true
-    first-room = le-leb (size M) (length q) (subst (λ (k : ℕ). k ≤ length q) e a)
+  pub room_missing : {x : Refusal} → Err x ≡ room_told tested → Ends Judged (Err x) q p o
+  room_missing {x} h =
+      let n = told_none tested h in
+      subst (λ (L : Left). Ends L (Err x) q p o) (sym (ap (λ (t : Bool). cond t due (left_alone 8 0 q p o)) (sym tested-roomy ∙ n.0)))
+      (ap Err n.1, (refl, refl, refl))
 
-    pub second_short_lem : length p < states → Ends Judged (Refused 8 0) q p o
-    unfolding roomy
-    second_short_lem b = no_room (and_second _ _ first-room (and_first _ _ (lt-leb (size M) (length p) (subst (λ (k : ℕ). length p < k) e b))))
-
-    module _ (b : states ≤ length p) where
-      next-room : leb (size M) (length p) ≡ true
-      next-room = le-leb (size M) (length p) (subst (λ (k : ℕ). k ≤ length p) e b)
-
-      pub sheet-short : length o < 4 + length M.counts + 10 * states → Ends Judged (Refused 8 0) q p o
-      unfolding roomy
-      sheet-short d = no_room (and_second _ _ first-room (and_second _ _ next-room (lt-leb (sheet_room M) (length o) (omega (arith, d, e)))))
-
-      pub room_for : 4 + length M.counts + 10 * states ≤ length o → (r : Finding) (q₁ p₁ o₁ : List ℕ)
-          → Ends due r q₁ p₁ o₁ → Ends Judged r q₁ p₁ o₁
-      unfolding roomy
-      room_for d r q₁ p₁ o₁ l =
-          let g : roomy M q p o ≡ true = and_second _ _ first-room (and_second _ _ next-room (le-leb (sheet_room M) (length o) (omega (arith, d, e)))) in
-          subst (λ (L : Left). Ends L r q₁ p₁ o₁) (sym (ap (λ (t : Bool). cond t due (left_alone 8 0 q p o)) g)) l
+  pub room_there : {u : Unit {0}} → Ok u ≡ room_told tested → {r : Searched} {q₁ p₁ o₁ : List ℕ} → Ends due r q₁ p₁ o₁ → Ends Judged r q₁ p₁ o₁
+  room_there h {r} {q₁} {p₁} {o₁} l =
+      subst (λ (L : Left). Ends L r q₁ p₁ o₁) (sym (ap (λ (t : Bool). cond t due (left_alone 8 0 q p o)) (sym tested-roomy ∙ told_some tested h))) l

@@ -6,6 +6,7 @@ use Prim.Native.Nat.{ℕ, ◌+◌, ◌*◌}
 use native.Mathlib.Omega.{arith}
 use lib.ListN.{length}
 use lib.Seq.{sets}
+use Rattle.std.specs.Prelude.{Ok}
 use Rattle.statements.proofs.StoredCode.{sets-append}
 use Rattle.meaning.specs.OneRow.{TraceStep}
 use Rattle.sheets.specs.Sheets.{System, size, little, record_bytes, header_bytes, map_bytes, start_bytes, steps_bytes, sheet_bytes}
@@ -43,22 +44,22 @@ module _ (M : System) (o₀ : List ℕ) {o₁ : List ℕ} (h : o₁ ≡ sets o�
   module _ (q₀ p₀ : List ℕ) {q p : List ℕ} (eq : q ≡ zeroed (size M) q₀) (ep : p ≡ zeroed (size M) p₀) where
     pub trace_left : {v : Verdict} (t : ℕ) {s : ℕ} {xs : List TraceStep} → v ≡ unsafe_by s xs → {o : List ℕ} {len : ℕ}
         → o ≡ sets o₁ (length (header_bytes M)) (start_bytes s ++ steps_bytes xs) → len ≡ length (header_bytes M) + 8 + 10 * length xs
-        → Ends (left_with M v t q₀ p₀ o₀) (Unsafe len) q p o
+        → Ends (left_with M v t q₀ p₀ o₀) (Ok (Unsafe len)) q p o
     unfolding verdict_of sheet_bytes
     trace_left {v} t {s} {xs} e {o} {len} w l =
-        subst (λ (u : Verdict). Ends (left_with M u t q₀ p₀ o₀) (Unsafe len) q p o) (sym e)
-        (ap Unsafe (l ∙ sym (trace-sheet-length M s xs)), (eq, ep, w ∙ behind (start_bytes s ++ steps_bytes xs)))
+        subst (λ (u : Verdict). Ends (left_with M u t q₀ p₀ o₀) (Ok (Unsafe len)) q p o) (sym e)
+        (ap (λ (k : ℕ). Ok (Unsafe k)) (l ∙ sym (trace-sheet-length M s xs)), (eq, ep, w ∙ behind (start_bytes s ++ steps_bytes xs)))
 
     module _ {map o₂ o : List ℕ} {n : ℕ} (f : n ≡ length map) (w : o₂ ≡ sets o₁ (length (header_bytes M)) (head_bytes n 2))
         (x : o ≡ sets o₂ (length (header_bytes M) + 6) map) where
-      pub safe-map_left : {v : Verdict} (t : ℕ) {j : ℕ} → j ≡ t → v ≡ safe_by map → Ends (left_with M v t q₀ p₀ o₀) (Safe (length (header_bytes M) + 6 + n) j) q p o
+      pub safe-map_left : {v : Verdict} (t : ℕ) {j : ℕ} → j ≡ t → v ≡ safe_by map → Ends (left_with M v t q₀ p₀ o₀) (Ok (Safe (length (header_bytes M) + 6 + n) j)) q p o
       unfolding verdict_of
       safe-map_left t {j} g e =
-          subst (λ (u : Verdict). Ends (left_with M u t q₀ p₀ o₀) (Safe (length (header_bytes M) + 6 + n) j) q p o) (sym e)
-          (ap (λ (k : ℕ). Safe k j) (map-counted map n f) ∙ ap (Safe (length (sheet_bytes M (safe map)))) g, (eq, ep, map-stored map o₂ o n f w x))
+          subst (λ (u : Verdict). Ends (left_with M u t q₀ p₀ o₀) (Ok (Safe (length (header_bytes M) + 6 + n) j)) q p o) (sym e)
+          (ap (λ (k : ℕ). Ok (Safe k j)) (map-counted map n f) ∙ ap (λ (k : ℕ). Ok (Safe (length (sheet_bytes M (safe map))) k)) g, (eq, ep, map-stored map o₂ o n f w x))
 
-      pub void-map_left : {v : Verdict} (t : ℕ) → v ≡ void_by map → Ends (left_with M v t q₀ p₀ o₀) (Void (length (header_bytes M) + 6 + n)) q p o
+      pub void-map_left : {v : Verdict} (t : ℕ) → v ≡ void_by map → Ends (left_with M v t q₀ p₀ o₀) (Ok (Void (length (header_bytes M) + 6 + n))) q p o
       unfolding verdict_of
       void-map_left t e =
-          subst (λ (u : Verdict). Ends (left_with M u t q₀ p₀ o₀) (Void (length (header_bytes M) + 6 + n)) q p o) (sym e)
-          (ap Void (map-counted map n f), (eq, ep, map-stored map o₂ o n f w x))
+          subst (λ (u : Verdict). Ends (left_with M u t q₀ p₀ o₀) (Ok (Void (length (header_bytes M) + 6 + n))) q p o) (sym e)
+          (ap (λ (k : ℕ). Ok (Void k)) (map-counted map n f), (eq, ep, map-stored map o₂ o n f w x))

@@ -5,20 +5,16 @@ ghost use Rattle.pauses.specs.working.Pausing.{open_of, portion_of, finish_of, m
 ghost use Rattle.sheets.specs.SheetTexts.{AreBytes};
 ghost use Rattle.verdicts.specs.Left.{Leaves};
 ghost use Rattle.search.specs.Answers.{pause_for, wording_of};
-ghost use Rattle.search.specs.working.Ends.{EndsWith};
-ghost use Rattle.search.specs.working.Pausing.{pause_in};
 
 use crate::portions::{finish_code, met_code, open_code, portion_code};
-use acceptance::plans::read_plan;
-use conditions::outcome::Outcome;
-use questions::reply::Reply;
-use reader::Answer;
-use sheets::fields::bytes_known;
+use acceptance::plans::read_table;
+use conditions::outcome::Declined;
+use refusals::Refusal;
 use traversal::exploring::Reach;
-use verdicts::finding::Finding;
+use verdicts::finding::Searched;
 
 // How many states were expanded and how many were met, whether the last of them violates `keep`, and how many trials were made.
-#[derive(Clone, Copy)]
+#[derive(Clone, Copy, Debug, Default, PartialEq, Eq)]
 pub struct Position {
     pub expanded: usize,
     pub met: usize,
@@ -26,11 +22,34 @@ pub struct Position {
     pub trials: usize,
 }
 
-// A position; or the call is refused: the refusal's number and place.
-#[derive(Clone, Copy)]
-pub enum Paused {
-    At(Position),
-    Refused(u8, usize),
+// A position, unless the call is refused.
+pub type Paused = Result<Position, Refusal>;
+
+// How far the loops went is a position, and back.
+impl From<Reach> for Position {
+    ghost from_gives = { λ reach position. position ≡ record { expanded = reach.head; met = reach.count; broke = reach.found; trials = reach.trials } };
+
+    fn from(reach: Reach) -> Position {
+        Position {
+            expanded: reach.head,
+            met: reach.count,
+            broke: reach.found,
+            trials: reach.trials,
+        }
+    }
+}
+
+impl From<Position> for Reach {
+    ghost from_gives = { λ position reach. reach ≡ record { count = position.met; found = position.broke; head = position.expanded; trials = position.trials } };
+
+    fn from(position: Position) -> Reach {
+        Reach {
+            count: position.met,
+            found: position.broke,
+            head: position.expanded,
+            trials: position.trials,
+        }
+    }
 }
 
 // Opens a search: the start states are taken in, up to the first that violates `keep`.
@@ -39,45 +58,18 @@ pub fn open(text: &[u8], first: &mut [u16], second: &mut [u16]) -> Paused
     ensures left { Holding (open_of text.now first.old second.old) first.new second.new }
 {
     let mut ops = [0u16; 2048];
-    let told = read_plan(text, &mut ops);
-    let answer = told.answer;
-    match answer {
-        Answer::Refused(n, p) => Paused::Refused(n, p),
-        Answer::Read => open_code(&ops, told.plan, first, second),
-    }
+    let table = read_table(text, &mut ops)?;
+    open_code(&table, first, second)
 }
 
 // Whether a state has been met by the search that the tables hold, which the tables alone tell.
 // Yes and no mean something where the tables are as a call for the same text left them (`MetTells`).
-pub fn met(state: usize, text: &[u8], first: &[u16], second: &[u16]) -> Reply
+pub fn met(state: usize, text: &[u8], first: &[u16], second: &[u16]) -> Result<bool, Declined>
     ensures { result ≡ met_of text.now state first.now second.now }
 {
     let mut ops = [0u16; 2048];
-    let told = read_plan(text, &mut ops);
-    let answer = told.answer;
-    match answer {
-        Answer::Refused(n, p) => Reply::Told(Outcome::Refused(n, p)),
-        Answer::Read => met_code(&ops, told.plan, state, first, second),
-    }
-}
-
-// The search over the model that a text says is finished, or the text's refusal told.
-fn finish_text(
-    reach: Reach,
-    text: &[u8],
-    first: &mut [u16],
-    second: &mut [u16],
-    sheet: &mut [u8],
-) -> Finding
-    ensures { EndsWith (finish_of text.now (pause_in reach)) result first second sheet }
-{
-    let mut ops = [0u16; 2048];
-    let told = read_plan(text, &mut ops);
-    let answer = told.answer;
-    match answer {
-        Answer::Refused(n, p) => Finding::Refused(n, p),
-        Answer::Read => finish_code(&ops, told.plan, reach, first, second, sheet),
-    }
+    let table = read_table(text, &mut ops)?;
+    met_code(&table, state, first, second)
 }
 
 impl Position {
@@ -93,19 +85,9 @@ impl Position {
         ensures result_value { wording_of result ≡ (portion_of text.now (pause_for self) states first.old second.old).answer }
         ensures left { Holding (portion_of text.now (pause_for self) states first.old second.old) first.new second.new }
     {
-        let reach = Reach {
-            count: self.met,
-            found: self.broke,
-            head: self.expanded,
-            trials: self.trials,
-        };
         let mut ops = [0u16; 2048];
-        let told = read_plan(text, &mut ops);
-        let answer = told.answer;
-        match answer {
-            Answer::Refused(n, p) => Paused::Refused(n, p),
-            Answer::Read => portion_code(&ops, told.plan, reach, states, first, second),
-        }
+        let table = read_table(text, &mut ops)?;
+        portion_code(&table, Reach::from(self), states, first, second)
     }
 
     // Finishes the search: expands what is left, writes the sheet, clears the tables.
@@ -116,19 +98,13 @@ impl Position {
         first: &mut [u16],
         second: &mut [u16],
         sheet: &mut [u8],
-    ) -> Finding
+    ) -> Searched
         ensures value { result ≡ (finish_of text.now (pause_for self) first.old second.old sheet.old).answer }
         ensures left { Leaves (finish_of text.now (pause_for self) first.old second.old sheet.old) first.new second.new sheet.new }
         ensures bytes { AreBytes sheet.new }
     {
-        let reach = Reach {
-            count: self.met,
-            found: self.broke,
-            head: self.expanded,
-            trials: self.trials,
-        };
-        let found = finish_text(reach, text, first, second, sheet);
-        bytes_known(sheet);
-        found
+        let mut ops = [0u16; 2048];
+        let table = read_table(text, &mut ops)?;
+        finish_code(&table, Reach::from(self), first, second, sheet)
     }
 }

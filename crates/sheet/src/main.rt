@@ -3,25 +3,23 @@
 // Where the sheet can't be written, a line there says so too.
 #![tactic(auto)]
 
-use lines::put_refusal;
+use lines::Writer;
+use refusals::Refusal;
 use search::search;
-use std::io::{Read, Write};
+use std::io::Write;
 use streams::arguments::argument_count;
-use streams::bounds::fitting;
 use streams::output::write_out;
 use streams::told::tell;
-use streams::whole::{Got, read_in};
+use streams::values::put_refused;
+use streams::whole::read_in;
 use verdicts::finding::Finding;
 
-fn write_sheet(out: &mut impl Write, errors: &mut impl Write, sheet: &[u8], n: usize) {
-    let k = fitting(n, sheet);
-    write_out(out, errors, b"sheet", &sheet[..k]);
-}
-
-// A refusal's number and place have at most 20 digits each.
-fn say_refused(errors: &mut impl Write, number: u8, place: usize) {
+// Tells a refusal. Its number and its place have at most 20 digits each.
+fn tell_refused(errors: &mut impl Write, refusal: Refusal) {
     let mut line = [0u8; 64];
-    let n = put_refusal(&mut line, 0, number as usize, place);
+    let mut writer = Writer::new(&mut line);
+    put_refused(&mut writer, refusal);
+    let n = writer.len();
     tell(errors, &line[..n]);
 }
 
@@ -30,35 +28,24 @@ fn answer(out: &mut impl Write, errors: &mut impl Write, text: &[u8]) {
     let mut first = [0u16; 4096];
     let mut second = [0u16; 4096];
     let mut sheet = [0u8; 40967];
-    let found = search(text, &mut first, &mut second, &mut sheet);
-    match found {
-        Finding::Safe(n, _) => write_sheet(out, errors, &sheet, n),
-        Finding::Void(n) => write_sheet(out, errors, &sheet, n),
-        Finding::Unsafe(n) => write_sheet(out, errors, &sheet, n),
-        Finding::Refused(number, place) => say_refused(errors, number, place),
+    match search(text, &mut first, &mut second, &mut sheet) {
+        Ok(Finding::Safe { length, .. } | Finding::Void { length } | Finding::Unsafe { length }) =>
+            {
+                let n = length.min(sheet.len());
+                write_out(out, errors, b"sheet", &sheet[..n]);
+            }
+        Err(refusal) => tell_refused(errors, refusal),
     }
-}
-
-// Reads the text into its room, and answers.
-fn answer_into(
-    input: &mut impl Read,
-    out: &mut impl Write,
-    errors: &mut impl Write,
-    text: &mut [u8],
-) {
-    let Got::Bytes(n) = read_in(input, errors, b"sheet", text) else {
-        return;
-    };
-    answer(out, errors, &text[..n]);
 }
 
 // The room has a byte more than the longest text, so a longer one is refused by the search itself.
 fn main(rt: HostRuntime) {
     let mut errors = rt.stderr();
     if argument_count(&rt) != 1 {
-        tell(&mut errors, b"usage: sheet < TEXT > SHEET\n");
-        return;
+        return tell(&mut errors, b"usage: sheet < TEXT > SHEET\n");
     }
     let mut text = [0u8; 16385];
-    answer_into(&mut rt.stdin(), &mut rt.stdout(), &mut errors, &mut text);
+    if let Some(n) = read_in(&mut rt.stdin(), &mut errors, b"sheet", &mut text) {
+        answer(&mut rt.stdout(), &mut errors, &text[..n]);
+    }
 }

@@ -1,5 +1,6 @@
 -- What stands in a sheet that was not refused.
 -- Assumes nothing.
+use Rattle.std.specs.Prelude.{Ok}
 use mathlib.Core.Path.{◌≡◌, refl, ap, ◌∙◌, subst}
 use mathlib.Core.Bool.{Bool, true, false}
 use mathlib.Core.List.{List}
@@ -100,13 +101,13 @@ abbrev IsTrace : Sheet → Type 0
 IsTrace (safe map) = ⊥
 IsTrace (trace s xs) = Unit {0}
 
-map_shaped : (r : Reading) → Map ≡ shape_of r → (x : Sheet) × (r ≡ holds x) × IsSafe x
+map_shaped : (r : Reading) → Ok Map ≡ shape_of r → (x : Sheet) × (r ≡ holds x) × IsSafe x
 unfolding shape_of
 map_shaped (refused k q) e = let z : ◌≡◌ {A = ℕ} 0 1 = cc in absurd (omega arith)
 map_shaped (holds (safe map)) e = (safe map, refl, tt)
 map_shaped (holds (trace s xs)) e = let z : ◌≡◌ {A = ℕ} 0 1 = cc in absurd (omega arith)
 
-trace_shaped : (r : Reading) → Trace ≡ shape_of r → (x : Sheet) × (r ≡ holds x) × IsTrace x
+trace_shaped : (r : Reading) → Ok Trace ≡ shape_of r → (x : Sheet) × (r ≡ holds x) × IsTrace x
 unfolding shape_of
 trace_shaped (refused k q) e = let z : ◌≡◌ {A = ℕ} 0 1 = cc in absurd (omega arith)
 trace_shaped (holds (safe map)) e = let z : ◌≡◌ {A = ℕ} 0 1 = cc in absurd (omega arith)
@@ -123,7 +124,7 @@ pub record TraceFound (M : System) (b : List ℕ) : Type 0 where
   pub reads : sheet_of M b ≡ holds (the_trace (size M) M.commands M.stars b (header_length M))
 
 module _ (M : System) (b : List ℕ) where
-  pub map_found : Map ≡ shape_of (sheet_of M b) → MapFound M b
+  pub map_found : Ok Map ≡ shape_of (sheet_of M b) → MapFound M b
   map_found e = go (map_shaped (sheet_of M b) e)
     where
       pick : (x : Sheet) → sheet_of M b ≡ holds x → IsSafe x → Stands (size M) M.commands M.stars b (header_length M) x → MapFound M b
@@ -133,7 +134,7 @@ module _ (M : System) (b : List ℕ) where
       go : (x : Sheet) × (sheet_of M b ≡ holds x) × IsSafe x → MapFound M b
       go t = pick t.0 t.1 t.2 (body_inv (size M) M.commands M.stars b (header_length M) t.0 (sheet_inv M b t.0 t.1).body)
 
-  pub trace-found : Trace ≡ shape_of (sheet_of M b) → TraceFound M b
+  pub trace-found : Ok Trace ≡ shape_of (sheet_of M b) → TraceFound M b
   trace-found e = go (trace_shaped (sheet_of M b) e)
     where
       pick : (x : Sheet) → sheet_of M b ≡ holds x → IsTrace x → Stands (size M) M.commands M.stars b (header_length M) x → TraceFound M b

@@ -3,7 +3,7 @@ ghost use Rattle.std.specs.Prelude.{◌≡◌, ◌+◌, ◌*◌, ◌/◌, ◌<�
 ghost use Rattle.meaning.specs.Evidence.{in_map};
 ghost use Rattle.sheets.specs.Sheets.{map_length};
 ghost use Rattle.sheets.specs.SheetTexts.{two_at, AreBytes};
-ghost use Rattle.sheets.specs.working.SheetReading.{map_in, step_count};
+ghost use Rattle.sheets.specs.working.SheetReading.{step_count};
 
 // How many bytes a header has: six, and three counts.
 pub const HEADER: usize = 9;
@@ -26,22 +26,20 @@ pub fn wide(x: u8) -> usize
 }
 
 // The two-byte number at p.
+#[tactic(auto, unfolding(crate::specs::SheetTexts::two_at))]
 pub fn two_at(b: &[u8], p: usize) -> usize
     requires { p + 2 ≤ length b.now }
     ensures { (result ≡ two_at b.now p) × (result < 65536) }
 {
-    wide(b[p]) + 256 * wide(b[p + 1])
+    usize::from(u16::from_le_bytes([b[p], b[p + 1]]))
 }
 
 // How many bytes a map has.
+#[tactic(auto, unfolding(crate::specs::Sheets::map_length))]
 pub fn map_length(states: usize) -> usize
     ensures { result ≡ map_length states }
 {
-    let n = states / 8;
-    if n == 0 {
-        return 1;
-    }
-    n
+    (states / 8).max(1)
 }
 
 // How many bytes the longest sheet has that a search of so many states writes: behind the header a start of 8, and a step of 10 to every state but one.
@@ -52,19 +50,20 @@ pub fn sheet_room(states: usize) -> usize
     HEADER - 2 + 10 * states
 }
 
-// Whether state s is a member of the map whose n bytes stand from p on.
-pub fn in_map(b: &[u8], p: usize, n: usize, s: usize) -> bool
-    requires { (p + n ≤ length b.now) × (s / 8 < n) }
-    ensures { result ≡ in_map (map_in b.now p n) s }
+// Whether state s is a member of a map.
+#[tactic(auto, unfolding(meaning::specs::Evidence::in_map, meaning::specs::Bits::bit))]
+pub fn in_map(map: &[u8], s: usize) -> bool
+    requires { s / 8 < length map.now }
+    ensures { result ≡ in_map map.now s }
 {
-    let byte = wide(b[p + s / 8]);
-    (byte >> (s % 8)) % 2 == 1
+    (map[s / 8] >> (s % 8)) % 2 == 1
 }
 
 // How many records of steps are begun from p on.
+#[tactic(auto, unfolding(crate::specs::working::SheetReading::step_count))]
 pub fn step_count(b: &[u8], p: usize) -> usize
     requires { (p ≤ length b.now) × (length b.now ≤ 65536) }
     ensures { (result ≡ step_count b.now p) × (p + 10 * result < length b.now + 10) }
 {
-    (b.len() + 9 - p) / 10
+    (b.len() - p).div_ceil(10)
 }

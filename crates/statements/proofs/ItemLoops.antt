@@ -1,5 +1,6 @@
 -- Items joined by semicolons: what the loop that reads them has still to do gives what all of it gave where it began.
 -- Assumes nothing.
+use Rattle.std.specs.Prelude.{Err}
 use mathlib.Core.Path.{◌≡◌, refl, sym, ap, ◌∙◌}
 use mathlib.Core.List.{List, [], ◌∷◌, ◌++◌, append_assoc, append-nil}
 use mathlib.Core.Option.{Option, some}
@@ -12,17 +13,17 @@ use Rattle.notation.specs.Texts.{Numbered, numbered}
 use Rattle.notation.specs.working.Lexing.{tokens_from}
 use Rattle.notation.specs.working.Ledger.{Book, note, fault}
 use Rattle.notation.specs.working.Descent.{Got, got, stop, then_reads, ruling}
+use Rattle.refusals.specs.declared.Refusal.{Refusal}
+use Rattle.lexer.specs.working.Kinds.{kind_number}
 use Rattle.lexer.specs.declared.pieces.Piece.{Piece}
 use Rattle.statements.specs.declared.cursor.Cursor.{Cursor}
 use Rattle.statements.specs.declared.cursor.Ledger.{Ledger}
-use Rattle.statements.specs.declared.cursor.Parsed.{Parsed}
-use Rattle.statements.specs.declared.cursor.Parsed.TheVariants.{Refused}
 use Rattle.lexer.specs.working.Pieces.{listed}
-use Rattle.statements.specs.working.Cursors.{book_of, Ready, Done, Says}
+use Rattle.statements.specs.working.Cursors.{book_of, Ready, Done, Says, was_refused}
 use Rattle.statements.proofs.Moves.{Past, past_same}
 use Rattle.statements.proofs.Books.{quiet-fits, note-quiet}
 use Rattle.statements.proofs.Symbols.{listed-sign}
-use Rattle.statements.proofs.StoredCode.{wrote_from, said_bad, says_same, says-alike, done-map, done_then, done-ready}
+use Rattle.statements.proofs.StoredCode.{wrote_from, said_bad, says-alike, done-map, done_then, done-ready}
 use Rattle.statements.proofs.Sequences.{pair_done, done-from}
 
 -- A list of things: the reader of one and of the rest, and their codes.
@@ -34,7 +35,7 @@ pub record Series (A : Type 0) (text names : List ℕ) (l : Ledger) : Type 0 whe
   pub turn : (i : ℕ) (ts : List Lexeme) (b : Book) → more (at i (some (sign SEMI)) ∷ ts) b
       ≡ ruling i (fault b (part quiet (sign SEMI)))
       (then_reads (one ts (note b (part quiet (sign SEMI)))) (λ x ts b. then_reads (more ts b) (λ xs ts b. got (x ∷ xs) ts b)))
-  pub stops : (t : Piece) (b : Book) → (t.kind ≡ SEMI → ⊥) → more (listed text t) b ≡ got [] (listed text t) b
+  pub stops : (t : Piece) (b : Book) → (kind_number t.kind ≡ SEMI → ⊥) → more (listed text t) b ≡ got [] (listed text t) b
   pub nil : (k : ℕ) → words k [] ≡ numbered [] k
   pub cons : (k : ℕ) (x : A) (xs : List A) → words k (x ∷ xs) ≡ numbered ((word k x).is ++ (words (word k x).next xs).is) (words (word k x).next xs).next
   pub some : (k : ℕ) (x : A) → 1 ≤ length (word k x).is
@@ -81,8 +82,8 @@ module _ {A : Type 0} {text names : List ℕ} {l : Ledger} (K : Series A text na
     pub ready : Ready text l 0 c
     pub back : (s : Cursor) (p : List ℕ) (g : Got (List A)) → Rest s p g b₀ c₀ → Rest s p g b c
 
-  pub first_bad : {s : Cursor} {p : List ℕ} {g : Got A} {b : List ℕ} {r : Parsed} {n i : ℕ} → Says text names l K.word 0 s p g b r → r ≡ Refused n i → Says text names l K.words 0 s p (all g) b r
-  first_bad h e = says-alike h e (λ z. ap (λ (o : Got A). all o) z)
+  pub first_bad : {s : Cursor} {p : List ℕ} {g : Got A} {b : List ℕ} {r : Refusal} → Says text names l K.word 0 s p g b (Err r) → Says text names l K.words 0 s p (all g) b (Err r)
+  first_bad h = says-alike h (λ z. ap (λ (o : Got A). all o) z)
 
 module _ {A : Type 0} {text names : List ℕ} {l : Ledger} {K : Series A text names l} where
   module _ {s : Cursor} {p : List ℕ} {g : Got A} {b : List ℕ} {c : Cursor} (d : ReadOne K s p g b c) where
@@ -101,11 +102,11 @@ module _ {A : Type 0} {text names : List ℕ} {l : Ledger} {K : Series A text na
     abbrev xs : List A
     xs = h.done.tree
 
-    pub rest-stop : (c.next.kind ≡ SEMI → ⊥) → Read K s p g b c
+    pub rest-stop : (kind_number c.next.kind ≡ SEMI → ⊥) → Read K s p g b c
     rest-stop u = done-map h.done xs refl
         (h.says ∙ ap (behind K xs) (K.stops c.next (book_of text names l c) u) ∙ ap (λ (zs : List A). got zs (listed text c.next) (book_of text names l c)) (append-nil xs))
 
-    module _ (u : c.next.kind ≡ SEMI) {d : Cursor} (q : Past text c c.items c.nodes c.stars d) where
+    module _ (u : kind_number c.next.kind ≡ SEMI) {d : Cursor} (q : Past text c c.items c.nodes c.stars d) where
       abbrev next : Got A
       next = K.one (listed text d.next) (book_of text names l d)
 
@@ -121,10 +122,10 @@ module _ {A : Type 0} {text names : List ℕ} {l : Ledger} {K : Series A text na
           ∙ ap (λ (v : Book). then (K.one (tokens_from text c.next.end) v)) (note-quiet text names l c d.next (sign SEMI) ∙ ap (book_of text names l) (sym q.is))
           ∙ ap (λ (ts : List Lexeme). then (K.one ts (book_of text names l d))) q.next.tokens
 
-      pub rest_bad : {m : List ℕ} {r : Parsed} {n i : ℕ} → Says text names l K.word 0 d b next m r → r ≡ Refused n i → Says text names l K.words 0 s p g m r
-      rest_bad z e =
-          let k = said_bad z e in
-          says_same e (goes ∙ ap then k.0) (done_then h.done (wrote_from q.place k.1))
+      pub rest_bad : {m : List ℕ} {r : Refusal} → Says text names l K.word 0 d b next m (Err r) → Says text names l K.words 0 s p g m (Err r)
+      rest_bad z =
+          let k = said_bad z in
+          was_refused (goes ∙ ap then k.0) (done_then h.done (wrote_from q.place k.1))
 
       rest_more : {m : List ℕ} {v : Cursor} → ReadOne K d b next m v → Rest K s p g m v
       unfolding pair_done done-from done-map
@@ -149,5 +150,5 @@ module _ {A : Type 0} {text names : List ℕ} {l : Ledger} {K : Series A text na
     pub turn_less : {g : Got A} {m : List ℕ} {v : Cursor} → ReadOne K d b g m v → (c.nodes + 3 * c.items < v.nodes + 3 * v.items) × (v.nodes ≤ 1024) × (v.items ≤ 256)
     turn_less e = (omega (arith, e.level, e.long, K.some d.stars e.tree), e.nodes, e.items)
 
-    pub turn_more : c.next.kind ≡ SEMI → {m : List ℕ} {v : Cursor} → ReadOne K d b (K.one (listed text d.next) (book_of text names l d)) m v → Turn K b₀ c₀ m v
+    pub turn_more : kind_number c.next.kind ≡ SEMI → {m : List ℕ} {v : Cursor} → ReadOne K d b (K.one (listed text d.next) (book_of text names l d)) m v → Turn K b₀ c₀ m v
     turn_more u e = record { ready = done-ready e 0 turn_ready; back = λ s p g w. rest_more (i.back s p g w) u q e }

@@ -1,5 +1,6 @@
 -- A factor that is one token: a constant, a star or a name.
 -- Assumes nothing.
+use Rattle.std.specs.Prelude.{Err}
 use mathlib.Core.Path.{◌≡◌, refl, sym, ap, ◌∙◌, subst}
 use mathlib.Core.Bool.{Bool, true, false, cond, ◌||◌}
 use mathlib.Core.List.{List, [], ◌∷◌, ◌++◌}
@@ -18,23 +19,25 @@ use Rattle.notation.specs.Layout.{expr_code}
 use Rattle.notation.specs.Model as M
 use Rattle.notation.specs.working.Lexing.{tokens_from}
 use Rattle.notation.specs.working.Ledger.{note}
-use Rattle.notation.specs.working.Descent.{Got, got, stop, ruling}
+use Rattle.notation.specs.working.Descent.{Got, got, ruling}
+use Rattle.refusals.specs.declared.Reason.TheVariants.{Undeclared, StarBarred, TooMany}
+use Rattle.refusals.specs.declared.Refusal.{Refusal}
+use Rattle.refusals.specs.Reasons.{number_of}
+use Rattle.lexer.specs.working.Kinds.{kind_number}
 use Rattle.lexer.specs.declared.pieces.Piece.{Piece}
 use Rattle.statements.specs.declared.cursor.Cursor.{Cursor}
 use Rattle.statements.specs.declared.cursor.Ledger.{Ledger}
 use Rattle.statements.specs.declared.cursor.Scope.{Scope}
-use Rattle.statements.specs.declared.cursor.Parsed.{Parsed}
-use Rattle.statements.specs.declared.cursor.Parsed.TheVariants.{Refused}
 use Rattle.lexer.specs.working.Pieces.{name_in}
 use Rattle.lexer.specs.working.Names.{words_in}
 use Rattle.statements.specs.working.Names.{shared_words, row_words, names_kept}
-use Rattle.statements.specs.working.Cursors.{mode_of, book_of, Ready, was_refused}
+use Rattle.statements.specs.working.Cursors.{Parsed, refused_at, stopped, mode_of, book_of, Ready}
 use Rattle.statements.specs.working.Expressions.{expr_words, SaysOperand, factor_at, Leaf, Kept}
 use Rattle.statements.proofs.Books.{constant_full, constant-fits, chance-barred, chance-many, chance_full, chance-fits, uses-unknown, uses_full, uses-fits, note-constant, note-chance, note-uses}
 use Rattle.statements.proofs.Symbols.{zero_is, one-is, star-is, name-is}
 use Rattle.lexer.proofs.Lookup.{words-length, words_append, place-among, place_le, place-front, place-append, among-append}
 use Rattle.statements.proofs.NameKinds.{shared-name, table-name}
-use Rattle.statements.proofs.StoredCode.{wrote_none}
+use Rattle.statements.proofs.StoredCode.{wrote_none, was_stopped}
 use Rattle.statements.proofs.Factors.{leaf-says}
 
 -- ---- the name that a look-up finds
@@ -60,11 +63,6 @@ from_first text names w n i e = let z : n - 0 ≡ n = omega arith in e ∙ zero-
 pub visible-few : (rows : Bool) (a b n : ℕ) → n ≡ cond rows (a + b) a → a + b ≤ 12 → n ≤ 12
 visible-few true a b n e h = omega arith
 visible-few false a b n e h = omega arith
-
--- So are those that may be assigned to.
-pub target_range : (rows : Bool) (a b from to : ℕ) → from ≡ cond rows a 0 → to ≡ cond rows (a + b) a → a + b ≤ 12 → (from ≤ to) × (to ≤ 28)
-target_range true a b from to e f h = (omega arith, omega arith)
-target_range false a b from to e f h = (omega arith, omega arith)
 
 pub few-found : (text names : List ℕ) (rows : Bool) (a b : ℕ) (w : Word) (n i : ℕ) → n ≡ cond rows (a + b) a → a + b ≤ 12 → i ≡ 0 + place_of w (words_in text names 0 (n - 0)) → (i ≡ n → ⊥) → i < 12
 few-found text names rows a b w n i e h f z =
@@ -120,42 +118,45 @@ module _ (text names : List ℕ) (sc : Scope) (l : Ledger) (depth : ℕ) (c : Cu
   G = factor_at text names sc l depth c
 
   module _ (p a : List ℕ) (y : Parsed) where
-    pub zero_says : t.kind ≡ 15 → Leaf text c 0 c.stars p a y → SaysOperand text names l c p G a y
+    pub zero_says : kind_number t.kind ≡ 15 → Leaf text c 0 c.stars p a y → SaysOperand text names l c p G a y
     unfolding expr_words expr_of expr_code
     zero_says u h =
         leaf-says text names sc l depth c r constant (sign 15) false' 0 c.stars p a y (zero_is text t (length text) m (16 - depth) (book_of text names l c) u)
         (constant_full text names l c (sign 15)) (constant-fits text names l c (sign 15)) (λ v. note-constant text names l c v (sign 15)) refl refl r.stars h
 
-    pub one-says : t.kind ≡ 16 → Leaf text c 1 c.stars p a y → SaysOperand text names l c p G a y
+    pub one-says : kind_number t.kind ≡ 16 → Leaf text c 1 c.stars p a y → SaysOperand text names l c p G a y
     unfolding expr_words expr_of expr_code
     one-says u h =
         leaf-says text names sc l depth c r constant (sign 16) true' 1 c.stars p a y (one-is text t (length text) m (16 - depth) (book_of text names l c) u)
         (constant_full text names l c (sign 16)) (constant-fits text names l c (sign 16)) (λ v. note-constant text names l c v (sign 16)) refl refl r.stars h
 
-    pub star-says : t.kind ≡ 17 → sc.stars ≡ true → c.stars < 8 → Leaf text c (64 + c.stars) (c.stars + 1) p a y → SaysOperand text names l c p G a y
+    pub star-says : kind_number t.kind ≡ 17 → sc.stars ≡ true → c.stars < 8 → Leaf text c (64 + c.stars) (c.stars + 1) p a y → SaysOperand text names l c p G a y
     unfolding expr_words expr_of expr_code
     star-says u s k h =
         leaf-says text names sc l depth c r (chance m) (sign 17) star' (64 + c.stars) (c.stars + 1) p a y (star-is text t (length text) m (16 - depth) (book_of text names l c) u)
         (chance_full text names l c (sign 17) m s) (λ n. chance-fits text names l c (sign 17) m s k n) (λ v. note-chance text names l c v m (sign 17)) refl (sym (add-one c.stars)) (omega arith) h
 
   -- Refused, with nothing stored.
-  pub operand_bad : (p : List ℕ) (n i : ℕ) → G ≡ stop n i → SaysOperand text names l c p G p (Refused n i)
+  pub operand_bad : {p : List ℕ} {y q : Refusal} → y ≡ q → G ≡ stopped q → SaysOperand text names l c p G p (Err y)
   unfolding Kept
-  operand_bad p n i e = (was_refused e wrote_none, refl)
+  operand_bad e h = (was_stopped e h wrote_none, refl)
 
-  pub star-barred : t.kind ≡ 17 → sc.stars ≡ false → G ≡ stop 6 t.start
+  pub star-barred : kind_number t.kind ≡ 17 → sc.stars ≡ false → G ≡ stopped (refused_at StarBarred t)
+  unfolding number_of
   star-barred u s = star-is text t (length text) m (16 - depth) (book_of text names l c) u
       ∙ ap (λ (o : Option ℕ). ruling t.start o (got star' (tokens_from text t.end) (note (book_of text names l c) (part (chance m) (sign 17)))))
       (chance-barred text names l c (sign 17) m s)
 
-  pub star-many : t.kind ≡ 17 → sc.stars ≡ true → 8 ≤ c.stars → G ≡ stop 7 t.start
+  pub star-many : kind_number t.kind ≡ 17 → sc.stars ≡ true → 8 ≤ c.stars → G ≡ stopped (refused_at TooMany t)
+  unfolding number_of
   star-many u s k = star-is text t (length text) m (16 - depth) (book_of text names l c) u
       ∙ ap (λ (o : Option ℕ). ruling t.start o (got star' (tokens_from text t.end) (note (book_of text names l c) (part (chance m) (sign 17)))))
       (chance-many text names l c (sign 17) m s k)
 
   -- a name, and where the look-up of it ended
-  module _ (u : t.kind ≡ 24) (n i : ℕ) (e : n ≡ cond sc.rows (l.shared + l.row) l.shared) (h : i ≡ place_of (name_in text t).word (words_in text names 0 n)) where
-    pub name-unknown : i ≡ n → G ≡ stop 5 t.start
+  module _ (u : kind_number t.kind ≡ 24) (n i : ℕ) (e : n ≡ cond sc.rows (l.shared + l.row) l.shared) (h : i ≡ place_of (name_in text t).word (words_in text names 0 n)) where
+    pub name-unknown : i ≡ n → G ≡ stopped (refused_at Undeclared t)
+    unfolding number_of
     name-unknown z =
         name-is text t (length text) m (16 - depth) (book_of text names l c) u
         ∙ ap (λ (o : Option ℕ). ruling t.start o

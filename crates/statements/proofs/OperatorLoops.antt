@@ -1,5 +1,6 @@
 -- Operands joined by one operator: what the loop that reads them has still to do gives what all of it gave where it began.
 -- Assumes nothing.
+use Rattle.std.specs.Prelude.{Err}
 use mathlib.Core.Path.{◌≡◌, refl, sym, ap, ◌∙◌, subst}
 use mathlib.Core.List.{List, ◌∷◌}
 use mathlib.Core.Option.{Option, some}
@@ -15,20 +16,22 @@ use Rattle.notation.specs.working.Ledger.{Book, note, fault}
 use Rattle.notation.specs.working.Table.{factor}
 use Rattle.notation.specs.working.Descent.{Got, got, then_reads, ruling, reader, and_reader, and_loop, or_loop}
 use Rattle.notation.proofs.Readers.{and_loop_turn, or_loop_turn}
+use Rattle.refusals.specs.declared.Reason.TheVariants.{TooMany}
+use Rattle.refusals.specs.declared.Refusal.{Refusal}
+use Rattle.refusals.specs.Reasons.{number_of}
+use Rattle.lexer.specs.working.Kinds.{kind_number}
 use Rattle.lexer.specs.declared.pieces.Piece.{Piece}
 use Rattle.statements.specs.declared.cursor.Cursor.{Cursor}
 use Rattle.statements.specs.declared.cursor.Ledger.{Ledger}
-use Rattle.statements.specs.declared.cursor.Parsed.{Parsed}
-use Rattle.statements.specs.declared.cursor.Parsed.TheVariants.{Refused}
 use Rattle.lexer.specs.working.Pieces.{listed}
-use Rattle.statements.specs.working.Cursors.{book_of, emitted, Ready, Done, was_refused}
+use Rattle.statements.specs.working.Cursors.{refused_at, book_of, emitted, Ready, Done, was_refused}
 use Rattle.statements.specs.working.Expressions.{expr_words, SaysExpr}
 use Rattle.statements.proofs.Moves.{Past, past-node}
 use Rattle.statements.proofs.Books.{joins_full, joins-fits, note-joins}
 use Rattle.statements.proofs.Symbols.{listed-sign, and-stops, or-stops}
 use Rattle.statements.specs.working.Items.{with_word}
 use Rattle.statements.specs.working.Sequences.{pair_of, paired}
-use Rattle.statements.proofs.StoredCode.{wrote_from, said_bad, says_same, done_wrote, done-map, done_then, done-ready}
+use Rattle.statements.proofs.StoredCode.{wrote_from, said_bad, was_stopped, done_wrote, done-map, done_then, done-ready}
 use Rattle.statements.proofs.Sequences.{pair_done, word-done, done-from}
 
 -- An operator: its sign, its code word, how it joins, and the readers of its operand and of the rest of its operands.
@@ -41,7 +44,7 @@ pub record Chain (text names : List ℕ) (l : Ledger) : Type 0 where
   pub small : op < 24
   pub turn : (e : Expr) (i : ℕ) (ts : List Lexeme) (b : Book) → loop e (at i (some (sign op)) ∷ ts) b
       ≡ ruling i (fault b (part joins (sign op))) (then_reads (operand ts (note b (part joins (sign op)))) (λ f ts b. loop (join e f) ts b))
-  pub stops : (t : Piece) (e : Expr) (b : Book) → (t.kind ≡ op → ⊥) → loop e (listed text t) b ≡ got e (listed text t) b
+  pub stops : (t : Piece) (e : Expr) (b : Book) → (kind_number t.kind ≡ op → ⊥) → loop e (listed text t) b ≡ got e (listed text t) b
   pub words : (k : ℕ) (x y : Expr) → expr_words text names l k (join x y) ≡ paired (expr_words text names l) (with_word (expr_words text names l) word) k (pair_of x y)
 
 module _ (text names : List ℕ) (l : Ledger) (k : ℕ) (x y : Expr) where
@@ -102,10 +105,10 @@ module _ {text names : List ℕ} {l : Ledger} {K : Chain text names l} where
   turn_none r h = record { ready = done-ready h 0 r; back = λ s p g x. x }
 
   module _ {s : Cursor} {p : List ℕ} {g : Got Expr} {b : List ℕ} {c : Cursor} (h : Rest K s p g b c) where
-    pub rest-stop : (c.next.kind ≡ K.op → ⊥) → Read K s p g b c
+    pub rest-stop : (kind_number c.next.kind ≡ K.op → ⊥) → Read K s p g b c
     rest-stop u = done-map h.done h.done.tree refl (h.says ∙ K.stops c.next h.done.tree (book_of text names l c) u)
 
-    module _ (u : c.next.kind ≡ K.op) where
+    module _ (u : kind_number c.next.kind ≡ K.op) where
       abbrev joined : Got Expr → Got Expr
       joined o = then_reads o (λ y ts b. K.loop (K.join h.done.tree y) ts b)
 
@@ -116,8 +119,9 @@ module _ {text names : List ℕ} {l : Ledger} {K : Chain text names l} where
       turned = h.says ∙ ap (λ (ts : List Lexeme). K.loop h.done.tree ts (book_of text names l c)) (listed-sign text c.next K.op u K.small)
           ∙ K.turn h.done.tree c.next.start (tokens_from text c.next.end) (book_of text names l c)
 
-      pub rest_full : 1024 ≤ c.nodes → SaysExpr text names l s p g b (Refused 7 c.next.start)
-      rest_full x = was_refused (turned ∙ ap (λ (o : Option ℕ). ruling c.next.start o after) (joins_full text names l c (sign K.op) x)) (done_wrote h.done)
+      pub rest_full : 1024 ≤ c.nodes → {r : Refusal} → r ≡ refused_at TooMany c.next → SaysExpr text names l s p g b (Err r)
+      unfolding number_of
+      rest_full x e = was_stopped e (turned ∙ ap (λ (o : Option ℕ). ruling c.next.start o after) (joins_full text names l c (sign K.op) x)) (done_wrote h.done)
 
       module _ (x : c.nodes < 1024) {d : Cursor} (q : Past text c c.items (c.nodes + 1) c.stars d) where
         abbrev right : Got Expr
@@ -128,10 +132,10 @@ module _ {text names : List ℕ} {l : Ledger} {K : Chain text names l} where
             ∙ ap (λ (v : Book). joined (K.operand (tokens_from text c.next.end) v)) (note-joins text names l c d.next (sign K.op) ∙ ap (book_of text names l) (sym q.is))
             ∙ ap (λ (ts : List Lexeme). joined (K.operand ts (book_of text names l d))) q.next.tokens
 
-        pub rest_bad : {m : List ℕ} {r : Parsed} {n i : ℕ} → SaysExpr text names l d b right m r → r ≡ Refused n i → SaysExpr text names l s p g m r
-        rest_bad z e =
-            let k = said_bad z e in
-            says_same e (goes ∙ ap joined k.0) (done_then h.done (wrote_from q.place k.1))
+        pub rest_bad : {m : List ℕ} {r : Refusal} → SaysExpr text names l d b right m (Err r) → SaysExpr text names l s p g m (Err r)
+        rest_bad z =
+            let k = said_bad z in
+            was_refused (goes ∙ ap joined k.0) (done_then h.done (wrote_from q.place k.1))
 
         rest_more : {m a : List ℕ} {v : Cursor} (e : Read K d b right m v) → a ≡ set m v.emitted K.word → Rest K s p g a (emitted v)
         unfolding pair_done word-done done-from done-map
@@ -153,7 +157,7 @@ module _ {text names : List ℕ} {l : Ledger} {K : Chain text names l} where
     pub turn_room : {o : Got Expr} {m : List ℕ} {v : Cursor} → Read K d b o m v → (v.emitted < 2048) × (c.nodes < v.nodes) × (v.nodes ≤ 1024)
     turn_room e = (omega (arith, e.level, e.nodes, e.items, turn_ready.room, i.ready.commands), omega (arith, e.more_nodes), e.nodes)
 
-    pub turn_more : c.next.kind ≡ K.op → {m a : List ℕ} {v y : Cursor} →
+    pub turn_more : kind_number c.next.kind ≡ K.op → {m a : List ℕ} {v y : Cursor} →
         Read K d b (K.operand (listed text d.next) (book_of text names l d)) m v → (y ≡ emitted v) × (a ≡ set m v.emitted K.word) → Turn K b₀ c₀ a y
     turn_more u {a = a} e z = subst (λ (w : Cursor). Turn K b₀ c₀ a w) (sym z.0) (record {
       ready = done-ready (done-from (word-done e K.word z.1) {y = 0} q (omega arith) (omega arith) (omega arith)) 0 i.ready;

@@ -1,5 +1,6 @@
 -- Readers one after the other: what two answers make together, and what a sign, a code word or another name for the value makes of one.
 -- Assumes nothing.
+use Rattle.std.specs.Prelude.{Ok, Err}
 use mathlib.Core.Path.{◌≡◌, sym, ap, ◌∙◌}
 use mathlib.Core.List.{List, [], ◌∷◌, ◌++◌}
 use mathlib.Core.Option.{Option}
@@ -12,21 +13,19 @@ use Rattle.notation.specs.Notation.{part, quiet}
 use Rattle.notation.specs.Texts.{Numbered}
 use Rattle.notation.specs.working.Lexing.{tokens_from}
 use Rattle.notation.specs.working.Ledger.{Book, note}
-use Rattle.notation.specs.working.Descent.{Got, got, stop, then_reads, ruling, reader}
+use Rattle.notation.specs.working.Descent.{Got, got, then_reads, ruling, reader}
 use Rattle.notation.specs.working.Table.{lit}
 use Rattle.statements.specs.declared.cursor.Cursor.{Cursor}
 use Rattle.statements.specs.declared.cursor.Ledger.{Ledger}
-use Rattle.statements.specs.declared.cursor.Parsed.{Parsed}
-use Rattle.statements.specs.declared.cursor.Parsed.TheVariants.{Ok, Refused}
+use Rattle.refusals.specs.declared.Refusal.{Refusal}
 use Rattle.lexer.specs.working.Pieces.{listed, Fresh}
-use Rattle.statements.specs.working.Cursors.{book_of, emitted, Expected, Ready, Done, Says, was_read, was_refused}
-use Rattle.statements.specs.working.Expressions.{AfterNode, AfterClose, roomed}
+use Rattle.statements.specs.working.Cursors.{Parsed, stopped, book_of, emitted, Expected, Ready, Done, Says, was_read, was_refused}
 use Rattle.statements.specs.working.Items.{with_word, Marked}
 use Rattle.statements.specs.working.Sequences.{pair_of, paired, pairing, signed_by}
-use Rattle.statements.proofs.StoredCode.{stores, wrote_same, wrote_from, is-refused, said_as, done_wrote, done-map, done_then}
+use Rattle.statements.proofs.StoredCode.{stores, wrote_same, wrote_from, said_bad, said_as, done_wrote, done-map, done_then}
 use Rattle.statements.proofs.Books.{quiet-fits, note-quiet}
 use Rattle.statements.proofs.Symbols.{lit_is, lit_missing}
-use Rattle.statements.proofs.Moves.{Past, expected_said, is-past, past_same}
+use Rattle.statements.proofs.Moves.{Past, is-past, past_same}
 
 -- ---- a sign that has to stand
 
@@ -43,15 +42,15 @@ module _ (text names : List ℕ) (l : Ledger) (c : Cursor) (k : ℕ) where
       ∙ ap (λ (b : Book). got tt (tokens_from text c.next.end) b) (note-quiet text names l c d.next (sign k) ∙ ap (book_of text names l) (sym q.is))
       ∙ ap (λ (ts : List Lexeme). got tt ts (book_of text names l d)) q.next.tokens
 
-  pub expected_bad : (n i : ℕ) → Fresh text c.next → Expected text c k (Refused n i) → signed ≡ stop n i
+  pub expected_bad : (r : Refusal) → Fresh text c.next → Expected text c k (Err r) → signed ≡ stopped r
   unfolding Expected
-  expected_bad n i f e = lit_missing text c.next k (book_of text names l c) f e.0 ∙ ap (λ (x : ℕ). stop x c.next.start) (sym e.1.0) ∙ ap (λ (x : ℕ). stop n x) (sym e.1.1)
+  expected_bad r f e = lit_missing text c.next k (book_of text names l c) f e.0 ∙ ap stopped (sym e.1)
 
 -- ---- one after the other
 
 -- Where the first was refused, both are.
-pub pair_bad : {A B : Type 0} {g : Got A} (h : List Lexeme → Book → Got B) {n i : ℕ} → g ≡ stop n i → pairing g h ≡ stop n i
-pair_bad h e = ap (λ (o : Got _). pairing o h) e
+pub pair_bad : {A B : Type 0} {g : Got A} (h : List Lexeme → Book → Got B) (r : Refusal) → g ≡ stopped r → pairing g h ≡ stopped r
+pair_bad h r e = ap (λ (o : Got _). pairing o h) e
 
 module _ {text names : List ℕ} {l : Ledger} where
   module _ {A B : Type 0} {code : ℕ → A → Numbered (List ℕ)} {more : ℕ → B → Numbered (List ℕ)} {x y : ℕ} {s c : Cursor} {p b : List ℕ} {g : Got A}
@@ -115,9 +114,9 @@ module _ {text names : List ℕ} {l : Ledger} where
       -- The sign is there, or missing.
       pub says-sign : (k : ℕ) → k < 24 → {y : Parsed} → Expected text c k y → Says text names l code x s p (signed_by (length text) k g) b y
       says-sign k small {y = Ok v} e = was_read (sign-done k small e)
-      says-sign k small {y = Refused n i} e =
+      says-sign k small {y = Err r} e =
           was_refused
-          (ap (λ (o : Got _). signed_by (length text) k o) d.says ∙ ap (λ (o : Got (Unit {0})). then_reads o (λ u ts b. got d.tree ts b)) (expected_bad text names l c k n i d.fresh e))
+          (ap (λ (o : Got _). signed_by (length text) k o) d.says ∙ ap (λ (o : Got (Unit {0})). then_reads o (λ u ts b. got d.tree ts b)) (expected_bad text names l c k r d.fresh e))
           (done_wrote d)
 
       -- A code word after what was read.
@@ -158,24 +157,17 @@ module _ {text names : List ℕ} {l : Ledger} where
           }
 
   module _ {A : Type 0} {code : ℕ → A → Numbered (List ℕ)} {x : ℕ} {s : Cursor} {p : List ℕ} {g : Got A} {b : List ℕ} where
-    -- A closing parenthesis after an answer.
-    pub says_close : {q r : Parsed} → Says text names l code x s p g b q → AfterClose text q r → Says text names l code x s p (signed_by (length text) 22 g) b r
-    unfolding AfterClose
-    says_close (was_read d) e = says-sign d 22 (omega arith) e
-    says_close (was_refused h w) e = said_as (sym e) (was_refused (ap (λ (o : Got A). signed_by (length text) 22 o) h) w)
-
-    -- A code word after an answer; a sign and a code word.
-    pub says-node : (word : ℕ) {a : List ℕ} {q r : Parsed} → Says text names l code x s p g b q → AfterNode word q b a r → Says text names l (with_word code word) (x + 1) s p g a r
-    unfolding AfterNode
-    says-node word (was_read d) e = said_as (sym e.0) (was_read (word-done d word e.1))
-    says-node word (was_refused h w) e = said_as (sym e.0) (was_refused h (wrote_same e.1 w))
-
-    pub says-mark : (kind word : ℕ) → kind < 24 → {a : List ℕ} {q r : Parsed} → Says text names l code x s p g b q → Marked text kind word q b a r
+    -- A sign and a code word after what was read.
+    pub says-mark : {c : Cursor} → Done text names l code x s p g b c → (kind word : ℕ) → kind < 24 → {a : List ℕ} {r : Parsed} → Marked text kind word c b a r
         → Says text names l (with_word code word) (x + 1) s p (signed_by (length text) kind g) a r
     unfolding Marked
-    says-mark kind word small {r = r} (was_refused h w) e = said_as (sym e.0) (was_refused (ap (λ (o : Got A). signed_by (length text) kind o) h) (wrote_same e.1 w))
-    says-mark kind word small {r = Refused n i} (was_read d) e = let z = is-refused (says-sign d kind small e.0) in was_refused z.0 (wrote_same e.1 z.1)
-    says-mark kind word small {r = Ok v} (was_read d) e = said_as (ap Ok (sym e.1.1.0)) (was_read (word-done (sign-done d kind small e.1.0) word e.1.1.1))
+    says-mark d kind word small {r = Err q} e = let z = said_bad (says-sign d kind small e.0) in was_refused z.0 (wrote_same e.1 z.1)
+    says-mark d kind word small {r = Ok v} e = said_as (ap Ok (sym e.1.1.0)) (was_read (word-done (sign-done d kind small e.1.0) word e.1.1.1))
+
+    -- Where the answer is refused, so is what follows the piece before it.
+    pub says-behind : {B : Type 0} {code' : ℕ → B → Numbered (List ℕ)} {G : Got B} {y : ℕ} {c : Cursor} {items nodes stars : ℕ} {r : Refusal} → Past text c items nodes stars s →
+        Says text names l code x s p g b (Err r) → (g ≡ stopped r → G ≡ stopped r) → Says text names l code' y c p G b (Err r)
+    says-behind q h f = let z = said_bad h in was_refused (f z.0) (wrote_from q.place z.1)
 
     pub says-from : {y : ℕ} {c : Cursor} {items nodes : ℕ} {r : Parsed} → Past text c items nodes c.stars s → Says text names l code x s p g b r →
         c.nodes ≤ nodes → c.items ≤ items → x + (c.nodes + 3 * c.items) ≤ y + (nodes + 3 * items) → Says text names l code y c p g b r
@@ -183,11 +175,10 @@ module _ {text names : List ℕ} {l : Ledger} where
     says-from q (was_read h) u v w = was_read (done-from h q u v w)
 
     -- There is room for one code word more.
-    pub says-roomed : (spare : ℕ) {q : Parsed} → Ready text l (x + suc spare) s → Says text names l code x s p g b q → roomed q
-    says-roomed spare r (was_refused h w) = tt
-    says-roomed spare r (was_read h) = omega (arith, r.room, h.level, h.nodes, h.items, r.commands)
+    pub done_room : (spare : ℕ) {c : Cursor} → Ready text l (x + suc spare) s → Done text names l code x s p g b c → c.emitted < 2048
+    done_room spare r h = omega (arith, r.room, h.level, h.nodes, h.items, r.commands)
 
 -- A reader may be called past a sign.
-pub sign-ready : {text : List ℕ} {l : Ledger} {spare : ℕ} (k : ℕ) {c d : Cursor} {sign : Parsed} → Ready text l spare c → Expected text c k sign → sign ≡ Ok d → Ready text l spare d
+pub sign-ready : {text : List ℕ} {l : Ledger} {spare : ℕ} (k : ℕ) {c d : Cursor} → Ready text l spare c → Expected text c k (Ok d) → Ready text l spare d
 unfolding Expected
-sign-ready {text = text} k {c} {d} {sign} r h f = past_same r (is-past (expected_said text c k sign (Ok d) h f).1)
+sign-ready k r h = past_same r (is-past h.1)

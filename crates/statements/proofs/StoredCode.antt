@@ -1,5 +1,7 @@
 -- What was read and stored, or written before a refusal: taken apart by the answer, and joined with what is read after it.
 -- Assumes nothing.
+use Rattle.std.specs.Prelude.{Result, Ok, Err}
+use Rattle.std.specs.Result.{IsErrAnd}
 use mathlib.Core.Path.{◌≡◌, refl, sym, ap, ◌∙◌, subst}
 use mathlib.Core.List.{List, [], ◌∷◌, ◌++◌}
 use Prim.Native.Nat.{ℕ, suc, ◌+◌}
@@ -10,13 +12,12 @@ use lib.Seq.{sets}
 use Rattle.notation.specs.Tokens.{Lexeme}
 use Rattle.notation.specs.Texts.{Numbered}
 use Rattle.notation.specs.working.Ledger.{Book}
-use Rattle.notation.specs.working.Descent.{Got, got, stop, then_reads}
+use Rattle.notation.specs.working.Descent.{Got, got, then_reads}
 use Rattle.statements.specs.declared.cursor.Cursor.{Cursor}
 use Rattle.statements.specs.declared.cursor.Ledger.{Ledger}
-use Rattle.statements.specs.declared.cursor.Parsed.{Parsed}
-use Rattle.statements.specs.declared.cursor.Parsed.TheVariants.{Ok, Refused}
+use Rattle.refusals.specs.declared.Refusal.{Refusal}
 use Rattle.lexer.specs.working.Pieces.{listed}
-use Rattle.statements.specs.working.Cursors.{book_of, Ready, Done, Wrote, Says, was_read, was_refused}
+use Rattle.statements.specs.working.Cursors.{Parsed, stopped, book_of, Ready, Done, Wrote, Says, was_read, was_refused}
 
 -- ---- stores
 
@@ -46,25 +47,25 @@ wrote_behind p b m e c vs h k w = record { words = vs ++ w.words; is = stores p 
 
 -- ---- answers
 
+-- What `?` passes on is the refusal that came.
+pub passed : {T : Type 0} (r : Result T Refusal) {q : Refusal} → IsErrAnd r (λ x. x ≡ q) → r ≡ Err q
+passed (Ok c) e = absurd e
+passed (Err x) e = ap Err e
+
 module _ {A : Type 0} {text names : List ℕ} {l : Ledger} {code : ℕ → A → Numbered (List ℕ)} {extra : ℕ} {s : Cursor} {p : List ℕ} {g : Got A} {b : List ℕ} where
   -- An answer taken apart, and seen as another one.
-  pub is_read_lem : {c : Cursor} → Says text names l code extra s p g b (Ok c) → Done text names l code extra s p g b c
-  is_read_lem (was_read d) = d
+  pub said_ok : {c : Cursor} → Says text names l code extra s p g b (Ok c) → Done text names l code extra s p g b c
+  said_ok (was_read d) = d
 
-  pub is-refused : {n q : ℕ} → Says text names l code extra s p g b (Refused n q) → (g ≡ stop n q) × Wrote s.emitted p b
-  is-refused (was_refused h w) = (h, w)
+  pub said_bad : {r : Refusal} → Says text names l code extra s p g b (Err r) → (g ≡ stopped r) × Wrote s.emitted p b
+  said_bad (was_refused h w) = (h, w)
 
   pub said_as : {r r' : Parsed} → r ≡ r' → Says text names l code extra s p g b r → Says text names l code extra s p g b r'
   said_as e h = subst (λ (x : Parsed). Says text names l code extra s p g b x) e h
 
-  pub said_ok : {r : Parsed} {c : Cursor} → Says text names l code extra s p g b r → r ≡ Ok c → Done text names l code extra s p g b c
-  said_ok h e = is_read_lem (said_as e h)
-
-  pub said_bad : {r : Parsed} {n q : ℕ} → Says text names l code extra s p g b r → r ≡ Refused n q → (g ≡ stop n q) × Wrote s.emitted p b
-  said_bad h e = is-refused (said_as e h)
-
-  pub says_same : {r : Parsed} {n q : ℕ} → r ≡ Refused n q → g ≡ stop n q → Wrote s.emitted p b → Says text names l code extra s p g b r
-  says_same e h w = said_as (sym e) (was_refused h w)
+  -- Refused as the descent refuses.
+  pub was_stopped : {r q : Refusal} → r ≡ q → g ≡ stopped q → Wrote s.emitted p b → Says text names l code extra s p g b (Err r)
+  was_stopped e h w = was_refused (h ∙ ap stopped (sym e)) w
 
   pub says_of : {o : Got A} {r : Parsed} → o ≡ g → Says text names l code extra s p g b r → Says text names l code extra s p o b r
   says_of {r = r} e h = subst (λ (x : Got A). Says text names l code extra s p x b r) (sym e) h
@@ -112,11 +113,11 @@ module _ {A : Type 0} {text names : List ℕ} {l : Ledger} {code : ℕ → A →
 
 -- A reader that stops where another one does is refused as that one is.
 pub says-alike : {A B : Type 0} {text names : List ℕ} {l : Ledger} {code : ℕ → A → Numbered (List ℕ)} {extra : ℕ} {code' : ℕ → B → Numbered (List ℕ)} {extra' : ℕ}
-    {s : Cursor} {p : List ℕ} {g : Got A} {G : Got B} {b : List ℕ} {r : Parsed} {n q : ℕ} →
-    Says text names l code extra s p g b r → r ≡ Refused n q → (g ≡ stop n q → G ≡ stop n q) → Says text names l code' extra' s p G b r
-says-alike h e f =
-    let k = said_bad h e in
-    says_same e (f k.0) k.1
+    {s : Cursor} {p : List ℕ} {g : Got A} {G : Got B} {b : List ℕ} {q : Refusal} →
+    Says text names l code extra s p g b (Err q) → (g ≡ stopped q → G ≡ stopped q) → Says text names l code' extra' s p G b (Err q)
+says-alike h f =
+    let k = said_bad h in
+    was_refused (f k.0) k.1
 
-pub then_bad : {A B : Type 0} (f : A → List Lexeme → Book → Got B) {o : Got A} {g : Got B} {n q : ℕ} → g ≡ then_reads o f → o ≡ stop n q → g ≡ stop n q
-then_bad f e h = e ∙ ap (λ (x : Got _). then_reads x f) h
+pub then_bad : {A B : Type 0} (f : A → List Lexeme → Book → Got B) {o : Got A} {g : Got B} (q : Refusal) → g ≡ then_reads o f → o ≡ stopped q → g ≡ stopped q
+then_bad f q e h = e ∙ ap (λ (x : Got _). then_reads x f) h

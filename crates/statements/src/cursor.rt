@@ -1,9 +1,10 @@
 // Where a reading stands, and how it moves on.
 ghost use Rattle.std.specs.Prelude.{◌≡◌, ◌<◌, set};
-ghost use Rattle.lexer.specs.working.Pieces.{piece_at};
-ghost use Rattle.statements.specs.working.Cursors.{moved, Expected, emitted};
+ghost use Rattle.lexer.specs.working.Kinds.{kind_number};
+ghost use Rattle.statements.specs.working.Cursors.{passed, reached, Expected, emitted};
 
-use lexer::pieces::{Piece, piece_at};
+use lexer::pieces::{Kind, Piece, piece_at};
+use refusals::Refusal;
 
 // Whether row names and stars may stand in an expression.
 #[derive(Clone, Copy)]
@@ -30,52 +31,35 @@ pub struct Cursor {
     pub stars: usize,
 }
 
-// Something was read, or the number and place of the refusal.
-#[derive(Clone, Copy)]
-pub enum Parsed {
-    Ok(Cursor),
-    Refused(usize, usize),
-}
+// Something was read, up to where it leaves the cursor, or the text is refused.
+pub type Parsed = Result<(), Refusal>;
 
-// The cursor past its piece, with these counts.
-pub fn past(text: &[u8], c: Cursor, items: usize, nodes: usize, stars: usize) -> Cursor
-    ensures { result ≡ moved (piece_at text.now c.next.end) c items nodes stars }
-{
-    let t = c.next;
-    let next = piece_at(text, t.end);
-    Cursor {
-        next: next,
-        emitted: c.emitted,
-        items: items,
-        nodes: nodes,
-        stars: stars,
+impl Cursor {
+    // Past the next piece.
+    pub fn pass(&mut self, text: &[u8])
+        ensures { self.new ≡ passed text.now self.old }
+    {
+        self.next = piece_at(text, self.next.end);
     }
-}
 
-// Past a sign that has to stand here.
-pub fn expect(text: &[u8], c: Cursor, kind: usize) -> Parsed
-    ensures { Expected text.now c kind result }
-{
-    let t = c.next;
-    if t.kind != kind {
-        return Parsed::Refused(t.fault, t.start);
+    // Past a sign that has to stand here.
+    #[tactic(auto, unfolding(crate::specs::working::Cursors::Expected))]
+    pub fn expect(&mut self, text: &[u8], kind: Kind) -> Parsed
+        ensures { Expected text.now self.old (kind_number kind) (reached result self.new) }
+    {
+        if self.next.kind != kind {
+            return Err(self.next.misplaced());
+        }
+        self.pass(text);
+        Ok(())
     }
-    Parsed::Ok(past(text, c, c.items, c.nodes, c.stars))
-}
 
-// One code word more.
-pub fn emit(ops: &mut [u16; 2048], c: Cursor, code: u16) -> Cursor
-    requires { c.emitted < 2048 }
-    ensures { (result ≡ emitted c) × (ops.new ≡ set ops.old c.emitted code) }
-{
-    let e = c.emitted;
-    let next = c.next;
-    ops[e] = code;
-    Cursor {
-        next: next,
-        emitted: e + 1,
-        items: c.items,
-        nodes: c.nodes,
-        stars: c.stars,
+    // One code word more.
+    pub fn emit(&mut self, ops: &mut [u16; 2048], code: u16)
+        requires { self.old.emitted < 2048 }
+        ensures { (self.new ≡ emitted self.old) × (ops.new ≡ set ops.old self.old.emitted code) }
+    {
+        ops[self.emitted] = code;
+        self.emitted += 1;
     }
 }

@@ -2,13 +2,15 @@
 ghost use Rattle.std.specs.Prelude.{◌≡◌, ◌≤◌, ◌<◌};
 ghost use Rattle.notation.specs.Tokens.{NOT, OPEN};
 ghost use Rattle.notation.specs.Rules.{depth_limit};
-ghost use Rattle.statements.specs.working.Cursors.{Ready};
-ghost use Rattle.statements.specs.working.Expressions.{SaysExpr, SaysOperand, factor_at, and_at, or_at, Leaf, AfterNode, AfterClose, roomed};
+ghost use Rattle.lexer.specs.working.Kinds.{kind_number};
+ghost use Rattle.statements.specs.working.Cursors.{Ready, reached};
+ghost use Rattle.statements.specs.working.Expressions.{SaysExpr, SaysOperand, factor_at, and_at, or_at, Leaf};
 
-use crate::cursor::{Cursor, Ledger, Parsed, Scope, emit, expect, past};
+use crate::cursor::{Cursor, Ledger, Parsed, Scope};
 use crate::names::visible;
 use lexer::names::find_name;
-use lexer::pieces::{AND, CLOSE, NAME, NOT, ONE, OPEN, OR, STAR, ZERO};
+use lexer::pieces::Kind;
+use refusals::Reason;
 
 pub const MAX_DEPTH: usize = 16;
 
@@ -30,17 +32,19 @@ const BOTH: u16 = 128;
 const EITHER: u16 = 160;
 
 // A node that is one token, whose code word this is, after which so many stars are counted.
-fn leaf(text: &[u8], ops: &mut [u16; 2048], c: Cursor, code: u16, stars: usize) -> Parsed
-    requires { c.emitted < 2048 }
-    ensures { Leaf text.now c code stars ops.old ops.new result }
+#[tactic(auto, unfolding(crate::specs::working::Expressions::Leaf))]
+fn leaf(text: &[u8], ops: &mut [u16; 2048], c: &mut Cursor, code: u16, stars: usize) -> Parsed
+    requires { c.old.emitted < 2048 }
+    ensures { Leaf text.now c.old code stars ops.old ops.new (reached result c.new) }
 {
-    let n = c.nodes;
-    let t = c.next;
-    if MAX_NODES <= n {
-        return Parsed::Refused(7, t.start);
+    if MAX_NODES <= c.nodes {
+        return Err(Reason::TooMany.at(c.next.start));
     }
-    let after = past(text, c, c.items, n + 1, stars);
-    Parsed::Ok(emit(ops, after, code))
+    c.nodes += 1;
+    c.stars = stars;
+    c.pass(text);
+    c.emit(ops, code);
+    Ok(())
 }
 
 // A constant, a star or a name, or what is refused.
@@ -49,60 +53,35 @@ fn operand(
     names: &[u16; 56],
     ops: &mut [u16; 2048],
     depth: usize,
-    c: Cursor,
+    c: &mut Cursor,
     sc: Scope,
     l: Ledger,
 ) -> Parsed
-    requires { Ready text.now l 0 c × ((c.next.kind ≡ NOT → ⊥) × (c.next.kind ≡ OPEN → ⊥)) }
-    ensures { SaysOperand text.now names.now l c ops.old (factor_at text.now names.now sc l depth c) ops.new result }
+    requires { Ready text.now l 0 c.old × ((kind_number c.old.next.kind ≡ NOT → ⊥) × (kind_number c.old.next.kind ≡ OPEN → ⊥)) }
+    ensures { SaysOperand text.now names.now l c.old ops.old (factor_at text.now names.now sc l depth c.old) ops.new (reached result c.new) }
 {
     let t = c.next;
-    let kind = t.kind;
     let s = c.stars;
-    if kind == ZERO {
-        return leaf(text, ops, c, PUSH, s);
-    }
-    if kind == ONE {
-        return leaf(text, ops, c, PUSH + 1, s);
-    }
-    if kind == STAR {
-        if !sc.stars {
-            return Parsed::Refused(6, t.start);
+    match t.kind {
+        Kind::Zero => leaf(text, ops, c, PUSH, s),
+        Kind::One => leaf(text, ops, c, PUSH + 1, s),
+        Kind::Star => {
+            if !sc.stars {
+                return Err(Reason::StarBarred.at(t.start));
+            }
+            if MAX_STARS <= s {
+                return Err(Reason::TooMany.at(t.start));
+            }
+            leaf(text, ops, c, CHOOSE + s as u16, s + 1)
         }
-        if MAX_STARS <= s {
-            return Parsed::Refused(7, t.start);
+        Kind::Name => {
+            let limit = visible(sc.rows, l);
+            let Some(i) = find_name(text, names, 0, limit, t) else {
+                return Err(Reason::Undeclared.at(t.start));
+            };
+            leaf(text, ops, c, LOAD + i as u16, s)
         }
-        return leaf(text, ops, c, CHOOSE + s as u16, s + 1);
-    }
-    if kind == NAME {
-        let limit = visible(sc.rows, l);
-        let i = find_name(text, names, 0, limit, t);
-        if i == limit {
-            return Parsed::Refused(5, t.start);
-        }
-        return leaf(text, ops, c, LOAD + i as u16, s);
-    }
-    Parsed::Refused(t.fault, t.start)
-}
-
-// An operator's code word, after its operand was read.
-pub fn close_node(ops: &mut [u16; 2048], inner: Parsed, code: u16) -> Parsed
-    requires { roomed inner }
-    ensures { AfterNode code inner ops.old ops.new result }
-{
-    match inner {
-        Parsed::Ok(c) => Parsed::Ok(emit(ops, c, code)),
-        Parsed::Refused(n, i) => Parsed::Refused(n, i),
-    }
-}
-
-// The closing parenthesis, after what it encloses was read.
-fn close_parenthesis(text: &[u8], inner: Parsed) -> Parsed
-    ensures { AfterClose text.now inner result }
-{
-    match inner {
-        Parsed::Ok(c) => expect(text, c, CLOSE),
-        Parsed::Refused(n, i) => Parsed::Refused(n, i),
+        _ => Err(t.misplaced()),
     }
 }
 
@@ -113,36 +92,37 @@ fn factor(
     names: &[u16; 56],
     ops: &mut [u16; 2048],
     depth: usize,
-    c: Cursor,
+    c: &mut Cursor,
     sc: Scope,
     l: Ledger,
 ) -> Parsed
-    requires { (depth ≤ depth_limit) × Ready text.now l 0 c }
-    ensures { SaysExpr text.now names.now l c ops.old (factor_at text.now names.now sc l depth c) ops.new result }
+    requires { (depth ≤ depth_limit) × Ready text.now l 0 c.old }
+    ensures { SaysExpr text.now names.now l c.old ops.old (factor_at text.now names.now sc l depth c.old) ops.new (reached result c.new) }
 {
-    let t = c.next;
-    let kind = t.kind;
-    let n = c.nodes;
-    if kind == OPEN {
-        if depth == 0 {
-            return Parsed::Refused(7, t.start);
+    match c.next.kind {
+        Kind::Open => {
+            if depth == 0 {
+                return Err(Reason::TooMany.at(c.next.start));
+            }
+            c.pass(text);
+            or_level(text, names, ops, depth - 1, c, sc, l)?;
+            c.expect(text, Kind::Close)
         }
-        let inside = past(text, c, c.items, n, c.stars);
-        let inner = or_level(text, names, ops, depth - 1, inside, sc, l);
-        return close_parenthesis(text, inner);
+        Kind::Not => {
+            if depth == 0 {
+                return Err(Reason::TooMany.at(c.next.start));
+            }
+            if MAX_NODES <= c.nodes {
+                return Err(Reason::TooMany.at(c.next.start));
+            }
+            c.nodes += 1;
+            c.pass(text);
+            factor(text, names, ops, depth - 1, c, sc, l)?;
+            c.emit(ops, NEGATE);
+            Ok(())
+        }
+        _ => operand(text, names, ops, depth, c, sc, l),
     }
-    if kind == NOT {
-        if depth == 0 {
-            return Parsed::Refused(7, t.start);
-        }
-        if MAX_NODES <= n {
-            return Parsed::Refused(7, t.start);
-        }
-        let below = past(text, c, c.items, n + 1, c.stars);
-        let inner = factor(text, names, ops, depth - 1, below, sc, l);
-        return close_node(ops, inner, NEGATE);
-    }
-    operand(text, names, ops, depth, c, sc, l)
 }
 
 // Factors joined by `and`.
@@ -152,34 +132,24 @@ fn and_level(
     names: &[u16; 56],
     ops: &mut [u16; 2048],
     depth: usize,
-    c: Cursor,
+    c: &mut Cursor,
     sc: Scope,
     l: Ledger,
 ) -> Parsed
-    requires { (depth ≤ depth_limit) × Ready text.now l 0 c }
-    ensures { SaysExpr text.now names.now l c ops.old (and_at text.now names.now sc l depth c) ops.new result }
+    requires { (depth ≤ depth_limit) × Ready text.now l 0 c.old }
+    ensures { SaysExpr text.now names.now l c.old ops.old (and_at text.now names.now sc l depth c.old) ops.new (reached result c.new) }
 {
-    let first = factor(text, names, ops, depth, c, sc, l);
-    let Parsed::Ok(start) = first else {
-        return first;
-    };
-    let mut cur = start;
-    'ands: loop {
-        let n = cur.nodes;
-        let t = cur.next;
-        if t.kind != AND {
-            return Parsed::Ok(cur);
+    factor(text, names, ops, depth, c, sc, l)?;
+    'ands: while c.next.kind == Kind::And {
+        if MAX_NODES <= c.nodes {
+            return Err(Reason::TooMany.at(c.next.start));
         }
-        if MAX_NODES <= n {
-            return Parsed::Refused(7, t.start);
-        }
-        let right = past(text, cur, cur.items, n + 1, cur.stars);
-        let next = factor(text, names, ops, depth, right, sc, l);
-        let Parsed::Ok(after) = next else {
-            return next;
-        };
-        cur = emit(ops, after, BOTH);
+        c.nodes += 1;
+        c.pass(text);
+        factor(text, names, ops, depth, c, sc, l)?;
+        c.emit(ops, BOTH);
     }
+    Ok(())
 }
 
 // The same one level up, joined by `or`.
@@ -189,32 +159,22 @@ pub fn or_level(
     names: &[u16; 56],
     ops: &mut [u16; 2048],
     depth: usize,
-    c: Cursor,
+    c: &mut Cursor,
     sc: Scope,
     l: Ledger,
 ) -> Parsed
-    requires { (depth ≤ depth_limit) × Ready text.now l 0 c }
-    ensures { SaysExpr text.now names.now l c ops.old (or_at text.now names.now sc l depth c) ops.new result }
+    requires { (depth ≤ depth_limit) × Ready text.now l 0 c.old }
+    ensures { SaysExpr text.now names.now l c.old ops.old (or_at text.now names.now sc l depth c.old) ops.new (reached result c.new) }
 {
-    let first = and_level(text, names, ops, depth, c, sc, l);
-    let Parsed::Ok(start) = first else {
-        return first;
-    };
-    let mut cur = start;
-    'ors: loop {
-        let n = cur.nodes;
-        let t = cur.next;
-        if t.kind != OR {
-            return Parsed::Ok(cur);
+    and_level(text, names, ops, depth, c, sc, l)?;
+    'ors: while c.next.kind == Kind::Or {
+        if MAX_NODES <= c.nodes {
+            return Err(Reason::TooMany.at(c.next.start));
         }
-        if MAX_NODES <= n {
-            return Parsed::Refused(7, t.start);
-        }
-        let right = past(text, cur, cur.items, n + 1, cur.stars);
-        let next = and_level(text, names, ops, depth, right, sc, l);
-        let Parsed::Ok(after) = next else {
-            return next;
-        };
-        cur = emit(ops, after, EITHER);
+        c.nodes += 1;
+        c.pass(text);
+        and_level(text, names, ops, depth, c, sc, l)?;
+        c.emit(ops, EITHER);
     }
+    Ok(())
 }

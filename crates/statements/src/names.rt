@@ -8,18 +8,12 @@ pub fn visible(rows: bool, l: Ledger) -> usize
     requires { l.shared + l.row ≤ 12 }
     ensures { result ≡ cond rows (l.shared + l.row) l.shared }
 {
-    if rows {
-        return l.shared + l.row;
-    }
-    l.shared
+    if rows { l.shared + l.row } else { l.shared }
 }
 
 // The first name that may be assigned to: a row name if `rows`, or else a shared name.
 pub fn first_target(rows: bool, l: Ledger) -> usize
     ensures { result ≡ cond rows l.shared 0 }
 {
-    if rows {
-        return l.shared;
-    }
-    0
+    if rows { l.shared } else { 0 }
 }

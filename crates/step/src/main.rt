@@ -8,101 +8,101 @@
 ghost use Rattle.std.specs.Prelude.{◌≡◌, ◌≤◌, length};
 ghost use Rattle.std.proofs.lemmas.List.Edits.{sets};
 ghost use Rattle.io.specs.Counts.{IsPrefixLen};
-ghost use Rattle.lines.specs.Puts.{Puts};
+ghost use Rattle.lines.specs.Writers.{HasRoom, Writes};
 ghost use Rattle.player.specs.Answers.{wording_of, opening_for};
 ghost use Rattle.step.specs.Keys.{asked_by, record_then, GoesOn};
 ghost use Rattle.step.specs.Lines.{record_line, line_of, opening_line};
 
-use lines::put_numbers_line;
+use conditions::outcome::Declined;
+use lines::Writer;
 use player::moves::open_player;
-use player::record::{Answer, Direction, Opened, Player};
+use player::record::{Answer, Direction, Player};
 use player::values::move_of;
 use std::env::Env;
 use std::fs::Files;
 use std::io::{Read, Write};
 use streams::arguments::argument_count;
 use streams::files::read_argument;
-use streams::input::{Next, Rest, next_byte};
+use streams::input::Input;
 use streams::output::write_out;
 use streams::told::tell;
-use streams::whole::Got;
-use wording::{Line, put_line};
-
-// What is read at once, at most.
-type Block = [u8; 65536];
+use wording::{Line, put_declined};
 
 // More bytes than ever come: a thousand million of them each second would take 584 years.
 const MOST_BYTES: u64 = u64::MAX;
 
-// What a byte asks for.
-#[derive(Clone, Copy)]
-enum Asked {
-    To(Direction),
-    Nothing,
-}
-
-// The record to go on from, or that an answer could not be written.
-#[derive(Clone, Copy)]
-enum Turn {
-    On(Player),
-    Unwritten,
-}
-
-fn asked_by(b: u8) -> Asked
+// What a byte asks for, if for anything.
+#[tactic(auto, unfolding(crate::specs::Keys::asked_by))]
+fn asked_by(b: u8) -> Option<Direction>
     ensures { result ≡ asked_by b }
 {
-    if b == b'f' {
-        return Asked::To(Direction::Forward);
+    match b {
+        b'f' => Some(Direction::Forward),
+        b'b' => Some(Direction::Back),
+        b'0' => Some(Direction::Beginning),
+        _ => None,
     }
-    if b == b'b' {
-        return Asked::To(Direction::Back);
-    }
-    if b == b'0' {
-        return Asked::To(Direction::Beginning);
-    }
-    Asked::Nothing
 }
 
-// A word of at most 7 bytes, a record's place and its state. Each number has at most 20 digits, so there is room.
-fn put_record(line: &mut Line, title: &[u8], player: Player) -> usize
-    requires { length title.now ≤ 7 }
-    ensures puts { Puts line.old 0 (record_line title.now player) line.new result }
-    ensures within { IsPrefixLen result line.new }
+// A word, a record's place and its state.
+fn put_record(out: &mut Writer, title: &[u8], player: Player)
+    requires { HasRoom out.old (record_line title.now player) }
+    ensures { Writes out.old (record_line title.now player) out.new }
 {
-    let place = player.place;
-    let state = player.state;
-    put_numbers_line(line, 0, title, place, state)
+    out.put_numbers_line(title, player.place, player.state);
 }
 
-// Puts the line of an answer at the front, with the record after the move; how long it is.
-fn put_answer(line: &mut Line, answer: Answer, player: Player) -> usize
+// The line of an answer, with the record after the move.
+#[tactic(auto, unfolding(crate::specs::Lines::line_of, player::specs::Answers::wording_of, notation::specs::Bytes::bytes))]
+fn put_move(out: &mut Writer, answer: Result<Answer, Declined>, player: Player)
+    requires { HasRoom out.old (line_of (wording_of answer) player) }
+    ensures { Writes out.old (line_of (wording_of answer) player) out.new }
+{
+    match answer {
+        Ok(Answer::Moved) => put_record(out, b"moved", player),
+        Ok(Answer::AtEnd) => put_record(out, b"end", player),
+        Ok(Answer::Foreign) => put_record(out, b"foreign", player),
+        Err(declined) => put_declined(out, declined),
+    }
+}
+
+// The line of an opening.
+#[tactic(auto, unfolding(crate::specs::Lines::opening_line, player::specs::Answers::opening_for, notation::specs::Bytes::bytes))]
+fn put_opened(out: &mut Writer, opened: Result<Player, Declined>)
+    requires { HasRoom out.old (opening_line (opening_for opened)) }
+    ensures { Writes out.old (opening_line (opening_for opened)) out.new }
+{
+    match opened {
+        Ok(player) => put_record(out, b"opened", player),
+        Err(declined) => put_declined(out, declined),
+    }
+}
+
+// Puts the line of an answer at the front, with the record after the move; how long it is. A word has at most 7 bytes and each number at most 20 digits, so there is room.
+fn put_answer(line: &mut Line, answer: Result<Answer, Declined>, player: Player) -> usize
     ensures line_after { (line.new ≡ sets line.old 0 (line_of (wording_of answer) player)) × (result ≡ length (line_of (wording_of answer) player)) × (result ≤ 64) }
     ensures prefix_len { IsPrefixLen result line.new }
 {
-    match answer {
-        Answer::Moved => put_record(line, b"moved", player),
-        Answer::AtEnd => put_record(line, b"end", player),
-        Answer::Foreign => put_record(line, b"foreign", player),
-        Answer::Told(outcome) => put_line(line, outcome),
-    }
+    let mut out = Writer::new(line);
+    put_move(&mut out, answer, player);
+    out.len()
 }
 
 // Puts the line of an opening at the front; how long it is.
-fn put_opening(line: &mut Line, opened: Opened) -> usize
+fn put_opening(line: &mut Line, opened: Result<Player, Declined>) -> usize
     ensures line_after { (line.new ≡ sets line.old 0 (opening_line (opening_for opened))) × (result ≡ length (opening_line (opening_for opened))) × (result ≤ 64) }
     ensures prefix_len { IsPrefixLen result line.new }
 {
-    match opened {
-        Opened::At(player) => put_record(line, b"opened", player),
-        Opened::Told(outcome) => put_line(line, outcome),
-    }
+    let mut out = Writer::new(line);
+    put_opened(&mut out, opened);
+    out.len()
 }
 
 // Writes the line of an answer; whether it could.
 fn write_answer(
     out: &mut impl Write,
     errors: &mut impl Write,
-    answer: Answer,
+    answer: Result<Answer, Declined>,
     player: Player,
 ) -> bool {
     let mut line = [0u8; 64];
@@ -111,13 +111,18 @@ fn write_answer(
 }
 
 // Writes the line of an opening; whether it could.
-fn write_opening(out: &mut impl Write, errors: &mut impl Write, opened: Opened) -> bool {
+fn write_opening(
+    out: &mut impl Write,
+    errors: &mut impl Write,
+    opened: Result<Player, Declined>,
+) -> bool {
     let mut line = [0u8; 64];
     let n = put_opening(&mut line, opened);
     write_out(out, errors, b"step", &line[..n])
 }
 
-// Makes the move that a byte asks for, if it asks for one, and writes its line.
+// Makes the move that a byte asks for, if it asks for one, and writes its line; the record to go on from, unless the line could not be written.
+#[tactic(auto, unfolding(crate::specs::Keys::record_then))]
 fn answer_byte(
     out: &mut impl Write,
     errors: &mut impl Write,
@@ -125,20 +130,18 @@ fn answer_byte(
     player: Player,
     text: &[u8],
     sheet: &[u8],
-) -> Turn
+) -> Option<Player>
     ensures { GoesOn result (record_then (asked_by b) text.now sheet.now player) }
 {
-    let asked = asked_by(b);
-    let Asked::To(direction) = asked else {
-        return Turn::On(player);
+    let Some(direction) = asked_by(b) else {
+        return Some(player);
     };
     let moved = move_of(direction, player, text, sheet);
-    let answer = moved.answer;
     let after = moved.player;
-    if !write_answer(out, errors, answer, after) {
-        return Turn::Unwritten;
+    if !write_answer(out, errors, moved.answer, after) {
+        return None;
     }
-    Turn::On(after)
+    Some(after)
 }
 
 // Answers the bytes of standard input as they come. Nothing says that the input ends, so they are counted.
@@ -146,24 +149,20 @@ fn walk(
     input: &mut impl Read,
     out: &mut impl Write,
     errors: &mut impl Write,
-    block: &mut Block,
     first: Player,
     text: &[u8],
     sheet: &[u8],
 ) {
     let mut player = first;
-    let mut rest = Rest { at: 0, end: 0 };
+    let mut bytes = Input::new(input);
     'bytes: for _ in 0..MOST_BYTES {
-        let got = next_byte(input, block, rest);
-        let Next::Byte(b, after) = got else {
+        let Some(b) = bytes.next_byte() else {
             return;
         };
-        let turn = answer_byte(out, errors, b, player, text, sheet);
-        let Turn::On(next) = turn else {
+        let Some(next) = answer_byte(out, errors, b, player, text, sheet) else {
             return;
         };
         player = next;
-        rest = after;
     }
 }
 
@@ -179,11 +178,10 @@ fn play(
     if !write_opening(out, errors, opened) {
         return;
     }
-    let Opened::At(player) = opened else {
+    let Ok(player) = opened else {
         return;
     };
-    let mut block = [0u8; 65536];
-    walk(input, out, errors, &mut block, player, text, sheet);
+    walk(input, out, errors, player, text, sheet);
 }
 
 // Reads the text and the sheet into their rooms, and plays.
@@ -195,10 +193,10 @@ fn play_into<R: Env + Files>(
     text: &mut [u8],
     sheet: &mut [u8],
 ) {
-    let Got::Bytes(n) = read_argument(rt, errors, b"step", 1, text) else {
+    let Some(n) = read_argument(rt, errors, b"step", 1, text) else {
         return;
     };
-    let Got::Bytes(m) = read_argument(rt, errors, b"step", 2, sheet) else {
+    let Some(m) = read_argument(rt, errors, b"step", 2, sheet) else {
         return;
     };
     play(input, out, errors, &text[..n], &sheet[..m]);

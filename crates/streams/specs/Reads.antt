@@ -1,15 +1,12 @@
 -- What a read leaves in the room that it is lent.
 -- Assumes nothing.
-use Rattle.std.specs.Prelude.{List, Option, ℕ, ◌<◌, length, take}
+use Rattle.std.specs.Prelude.{IfSome, List, Option, ℕ, ◌<◌, length, take}
 use Rattle.std.specs.Io.KnownBytes.{Consumes, IsAtEnd}
 use Rattle.io.specs.Counts.{IsPrefixLen}
-use Rattle.streams.specs.declared.whole.Got.{Got}
-use Rattle.streams.specs.declared.whole.Got.TheVariants.{Bytes, Failed}
 
 -- The bytes that came stand at the front of the room; after a failure nothing is said of it.
-abbrev pub Within : Got → List ℕ → Type 0
-Within (Bytes n) xs = IsPrefixLen n xs
-Within Failed xs = Unit {0}
+abbrev pub Within : Option ℕ → List ℕ → Type 0
+Within came xs = IfSome came (λ n. IsPrefixLen n xs)
 
 -- The n bytes at the front of the room are the file's next, and no more are left where there was room for more.
 pub record Fills (before after : Option (List ℕ)) (room : List ℕ) (n : ℕ) : Type 0 where
@@ -17,6 +14,5 @@ pub record Fills (before after : Option (List ℕ)) (room : List ℕ) (n : ℕ) 
   pub whole : n < length room → IsAtEnd after
 
 -- The same of the bytes that came.
-abbrev pub Came : Got → Option (List ℕ) → Option (List ℕ) → List ℕ → Type 0
-Came (Bytes n) before after room = Fills before after room n
-Came Failed before after room = Unit {0}
+abbrev pub Came : Option ℕ → Option (List ℕ) → Option (List ℕ) → List ℕ → Type 0
+Came came before after room = IfSome came (Fills before after room)

@@ -3,7 +3,7 @@ ghost use Rattle.std.specs.Io.{ReadsAtMost};
 ghost use Rattle.streams.specs.Reads.{Within};
 
 use crate::told::tell_failure;
-use crate::whole::{Got, read_file};
+use crate::whole::read_file;
 use std::env::{Env, FillError};
 use std::fs::Files;
 use std::io::{Error, ErrorKind, Result, Write};
@@ -36,14 +36,14 @@ fn read_path(rt: &impl Files, path: &[u8], room: &mut [u8]) -> Result<usize>
     read_file(&mut file, room)
 }
 
-// Reads the file that argument i names; where it can't be read, says so. An argument that is too long for a path is cut in what is said of it.
+// Reads the file that argument i names; how many bytes came. Where it can't be read, a line on standard error says so, and why. An argument that is too long for a path is cut in what is said of it.
 pub fn read_argument<R: Env + Files>(
     rt: &R,
     errors: &mut impl Write,
     program: &[u8],
     i: usize,
     room: &mut [u8],
-) -> Got
+) -> Option<usize>
     ensures { Within result room.new }
 {
     let mut path = [0u8; PATH_ROOM];
@@ -51,11 +51,6 @@ pub fn read_argument<R: Env + Files>(
         Ok(n) => (n, read_path(rt, &path[..n], room)),
         Err(fault) => (PATH_ROOM, Err(lack(fault))),
     };
-    match got {
-        Ok(count) => Got::Bytes(count),
-        Err(why) => {
-            tell_failure(errors, program, b"read ", &path[..n], &why);
-            Got::Failed
-        }
-    }
+    got.inspect_err(|why| tell_failure(errors, program, b"read ", &path[..n], why))
+        .ok()
 }

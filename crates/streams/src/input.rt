@@ -1,119 +1,71 @@
-// Texts from standard input. A text comes as its length in digits, a newline, its bytes and a newline. At anything else the input ends.
-use crate::bounds::at_most;
+// What a reader gives, byte by byte.
 use std::io::Read;
 
-// The part of the input block that is not used yet. It is empty before anything is read.
-#[derive(Clone, Copy)]
-pub struct Rest {
-    pub at: usize,
-    pub end: usize,
+// What is read at once.
+const BLOCK: usize = 65536;
+
+// A reader, and the part of its last block that is not used yet.
+#[derive(Drop)]
+pub struct Input<R> {
+    reader: R,
+    block: [u8; 65536],
+    at: usize,
+    end: usize,
 }
 
-// The next byte, and what follows it.
-#[derive(Clone, Copy)]
-pub enum Next {
-    Byte(u8, Rest),
-    End,
-}
-
-// The length of a text, and what follows it.
-#[derive(Clone, Copy)]
-pub enum Head {
-    Length(usize, Rest),
-    End,
-}
-
-// The first byte of the next input block.
-fn first_byte(input: &mut impl Read, block: &mut [u8; 65536]) -> Next {
-    match input.read(block) {
-        Ok(0) | Err(_) => Next::End,
-        Ok(n) => Next::Byte(block[0], Rest { at: 1, end: n }),
-    }
-}
-
-pub fn next_byte(input: &mut impl Read, block: &mut [u8; 65536], rest: Rest) -> Next {
-    let at = rest.at;
-    let end = at_most(rest.end, 65536);
-    if at < end {
-        return Next::Byte(
-            block[at],
-            Rest {
-                at: at + 1,
-                end: end,
-            },
-        );
-    }
-    first_byte(input, block)
-}
-
-// n with one digit more, but for a number that is too large already.
-fn with_digit(n: usize, digit: u8) -> usize {
-    if 100000000 < n {
-        return n;
-    }
-    n * 10 + digit as usize
-}
-
-// A length of at most 9 digits, and its newline.
-pub fn text_length(input: &mut impl Read, block: &mut [u8; 65536], start: Rest) -> Head {
-    let mut rest = start;
-    let mut n: usize = 0;
-    'digits: for _ in 0..10 {
-        let got = next_byte(input, block, rest);
-        let Next::Byte(b, after) = got else {
-            return Head::End;
-        };
-        if b == b'\n' {
-            return Head::Length(n, after);
+impl<R: Read> Input<R> {
+    pub fn new(reader: R) -> Input<R> {
+        Input {
+            reader,
+            block: [0; 65536],
+            at: 0,
+            end: 0,
         }
-        if b < b'0' || b'9' < b {
-            return Head::End;
-        }
-        n = with_digit(n, b - b'0');
-        rest = after;
     }
-    Head::End
-}
 
-// The n bytes of a text, as far as there is room for them, and then the byte after it.
-pub fn text_bytes(
-    input: &mut impl Read,
-    block: &mut [u8; 65536],
-    start: Rest,
-    room: &mut [u8],
-    n: usize,
-) -> Next {
-    let mut rest = start;
-    'bytes: for i in 0..n {
-        let got = next_byte(input, block, rest);
-        let Next::Byte(b, after) = got else {
-            return Next::End;
-        };
-        if i < room.len() {
-            room[i] = b;
+    pub fn next_byte(&mut self) -> Option<u8> {
+        if self.at >= self.end {
+            self.end = self.reader.read(&mut self.block).ok()?;
+            self.at = 0;
         }
-        rest = after;
+        let b = self.block[..self.end.min(BLOCK)].get(self.at).copied()?;
+        self.at += 1;
+        Some(b)
     }
-    next_byte(input, block, rest)
-}
 
-// A whole text, put into the room as far as it goes: its length, and what follows its newline.
-pub fn whole_text(
-    input: &mut impl Read,
-    block: &mut [u8; 65536],
-    start: Rest,
-    room: &mut [u8],
-) -> Head {
-    let head = text_length(input, block, start);
-    let Head::Length(n, inside) = head else {
-        return Head::End;
-    };
-    let body = text_bytes(input, block, inside, room, n);
-    let Next::Byte(b, rest) = body else {
-        return Head::End;
-    };
-    if b != b'\n' {
-        return Head::End;
+    // A number of at most 9 digits, and its newline.
+    pub fn number(&mut self) -> Option<usize> {
+        let mut n = 0;
+        for _ in 0..10usize {
+            match self.next_byte()? {
+                b'\n' => return Some(n),
+                b @ b'0'..=b'9' => n = n * 10 + usize::from(b - b'0'),
+                _ => return None,
+            }
+        }
+        None
     }
-    Head::Length(n, rest)
+
+    // A text, which comes as its length, its bytes and a newline: how long it is. It is put into the room as far as it goes.
+    pub fn text(&mut self, room: &mut [u8]) -> Option<usize> {
+        let n = self.number()?;
+        for i in 0..n {
+            let b = self.next_byte()?;
+            if let Some(place) = room.get_mut(i) {
+                *place = b;
+            }
+        }
+        (self.next_byte()? == b'\n').then_some(n)
+    }
+
+    // Does the work over and over, until it answers None. Nothing says that the input ends, so the turns are counted.
+    pub fn each<F: FnMut(&mut Input<R>) -> Option<()>>(&mut self, mut work: F)
+        requires { F.IsAlwaysCallable work }
+    {
+        for _ in 0..u64::MAX {
+            if work(self).is_none() {
+                return;
+            }
+        }
+    }
 }

@@ -2,11 +2,11 @@
 #![tactic(auto)]
 
 pub mod arguments;
-pub mod bounds;
 pub mod files;
 pub mod input;
 pub mod output;
 #[cfg(test)]
 mod tests;
 pub mod told;
+pub mod values;
 pub mod whole;

@@ -1,8 +1,8 @@
 // Reads and writes that come in parts, or fail in the middle.
 use crate::arguments::{argument, argument_count};
-use crate::input::{Head, Next, Rest, next_byte, whole_text};
+use crate::input::Input;
 use crate::output::write_out;
-use crate::whole::{Got, read_file, read_in};
+use crate::whole::{read_file, read_in};
 use std::env::{Env, FillError};
 use std::io::{Error, Read, Result, Write};
 use std::test::Fail;
@@ -107,7 +107,7 @@ fn a_read_that_fails_is_told(rt: HostRuntime) {
         b"program",
         &mut room,
     );
-    assert!(rt; matches!(got, Got::Failed));
+    assert_eq!(rt; got, None);
     assert_eq!(rt;
         errors.as_slice(),
         b"program: cannot read standard input: Input/output error\n".as_slice()
@@ -150,37 +150,14 @@ fn a_write_that_fails_is_told(rt: HostRuntime) {
 
 #[test]
 fn texts_come_in_parts(rt: HostRuntime) {
-    let mut block = [0u8; 65536];
     let mut room = [0u8; 4];
-    let start = Rest { at: 0, end: 0 };
-    let mut input = in_parts(b"12\nabcdefghijkl\n0\n\n3\nab", 20);
-    let Head::Length(12, first) = whole_text(&mut input, &mut block, start, &mut room) else {
-        assert!(rt; false, "no first text");
-        return;
-    };
+    let mut input = Input::new(in_parts(b"12\nabcdefghijkl\n0\n\n3\nab", 20));
+    assert_eq!(rt; input.text(&mut room), Some(12));
     assert_eq!(rt; &room[..], b"abcd".as_slice());
-    let Head::Length(0, second) = whole_text(&mut input, &mut block, first, &mut room) else {
-        assert!(rt; false, "no second text");
-        return;
-    };
-    assert!(rt;
-        matches!(
-            whole_text(&mut input, &mut block, second, &mut room),
-            Head::End
-        )
-    );
-    assert!(rt;
-        matches!(
-            whole_text(&mut in_parts(b"1\na\n", 1), &mut block, start, &mut room),
-            Head::End
-        )
-    );
-    assert!(rt;
-        matches!(
-            next_byte(&mut in_parts(b"a", 0), &mut block, start),
-            Next::End
-        )
-    );
+    assert_eq!(rt; input.text(&mut room), Some(0));
+    assert_eq!(rt; input.text(&mut room), None);
+    assert_eq!(rt; Input::new(in_parts(b"1\na\n", 1)).text(&mut room), None);
+    assert_eq!(rt; Input::new(in_parts(b"a", 0)).next_byte(), None);
 }
 
 #[test]

@@ -6,13 +6,6 @@ ghost use Rattle.streams.specs.Reads.{Within, Fills, Came};
 use crate::told::tell_failure;
 use std::io::{Read, Result, Write};
 
-// How many bytes came, none of them at the file's end, or that the read failed.
-#[derive(Clone, Copy)]
-pub enum Got {
-    Bytes(usize),
-    Failed,
-}
-
 // Reads until the file ends or the room is full.
 pub fn read_file<R: Read>(file: &mut R, room: &mut [u8]) -> Result<usize>
     ensures within { ReadsAtMost result room.new }
@@ -29,21 +22,17 @@ pub fn read_file<R: Read>(file: &mut R, room: &mut [u8]) -> Result<usize>
     Ok(at)
 }
 
-// Reads standard input. Where it can't be read, a line on standard error says so, and why.
+// Reads standard input; how many bytes came. Where it can't be read, a line on standard error says so, and why.
 pub fn read_in<R: Read>(
     input: &mut R,
     errors: &mut impl Write,
     program: &[u8],
     room: &mut [u8],
-) -> Got
+) -> Option<usize>
     ensures within { Within result room.new }
     ensures bytes { Came result (R.remaining input.old) (R.remaining input.new) room.new }
 {
-    match read_file(input, room) {
-        Ok(n) => Got::Bytes(n),
-        Err(why) => {
-            tell_failure(errors, program, b"read standard input", b"", &why);
-            Got::Failed
-        }
-    }
+    read_file(input, room)
+        .inspect_err(|why| tell_failure(errors, program, b"read standard input", b"", why))
+        .ok()
 }

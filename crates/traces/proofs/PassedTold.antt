@@ -12,8 +12,8 @@ use Rattle.meaning.specs.Evidence.{TracePasses}
 use Rattle.sheets.specs.Sheets.{system_of}
 use Rattle.sheets.specs.SheetTexts.{AreBytes}
 use Rattle.conditions.specs.Outcomes as W
-use Rattle.conditions.specs.declared.outcome.Outcome.{Outcome}
-use Rattle.conditions.specs.declared.outcome.Outcome.TheVariants.{SafeHolds, Void, TraceHolds, FailsA, FailsB, FailsC, FailsD, FailsE, FailsF, Refused}
+use Rattle.std.specs.Prelude.{Ok, Err}
+use Rattle.conditions.specs.declared.outcome.Outcome.TheVariants.{SafeHolds, Void, TraceHolds, FailsA, FailsB, FailsC, FailsD, FailsE, FailsF}
 use Rattle.conditions.specs.working.Judging.{outcome_of}
 use Rattle.acceptance.specs.Promises.{answer_to, TraceThat}
 use Rattle.acceptance.specs.working.Test.{test_of}
@@ -24,18 +24,18 @@ use Rattle.traces.specs.working.Passing.{trace_passed}
 use Rattle.traces.proofs.Contents.{Contents, contents_said}
 
 -- An outcome is in words that of a trace that passes, or it is none.
-pub either_way : (o : Outcome) → TracePassed (W.wording_of o) ⊎ (trace_passed o ≡ false)
+pub either_way : (o : W.Tested) → TracePassed (W.wording_of o) ⊎ (trace_passed o ≡ false)
 unfolding W.wording_of
-either_way SafeHolds = inr refl
-either_way Void = inr refl
-either_way TraceHolds = inl refl
-either_way FailsA = inr refl
-either_way FailsB = inr refl
-either_way FailsC = inr refl
-either_way FailsD = inr refl
-either_way FailsE = inr refl
-either_way FailsF = inr refl
-either_way (Refused n p) = inr refl
+either_way (Ok SafeHolds) = inr refl
+either_way (Ok Void) = inr refl
+either_way (Ok TraceHolds) = inl refl
+either_way (Ok FailsA) = inr refl
+either_way (Ok FailsB) = inr refl
+either_way (Ok FailsC) = inr refl
+either_way (Ok FailsD) = inr refl
+either_way (Ok FailsE) = inr refl
+either_way (Ok FailsF) = inr refl
+either_way (Err r) = inr refl
 
 pub not_passed : (text b : List ℕ) → ¬ (TracePassed (answer_to text b)) → trace_passed (test_of text b) ≡ false
 not_passed text b h = ⊎_elim (λ e. absurd (h e)) (λ e. e) (either_way (test_of text b))

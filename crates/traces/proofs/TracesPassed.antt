@@ -10,28 +10,31 @@ use Rattle.notation.specs.Texts.{model_of}
 use Rattle.notation.specs.working.Machine as N
 use Rattle.notation.specs.working.Answer.{answer}
 use Rattle.meaning.specs.working.Conditions.{test_void, test_a, test_b, test_c}
-use Rattle.sheets.specs.Sheets.{System, size, system_of, header_length, map_length}
+use Rattle.sheets.specs.Sheets.{System, size, system_of, header_length}
 use Rattle.sheets.specs.working.SheetReading.{sheet_of, step_count, StepsStand}
 use Rattle.sheets.specs.working.Shapes.{shape_of}
 use Rattle.sheets.specs.declared.shapes.Shape.{Shape}
-use Rattle.sheets.specs.declared.shapes.Shape.TheVariants.{Bad, Map, Trace}
+use Rattle.sheets.specs.declared.shapes.Shape.TheVariants.{Map, Trace}
 use Rattle.sheets.proofs.SheetLaws.{record-parts}
-use Rattle.conditions.specs.declared.outcome.Outcome.{Outcome}
-use Rattle.conditions.specs.declared.outcome.Outcome.TheVariants.{SafeHolds, Void, FailsA, FailsB, FailsC, Refused}
+use Rattle.std.specs.Prelude.{Result, Ok, Err}
+use Rattle.refusals.specs.declared.Refusal.{Refusal}
+use Rattle.conditions.specs.Outcomes.{Tested, declined}
+use Rattle.conditions.specs.declared.outcome.Declined.{Declined}
+use Rattle.conditions.specs.declared.outcome.Outcome.TheVariants.{SafeHolds, Void, FailsA, FailsB, FailsC}
 use Rattle.conditions.specs.working.Judging.{passed_answer, map_answer, outcome_of}
 use Rattle.acceptance.specs.working.Test.{test_in, test_of}
 use Rattle.acceptance.proofs.TestWhole.{whole-refused, whole-map, trace-stands, trace-short}
-use Rattle.traces.specs.working.Passing.{trace_passed, last_place, header}
+use Rattle.traces.specs.working.Passing.{trace_passed, last_place, header, steps_after, passed_steps_of}
 
 -- No outcome for a map is that of a trace.
-map_chain : (a b c v : Bool) → trace_passed (cond a (cond b (cond c (cond v Void SafeHolds) FailsC) FailsB) FailsA) ≡ false
+map_chain : (a b c v : Bool) → trace_passed (Ok (cond a (cond b (cond c (cond v Void SafeHolds) FailsC) FailsB) FailsA)) ≡ false
 map_chain true true true true = refl
 map_chain true true true false = refl
 map_chain true true false v = refl
 map_chain true false c v = refl
 map_chain false b c v = refl
 
-no-map : (M : System) (map : List ℕ) → trace_passed (map_answer M map) ≡ false
+no-map : (M : System) (map : List ℕ) → trace_passed (Ok (map_answer M map)) ≡ false
 unfolding map_answer passed_answer
 no-map M map =
     map_chain (test_a (size M) M.starts map) (test_b (size M) M.breaks map) (test_c (size M) M.commands M.stars M.step map)
@@ -39,15 +42,15 @@ no-map M map =
 
 -- Where a trace passes, a trace was found.
 module _ (M : System) (b : List ℕ) (passed : trace_passed (outcome_of M b) ≡ true) where
-  other : (o : Outcome) → o ≡ outcome_of M b → trace_passed o ≡ false → Trace ≡ shape_of (sheet_of M b)
+  other : (o : Tested) → o ≡ outcome_of M b → trace_passed o ≡ false → Ok Trace ≡ shape_of (sheet_of M b)
   other o e f = absurd (true≢false (sym passed ∙ ap trace_passed (sym e) ∙ f))
 
-  by_shape : (x : Shape) → x ≡ shape_of (sheet_of M b) → Trace ≡ shape_of (sheet_of M b)
-  by_shape (Bad n p) e = other (Refused n p) (whole-refused M b n p e) refl
-  by_shape Map e = other _ (whole-map M b e (map_length (size M)) refl _ refl) (no-map M _)
-  by_shape Trace e = e
+  by_shape : (x : Result Shape Refusal) → x ≡ shape_of (sheet_of M b) → Ok Trace ≡ shape_of (sheet_of M b)
+  by_shape (Err r) e = other (Err r) (whole-refused M b r e) refl
+  by_shape (Ok Map) e = other _ (whole-map M b e _ refl) (no-map M _)
+  by_shape (Ok Trace) e = e
 
-  pub trace-there : Trace ≡ shape_of (sheet_of M b)
+  pub trace-there : Ok Trace ≡ shape_of (sheet_of M b)
   trace-there = by_shape (shape_of (sheet_of M b)) refl
 
 -- Steps that stand from p on end within the sheet.
@@ -84,7 +87,20 @@ pub text_passed : (text b : List ℕ) → trace_passed (test_of text b) ≡ true
 unfolding test_of
 text_passed text b e = answer_passed b (answer text) e
 
--- The outcome as the code has it, and whether it is that of a trace.
-module _ (text b : List ℕ) (o : Outcome) (tested : o ≡ test_of text b) (x : Bool) (judged : x ≡ trace_passed o) where
-  pub judged_so : (y : Bool) → x ≡ y → trace_passed (test_of text b) ≡ y
-  judged_so y e = ap trace_passed (sym tested) ∙ sym judged ∙ e
+-- A number of steps, or what is told in its place, tells what the test answers.
+by_ok : (t : Bool) (m n : ℕ) (d : Declined) → ◌≡◌ {A = Result ℕ Declined} (Ok n) (cond t (Ok m) (Err d)) → (t ≡ true) × (n ≡ m)
+by_ok true m n d e = (refl, cc)
+by_ok false m n d e = cc
+
+by_err : (t : Bool) (m : ℕ) (d x : Declined) → ◌≡◌ {A = Result ℕ Declined} (Err x) (cond t (Ok m) (Err d)) → (t ≡ false) × (x ≡ d)
+by_err true m d x e = cc
+by_err false m d x e = (refl, cc)
+
+module _ (text b : List ℕ) where
+  pub steps-passed : (n : ℕ) → Ok n ≡ passed_steps_of text b → (trace_passed (test_of text b) ≡ true) × (n ≡ last_place header b)
+  unfolding steps_after
+  steps-passed n e = by_ok (trace_passed (test_of text b)) (last_place header b) n (declined (test_of text b)) e
+
+  pub steps-declined : (d : Declined) → Err d ≡ passed_steps_of text b → (trace_passed (test_of text b) ≡ false) × (d ≡ declined (test_of text b))
+  unfolding steps_after
+  steps-declined d e = by_err (trace_passed (test_of text b)) (last_place header b) (declined (test_of text b)) d e

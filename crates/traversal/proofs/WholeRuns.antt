@@ -6,8 +6,8 @@ use mathlib.Core.List.{List, ◌++◌}
 use Prim.Native.Nat.{ℕ, ◌≤◌}
 use lib.ListN.{length, drop, replicate}
 use Rattle.exploration.specs.working.Transitions.{Transitions}
-use Rattle.exploration.specs.working.Tables.{Ready, Explored, Took, Began, Ran}
-use Rattle.exploration.proofs.Laws.{cleared, began, ran_broke, ran_on}
+use Rattle.exploration.specs.working.Tables.{Ready, Explored, Began, Ran}
+use Rattle.exploration.proofs.Laws.{cleared, ran_broke, ran_on}
 
 module _ (T : Transitions) (states : ℕ) (e : states ≡ T.size) (q p₀ p : List ℕ) (c : p ≡ replicate states 0 ++ drop states p₀) (hq : states ≤ length q) (hp : states ≤ length p₀) where
   sized : p ≡ replicate T.size 0 ++ drop T.size p₀
@@ -21,9 +21,6 @@ module _ (T : Transitions) (states : ℕ) (e : states ≡ T.size) (q p₀ p : Li
 
   pub ready_cleared : Ready T q 0 p
   ready_cleared = (cleared T q p₀ p sized queue-room parent-room).ready
-
-  pub begun : {q₁ : List ℕ} {n₁ : ℕ} {p₁ : List ℕ} {b : Bool} → Took T q p q₁ n₁ p₁ b → Began T q p₀ q₁ n₁ p₁ b
-  begun = began T q p₀ p sized queue-room parent-room
 
 module _ (T : Transitions) (states : ℕ) (e : states ≡ T.size) {q₀ p₀ q₁ : List ℕ} {n₁ : ℕ} {p₁ : List ℕ} {b : Bool} (B : Began T q₀ p₀ q₁ n₁ p₁ b) where
   pub run-broke : b ≡ true → (j : ℕ) → j ≡ 0 → Ran T q₀ p₀ q₁ n₁ p₁ b j

@@ -4,9 +4,9 @@ use Rattle.std.specs.Prelude.{List, ℕ}
 use Rattle.notation.specs.Model.{Model, Expr, Place}
 use Rattle.notation.specs.Texts.{TextSays}
 use Rattle.notation.specs.Expressions.{StandsIn}
-use Rattle.reader.specs.Read.{reading_of}
+use Rattle.reader.specs.Read.{read_code}
 use Rattle.evaluation.specs.Passes.{ValuedAmong}
 
 -- For a text that says a model, each expression that stands in the model has its code among the code words that `read` returns, with its value and its passes.
 abbrev pub ReadValued : Type 0
-ReadValued = (text : List ℕ) (m : Model) → TextSays text m → (p : Place) (e : Expr) → StandsIn m p e → ValuedAmong m p e (reading_of text).code.ops
+ReadValued = (text : List ℕ) (m : Model) → TextSays text m → (p : Place) (e : Expr) → StandsIn m p e → ValuedAmong m p e (read_code text).ops

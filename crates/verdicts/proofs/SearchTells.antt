@@ -12,6 +12,10 @@ use native.Mathlib.Nat.{le_trans}
 use lib.Dec.{leb}
 use lib.ListN.{length, get_or}
 use borrow.Author.Tests.{leb-true, le-leb}
+use Rattle.std.specs.Prelude.{Ok}
+use Rattle.refusals.specs.Reasons.{number_of, reason_of}
+use Rattle.refusals.proofs.Numbers.{number_told}
+use Rattle.refusals.proofs.Texts.{text_reason}
 use Rattle.notation.specs.Bytes.{bytes}
 use Rattle.notation.specs.Model.{Model}
 use Rattle.notation.specs.Regular.{Regular}
@@ -94,7 +98,7 @@ abbrev pub Made : Model → Verdict → ℕ → Type 0
 Made m x t = (k : ℕ) → trials_of m x ≡ some k → t ≡ k
 
 abbrev Says : Model → Verdict → ℕ → String → ℕ → Type 0
-Says m x t v n = wording_of (verdict_of x n t) ≡ verdict v n (trials_of m x)
+Says m x t v n = wording_of (Ok (verdict_of x n t)) ≡ verdict v n (trials_of m x)
 
 said_safe : (m : Model) (x : Verdict) (t : ℕ) → Made m x t → Finds m x → (n : ℕ) → Says m x t "safe" n ↔ (Safe m One × CanStart m One)
 unfolding verdict_of wording_of trials_of
@@ -153,9 +157,16 @@ module _ (m : Model) where
     unfolding search_for
     without_room h = rw (false_unless (roomy (system_of m) first second sheet) (λ e. h ((room-tells m first second sheet).0 e)))
 
-left_alone_lem : (n p : ℕ) (first second sheet : List ℕ) → SearchRefused n p first second sheet (left_alone n p first second sheet)
+left_alone_lem : (n p : ℕ) → number_of (reason_of n) ≡ n → (first second sheet : List ℕ) → SearchRefused n p first second sheet (left_alone n p first second sheet)
 unfolding wording_of
-left_alone_lem n p first second sheet = record { answered = refl; first_kept = refl; second_kept = refl; sheet_kept = refl }
+left_alone_lem n p e first second sheet = record { answered = ap (λ k. returned k p) e; first_kept = refl; second_kept = refl; sheet_kept = refl }
+
+-- The numbers of refusals are those of reasons.
+pub no_room : number_of (reason_of 8) ≡ 8
+no_room = number_told 8 (omega arith) (omega arith)
+
+pub of_text : {text : List ℕ} {n i : ℕ} → TextRefused text n i → number_of (reason_of n) ≡ n
+of_text {text} {n} {i} r = text_reason text n i (refused-answer r)
 
 pub search-tells : SearchTells
 search-tells text m says first second sheet =
@@ -165,7 +176,7 @@ search-tells text m says first second sheet =
           (sym (said text m says first second sheet ∙ with_room m first second sheet r))
           (left_with_lem m first second sheet (all_regular text m says) (le_trans (sheet-short m) r.2));
       room_missing = λ h.
-          subst (SearchRefused 8 0 first second sheet) (sym (said text m says first second sheet ∙ without_room m first second sheet h)) (left_alone_lem 8 0 first second sheet);
+          subst (SearchRefused 8 0 first second sheet) (sym (said text m says first second sheet ∙ without_room m first second sheet h)) (left_alone_lem 8 0 no_room first second sheet);
     }
 
 pub leaves_tell : LeavesTell
@@ -177,7 +188,7 @@ refused_left text n i r first second sheet = ap (λ (o : N.Outcome). search_in o
 
 pub text-refused-first : TextRefusedFirst
 text-refused-first text n i r first second sheet =
-    subst (SearchRefused n i first second sheet) (sym (refused_left text n i r first second sheet)) (left_alone_lem n i first second sheet)
+    subst (SearchRefused n i first second sheet) (sym (refused_left text n i r first second sheet)) (left_alone_lem n i (of_text r) first second sheet)
 
 pub searched_without_case : SearchedWithoutCase
 unfolding search_of
@@ -204,7 +215,7 @@ whatever_left text first second sheet P refused missing searched = go (one_answe
     go (inr (n, i, r)) = subst P (sym (refused_left text n i r first second sheet)) (refused n i r)
 
 -- A call that has searched was not refused.
-pub searched_said : (x : Verdict) (l t n p : ℕ) → wording_of (verdict_of x l t) ≡ returned n p → ⊥
+pub searched_said : (x : Verdict) (l t n p : ℕ) → wording_of (Ok (verdict_of x l t)) ≡ returned n p → ⊥
 unfolding verdict_of wording_of
 searched_said (safe_by map) l t n p e = (not-verdict n p l _).0 (sym e)
 searched_said (void_by map) l t n p e = (not-verdict n p l _).1 (sym e)

@@ -6,6 +6,7 @@ use Prim.Native.Nat.{ℕ, ◌+◌, ◌≤◌}
 use native.Mathlib.Omega.{arith}
 use lib.ListN.{length, take, drop}
 use lib.Seq.{sets, sets-eq, take-append_seam}
+use Rattle.refusals.specs.Reasons.{number_of, reason_of}
 use Rattle.notation.specs.Model.{Model}
 use Rattle.notation.specs.Regular.{Regular}
 use Rattle.notation.specs.Texts.{TextSays}
@@ -124,10 +125,11 @@ module _ (text : List ℕ) (m : Model) (says : TextSays text m) where
 refused-passes : (text : List ℕ) (n p : ℕ) (first second sheet : List ℕ) → FrontPasses text (left_alone n p first second sheet)
 unfolding wording_of
 refused-passes text n p first second sheet =
+    let k = number_of (reason_of n) in
     record {
-      after_safe = λ k t f. absurd ((not-verdict n p k t).0 f);
-      after_void = λ k t f. absurd ((not-verdict n p k t).1 f);
-      after_unsafe = λ k t f. absurd ((not-verdict n p k t).2 f);
+      after_safe = λ l t f. absurd ((not-verdict k p l t).0 f);
+      after_void = λ l t f. absurd ((not-verdict k p l t).1 f);
+      after_unsafe = λ l t f. absurd ((not-verdict k p l t).2 f);
     }
 
 pub sheets_pass : SheetsPass

@@ -1,10 +1,10 @@
 -- What a call of the search leaves: its answer, and the contents of the three lent buffers.
 -- Assumes nothing.
 use Rattle.std.specs.Prelude.{◌≡◌, List, ◌++◌, ℕ, drop, replicate}
-use Rattle.verdicts.specs.declared.finding.Finding.{Finding}
+use Rattle.verdicts.specs.Answers.{Searched}
 
 pub record Left : Type 0 where
-  pub answer : Finding
+  pub answer : Searched
   pub first : List ℕ
   pub second : List ℕ
   pub sheet : List ℕ

@@ -1,9 +1,13 @@
 // What the search answers.
-// The model is safe, void or unsafe, and the sheet has so many bytes; with safe the number of trials; or the call is refused: the refusal's number and place.
-#[derive(Clone, Copy)]
+use refusals::Refusal;
+
+// The model is safe, void or unsafe, and the sheet has so many bytes; with safe the number of trials.
+#[derive(Clone, Copy, Debug, PartialEq, Eq)]
 pub enum Finding {
-    Safe(usize, usize),
-    Void(usize),
-    Unsafe(usize),
-    Refused(u8, usize),
+    Safe { length: usize, trials: usize },
+    Void { length: usize },
+    Unsafe { length: usize },
 }
+
+// What the search finds, unless the text or the room is refused.
+pub type Searched = Result<Finding, Refusal>;

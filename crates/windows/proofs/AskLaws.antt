@@ -3,110 +3,84 @@
 use mathlib.Core.Path.{◌≡◌, refl, sym, ap, ◌∙◌, subst}
 use mathlib.Core.Bool.{Bool, true, false, cond, true≢false}
 use mathlib.Core.List.{List, []}
-use Prim.Native.Nat.{ℕ, ◌+◌, ◌-◌, ◌*◌, ◌<◌, ◌≤◌}
+use Prim.Native.Nat.{ℕ, ◌-◌, ◌*◌, ◌≤◌}
 use native.Mathlib.Omega.{arith}
 use lib.Dec.{eqb, ltb}
 use lib.ListN.{length, get_or}
-use borrow.Author.Tests.{eq-eqb, ne_eqb, lt-ltb, le-ltb, eqb-true, ltb-false}
+use borrow.Author.Tests.{eqb-true, ltb-false}
 use Rattle.std.proofs.lemmas.Bool.Decides.{nat_tests}
 use Rattle.notation.specs.Texts.{model_of}
 use Rattle.notation.specs.working.Machine as N
 use Rattle.notation.specs.working.Answer.{answer}
-use Rattle.conditions.specs.declared.outcome.Outcome.{Outcome}
+use Rattle.std.specs.Prelude.{Option, Some, None, Result, Ok, Err}
+use Rattle.refusals.specs.declared.Reason.{Reason}
+use Rattle.refusals.specs.Reasons.{number_of, reason_of}
+use Rattle.conditions.specs.Outcomes.{declined}
+use Rattle.conditions.specs.declared.outcome.Declined.{Declined}
 use Rattle.acceptance.specs.working.Test.{test_in, test_of}
-use Rattle.traces.specs.working.Passing.{trace_passed, last_place, header}
-use Rattle.traces.proofs.TracesPassed.{HasTrace, text_passed, judged_so}
+use Rattle.traces.specs.working.Passing.{trace_passed, last_place, header, passed_steps_of}
+use Rattle.traces.proofs.TracesPassed.{HasTrace, text_passed, steps-passed, steps-declined}
 use Rattle.traces.proofs.Contents.{commands-counted}
 use Rattle.meaning.proofs.Number.{first-length}
 use Rattle.windows.specs.Bursts.{occurs, counts_of}
 use Rattle.windows.specs.Questions.{fault_of, refusal_of}
-use Rattle.windows.specs.working.Sliding.{tally_of, fresh, leaving_of, is_one, next_of, slid_of}
-use Rattle.windows.specs.working.Surveying.{commands_at, stopped, going, begin_in, begin_after, begin_for, begin_of, answered_by}
-use Rattle.windows.specs.declared.record.Step.{Step}
+use Rattle.windows.specs.working.Sliding.{tally_of, fresh}
+use Rattle.windows.specs.working.Surveying.{commands_at, reason_for, tally_for, going, begin_in, begin_after, begin_for, begin_of}
 use Rattle.windows.specs.declared.record.Question.{Question}
 use Rattle.windows.specs.declared.record.Question.TheVariants as Q
-use Rattle.windows.specs.declared.record.Answer.{Answer}
-use Rattle.windows.specs.declared.record.Answer.TheVariants as A
+use Rattle.windows.specs.declared.record.Unanswered.{Unanswered}
+use Rattle.windows.specs.declared.record.Unanswered.TheVariants as U
 use Rattle.windows.specs.declared.record.Tally.{Tally}
 use Rattle.windows.specs.declared.record.Begun.{Begun}
-use Rattle.windows.specs.declared.record.Reply.{Reply}
 use Rattle.windows.proofs.Tallies.{fresh-is}
 
--- The first refusal of a question.
-module _ (q : Question) (commands places steps : ℕ) where
-  pub few-places : places < steps → 8 ≡ refusal_of q commands places steps
-  unfolding refusal_of
-  few-places h = rw (lt-ltb _ _ h) refl
+-- Which reason a number tells.
+some_reason : (t : Bool) (x r : Reason) → ◌≡◌ {A = Option Reason} (Some r) (cond t None (Some x)) → (t ≡ false) × (r ≡ x)
+some_reason true x r e = cc
+some_reason false x r e = (refl, cc)
 
-  pub enough-places : steps ≤ places → (r : ℕ) → r ≡ fault_of q commands → r ≡ refusal_of q commands places steps
-  unfolding refusal_of
-  enough-places h r e = rw (le-ltb _ _ h) e
+no_reason : (t : Bool) (x : Reason) → ◌≡◌ {A = Option Reason} None (cond t None (Some x)) → t ≡ true
+no_reason true x e = refl
+no_reason false x e = cc
 
--- A part of what is made is what it should be.
-pub begun_as : (a : Answer) (n : ℕ) (l : List ℕ) (t u : Tally) → t ≡ u → ◌≡◌ {A = Begun} (record { answer = a; steps = n; counts = l; from = t }) (record { answer = a; steps = n; counts = l; from = u })
-begun_as a n l t u e = ap (λ (v : Tally). record { answer = a; steps = n; counts = l; from = v }) e
+-- A question's refusal has the number of a reason.
+abbrev Told : ℕ → Type 0
+Told n = (n ≡ 0 → ⊥) → number_of (reason_of n) ≡ n
 
-pub reply_as : (a b : Answer) (l : List ℕ) → a ≡ b → ◌≡◌ {A = Reply} (record { answer = a; counts = l }) (record { answer = b; counts = l })
-reply_as a b l e = ap (λ (x : Answer). record { answer = x; counts = l }) e
+chosen_told : (t : Bool) (x y : ℕ) → Told x → Told y → Told (cond t x y)
+chosen_told true x y f g = f
+chosen_told false x y f g = g
 
-pub step_as : (k w n m : ℕ) → n ≡ m → ◌≡◌ {A = Step} (record { command = k; word = w; after = n }) (record { command = k; word = w; after = m })
-step_as k w n m e = ap (λ (x : ℕ). record { command = k; word = w; after = x }) e
+told_none : Told 0
+told_none h = absurd (h refl)
 
--- A question that is this one, and an answer that is this one.
-pub goes_so : (q known : Question) → q ≡ known → (n : ℕ) (l : List ℕ) (r : Begun) → r ≡ going known n l → r ≡ going q n l
-goes_so q known e n l r f = f ∙ ap (λ (x : Question). going x n l) (sym e)
+told_8 : Told 8
+unfolding number_of reason_of
+told_8 h = refl
 
-pub answered_so : (a known : Answer) → a ≡ known → (t : Tally) (r : Answer) → r ≡ answered_by known t → r ≡ answered_by a t
-answered_so a known e t r f = f ∙ ap (λ (x : Answer). answered_by x t) (sym e)
+told_10 : Told 10
+unfolding number_of reason_of
+told_10 h = refl
 
--- Which step leaves, and whether one is counted.
-pub not_yet : (w i : ℕ) → i < w → i ≡ leaving_of w i
-unfolding leaving_of
-not_yet w i h = rw (lt-ltb _ _ h) refl
+told_16 : Told 16
+unfolding number_of reason_of
+told_16 h = refl
 
-pub from_now : (w i : ℕ) → w ≤ i → i - w ≡ leaving_of w i
-unfolding leaving_of
-from_now w i h = rw (le-ltb _ _ h) refl
+fault_told : (q : Question) (commands : ℕ) → Told (fault_of q commands)
+unfolding fault_of
+fault_told Q.Steps commands = told_none
+fault_told (Q.Counts room) commands = search (chosen_told, told_none, told_8)
+fault_told (Q.Burst k w) commands = search (chosen_told, told_none, told_10, told_16)
 
-pub is_it : (k x : ℕ) → x ≡ k → 1 ≡ is_one k x
-unfolding is_one
-is_it k x e = rw (eq-eqb _ _ e) refl
+pub refusal_told : (q : Question) (commands places steps n : ℕ) → refusal_of q commands places steps ≡ n → 1 ≤ n → number_of (reason_of n) ≡ n
+unfolding refusal_of
+refusal_told q commands places steps n e h =
+    let f : Told (refusal_of q commands places steps) = chosen_told (ltb places steps) 8 _ told_8 (fault_told q commands) in
+    subst Told e f (λ z. omega (arith, h, z))
 
-pub is-other : (k x : ℕ) → (x ≡ k → ⊥) → 0 ≡ is_one k x
-unfolding is_one
-is-other k x e = rw (ne_eqb _ _ e) refl
-
--- A step enters: the code has the two commands as machine numbers of their own.
-module _ (t : Tally) (x y : ℕ) (k : ℕ) (same : k ≡ x) (one : ℕ) (is : one ≡ is_one t.command k) where
-  abbrev grown : ℕ
-  grown = t.here + is_one t.command x
-
-  as_one : t.here + one ≡ grown
-  as_one = ap (λ (n : ℕ). t.here + n) (is ∙ ap (is_one t.command) same)
-
-  pub slides_filling : t.seen < t.width → (r : Tally) → r ≡ next_of t (t.here + one) (t.here + one) 1 → r ≡ slid_of t x y
-  unfolding slid_of
-  slides_filling h r e =
-      e ∙ ap (λ (n : ℕ). next_of t n n 1) as_one ∙ rw (lt-ltb _ _ h) refl
-
-  module _ (full : t.width ≤ t.seen) (j : ℕ) (same' : j ≡ y) (other : ℕ) (is' : other ≡ is_one t.command j) (here : ℕ) (left : here ≡ t.here + one - other) where
-    as_here : here ≡ grown - is_one t.command y
-    as_here = left ∙ ap (λ (n : ℕ). n - other) as_one ∙ ap (λ (n : ℕ). grown - n) (is' ∙ ap (is_one t.command) same')
-
-    pub slides_more : t.most < here → (r : Tally) → r ≡ next_of t here here (t.seen - t.width + 2) → r ≡ slid_of t x y
-    unfolding slid_of
-    slides_more h r e =
-        let f : t.most < grown - is_one t.command y = subst (λ (n : ℕ). t.most < n) as_here h in
-        e ∙ ap (λ (n : ℕ). next_of t n n (t.seen - t.width + 2)) as_here ∙ rw (le-ltb _ _ full, lt-ltb _ _ f) refl
-
-    pub slides_on : here ≤ t.most → (r : Tally) → r ≡ next_of t here t.most t.place → r ≡ slid_of t x y
-    unfolding slid_of
-    slides_on h r e =
-        let f : grown - is_one t.command y ≤ t.most = subst (λ (n : ℕ). n ≤ t.most) as_here h in
-        e ∙ ap (λ (n : ℕ). next_of t n t.most t.place) as_here ∙ rw (le-ltb _ _ full, le-ltb _ _ f) refl
-
--- What comes of a question: the outcome of the test comes first, and then what the sheet's header and its steps tell.
-begin-told_in : (q : Question) (b : List ℕ) (places : ℕ) (x : N.Outcome) → trace_passed (test_in x b) ≡ false → begin_for x q b places ≡ stopped (A.Told (test_in x b))
+-- What comes of a question: what the test answers comes first, and then what the sheet's header and its steps tell.
+begin-told_in : (q : Question) (b : List ℕ) (places : ℕ) (x : N.Outcome) → trace_passed (test_in x b) ≡ false
+    → begin_for x q b places ≡ Err (U.Declined (declined (test_in x b)))
 unfolding begin_for begin_after test_in
 begin-told_in q b places (N.read x) e = rw e refl
 begin-told_in q b places (N.refused n i) e = refl
@@ -118,8 +92,13 @@ begin_passed_in q b places (N.read x) e =
     rw e (ap (λ (n : ℕ). begin_in header q n b places) (sym (commands-counted (model_of x) b e)))
 begin_passed_in q b places (N.refused n i) e = absurd (true≢false (sym e))
 
+-- What a question begins with, where it is refused and where it is not.
+begun_by : (t : Bool) (x y : Begun) (e : Unanswered) → ◌≡◌ {A = Result Begun Unanswered} (Ok x) (cond t (Ok y) (Err e)) → (t ≡ true) × (x ≡ y)
+begun_by true x y e f = (refl, cc)
+begun_by false x y e f = cc
+
 module _ (q : Question) (text b : List ℕ) (places : ℕ) where
-  pub begin-told : trace_passed (test_of text b) ≡ false → begin_of q text b places ≡ stopped (A.Told (test_of text b))
+  pub begin-told : trace_passed (test_of text b) ≡ false → begin_of q text b places ≡ Err (U.Declined (declined (test_of text b)))
   unfolding begin_of test_of
   begin-told e = begin-told_in q b places (answer text) e
 
@@ -127,27 +106,65 @@ module _ (q : Question) (text b : List ℕ) (places : ℕ) where
   unfolding begin_of test_of
   begin_passed e = begin_passed_in q b places (answer text) e
 
-  -- The outcome as the code has it.
-  module _ (o : Outcome) (tested : o ≡ test_of text b) (x : Bool) (judged : x ≡ trace_passed o) where
-    pub tells : x ≡ false → (r : Begun) → r ≡ stopped (A.Told o) → r ≡ begin_of q text b places
-    tells e r f = f ∙ ap (λ (u : Outcome). stopped (A.Told u)) tested ∙ sym (begin-told (judged_so text b o tested x judged false e))
+  -- As the code has it: what is told in place of the number of steps.
+  pub begin_declined : (told : Declined) → Err told ≡ passed_steps_of text b → begin_of q text b places ≡ Err (U.Declined told)
+  begin_declined told is =
+      let t = steps-declined text b told is in
+      begin-told t.0 ∙ ap (λ (x : Declined). Err (U.Declined x)) (sym t.1)
 
-    module _ (passed : x ≡ true) (steps : ℕ) (counted : steps ≡ last_place header b) (commands : ℕ) (known : commands ≡ get_or b 8 0)
-        (number : ℕ) (judged' : number ≡ refusal_of q commands places steps) where
-      first-refusal : number ≡ refusal_of q (get_or b 8 0) places (last_place header b)
-      first-refusal = judged' ∙ ap (λ (n : ℕ). refusal_of q n places steps) known ∙ ap (refusal_of q (get_or b 8 0) places) counted
+  -- And that number, with that of the commands.
+  module _ (steps : ℕ) (is : Ok steps ≡ passed_steps_of text b) (commands : ℕ) (known : commands ≡ get_or b 8 0) where
+    abbrev first : ℕ
+    first = refusal_of q (get_or b 8 0) places (last_place header b)
 
-      pub refuses : (number ≡ 0 → ⊥) → (r : Begun) → r ≡ stopped (A.Refused number) → r ≡ begin_of q text b places
-      unfolding begin_in
-      refuses h r f =
-          let e : eqb (refusal_of q (get_or b 8 0) places (last_place header b)) 0 ≡ false = ne_eqb _ _ (λ z. h (first-refusal ∙ z)) in
-          f ∙ ap (λ (n : ℕ). stopped (A.Refused n)) first-refusal ∙ sym (begin_passed (judged_so text b o tested x judged true passed) ∙ rw e refl)
+    first-refusal : refusal_of q commands places steps ≡ first
+    first-refusal =
+        ap (λ (n : ℕ). refusal_of q n places steps) known ∙ ap (refusal_of q (get_or b 8 0) places) (steps-passed text b steps is).1
 
-      pub goes_on_lem : number ≡ 0 → (l : List ℕ) → l ≡ counts_of (commands_at header b steps) → (r : Begun) → r ≡ going q steps l → r ≡ begin_of q text b places
-      unfolding begin_in
-      goes_on_lem h l c r f =
-          let e : eqb (refusal_of q (get_or b 8 0) places (last_place header b)) 0 ≡ true = eq-eqb _ _ (sym first-refusal ∙ h) in
-          f ∙ ap (going q steps) c ∙ ap (λ (n : ℕ). going q n (counts_of (commands_at header b n))) counted ∙ sym (begin_passed (judged_so text b o tested x judged true passed) ∙ rw e refl)
+    pub begin_refused : (r : Reason) → Some r ≡ reason_for (refusal_of q commands places steps) → begin_of q text b places ≡ Err (U.Refused r)
+    unfolding begin_in reason_for
+    begin_refused r e =
+        let t = some_reason (eqb first 0) (reason_of first) r (e ∙ ap reason_for first-refusal) in
+        begin_passed (steps-passed text b steps is).0 ∙ rw (t.0, t.1) refl
+
+    pub begin_goes : None ≡ reason_for (refusal_of q commands places steps) → (l : List ℕ) → l ≡ counts_of (commands_at header b steps) → (t : Tally) → t ≡ tally_for q
+        → begin_of q text b places ≡ Ok (record { steps = steps; counts = l; from = t })
+    unfolding begin_in reason_for
+    begin_goes e l c t f =
+        let n = steps-passed text b steps is in
+        let none : eqb first 0 ≡ true = no_reason (eqb first 0) (reason_of first) (e ∙ ap reason_for first-refusal) in
+        let there : Begun = going q (last_place header b) (counts_of (commands_at header b (last_place header b))) in
+        let same : there ≡ record { steps = steps; counts = l; from = t } = cc (n.1, c, f) in
+        begin_passed n.0 ∙ rw none (ap Ok same)
+
+  -- What is told in its place is what the test answers, where that is no trace that passes.
+  declined_by : (t : Bool) (y : Begun) (r : Reason) (d : Declined) → ◌≡◌ {A = Result Begun Unanswered} (Err (U.Declined d)) (cond t (Ok y) (Err (U.Refused r))) → ⊥
+  declined_by true y r d e = cc
+  declined_by false y r d e = cc
+
+  never-declined : (d : Declined) → Err (U.Declined d) ≡ begin_in header q (get_or b 8 0) b places → ⊥
+  unfolding begin_in
+  never-declined d e = declined_by (eqb (refusal_of q (get_or b 8 0) places (last_place header b)) 0) _ _ d e
+
+  pub declined_so : (d : Declined) → Err (U.Declined d) ≡ begin_of q text b places → d ≡ declined (test_of text b)
+  declined_so d e = by_outcome (trace_passed (test_of text b)) refl
+    where
+      by_outcome : (t : Bool) → trace_passed (test_of text b) ≡ t → d ≡ declined (test_of text b)
+      by_outcome true f = absurd (never-declined d (e ∙ begin_passed f))
+      by_outcome false f = let z = begin-told f in cc
+
+  -- What is known of what it begins with.
+  module _ (begun : Begun) (began : Ok begun ≡ begin_of q text b places) where
+    begun-passed : (t : Bool) → trace_passed (test_of text b) ≡ t → trace_passed (test_of text b) ≡ true
+    begun-passed true e = e
+    begun-passed false e = let z = begin-told e in cc
+
+    pub is-passed : trace_passed (test_of text b) ≡ true
+    is-passed = begun-passed (trace_passed (test_of text b)) refl
+
+    pub begun_so : (eqb (refusal_of q (get_or b 8 0) places (last_place header b)) 0 ≡ true) × (begun ≡ going q (last_place header b) (counts_of (commands_at header b (last_place header b))))
+    unfolding begin_in
+    begun_so = begun_by (eqb (refusal_of q (get_or b 8 0) places (last_place header b)) 0) begun _ _ (began ∙ begin_passed is-passed)
 
 -- What is known where steps are counted: the list has a place for each, the sheet has them all, and nothing is seen yet.
 pub record Counting (b : List ℕ) (places : ℕ) (begun : Begun) : Type 0 where
@@ -156,10 +173,6 @@ pub record Counting (b : List ℕ) (places : ℕ) (begun : Begun) : Type 0 where
   pub there : 10 * begun.steps ≤ length b - 17
   pub width : 1 ≤ begun.from.width
   pub unseen : begun.from ≡ tally_of begun.from.command begun.from.width []
-
-counting_stopped : (b : List ℕ) (places : ℕ) (a : Answer) → Counting b places (stopped a)
-unfolding fresh
-counting_stopped b places a = record { room = omega arith; few = omega arith; there = omega arith; width = omega arith; unseen = fresh-is 0 1 }
 
 -- A question that is not refused: there is room, and the width of a burst is at least 1.
 pub has_room : (q : Question) (commands places n : ℕ) (t : Bool) → ltb places n ≡ t → cond t 8 (fault_of q commands) ≡ 0 → (n ≤ places) × (fault_of q commands ≡ 0)
@@ -170,15 +183,18 @@ has_width : (k w commands : ℕ) → fault_of (Q.Burst k w) commands ≡ 0 → 1
 unfolding fault_of
 has_width k w commands e = grind (arith, nat_tests)
 
-module _ (b : List ℕ) (H : HasTrace b) (n : ℕ) (e : n ≡ last_place header b) (commands places : ℕ) where
+module _ (b : List ℕ) (H : HasTrace b) (commands places : ℕ) where
+  abbrev n : ℕ
+  n = last_place header b
+
   few-steps : n ≤ 6551
-  few-steps = omega (arith, e, H.room, H.short)
+  few-steps = omega (arith, H.room, H.short)
 
   all_there : 10 * n ≤ length b - 17
-  all_there = omega (arith, e, H.room)
+  all_there = omega (arith, H.room)
 
   counting_going : (q : Question) → refusal_of q commands places n ≡ 0 → (l : List ℕ) → Counting b places (going q n l)
-  unfolding refusal_of fault_of going fresh
+  unfolding refusal_of fault_of tally_for fresh
   counting_going Q.Steps f l =
       record { room = (has_room Q.Steps commands places n (ltb places n) refl f).0; few = few-steps; there = all_there; width = omega arith; unseen = fresh-is 0 1 }
   counting_going (Q.Counts room) f l =
@@ -187,46 +203,15 @@ module _ (b : List ℕ) (H : HasTrace b) (n : ℕ) (e : n ≡ last_place header 
       let h = has_room (Q.Burst k w) commands places n (ltb places n) refl f in
       record { room = h.0; few = few-steps; there = all_there; width = has_width k w commands h.1; unseen = fresh-is k w }
 
-  counting_in : (q : Question) (l : List ℕ) (t : Bool) → eqb (refusal_of q commands places n) 0 ≡ t → Counting b places (cond t (going q n l) (stopped (A.Refused (refusal_of q commands places n))))
-  counting_in q l true f = counting_going q (eqb-true _ _ f) l
-  counting_in q l false f = counting_stopped b places (A.Refused (refusal_of q commands places n))
+-- What is known of what a question begins with, as the code has it; and there are sixteen counts.
+module _ (q : Question) (text b : List ℕ) (places : ℕ) (begun : Begun) (began : Ok begun ≡ begin_of q text b places) where
+  pub counting_as : Counting b places begun
+  counting_as =
+      let t = begun_so q text b places begun began in
+      subst (Counting b places) (sym t.1)
+      (counting_going b (text_passed text b (is-passed q text b places begun began)) (get_or b 8 0) places q (eqb-true _ _ t.0) (counts_of (commands_at header b (last_place header b))))
 
-counting_begin : (b : List ℕ) → HasTrace b → (q : Question) (commands places : ℕ) → Counting b places (begin_in header q commands b places)
-unfolding begin_in
-counting_begin b H q commands places = counting_in b H (last_place header b) refl commands places q _ _ refl
-
-pub counting_known : (q : Question) (text b : List ℕ) (places : ℕ) → Counting b places (begin_of q text b places)
-counting_known q text b places = by_outcome (trace_passed (test_of text b)) refl
-  where
-    passed : trace_passed (test_of text b) ≡ true → Counting b places (begin_in header q (get_or b 8 0) b places)
-    passed e = counting_begin b (text_passed text b e) q (get_or b 8 0) places
-
-    by_outcome : (t : Bool) → trace_passed (test_of text b) ≡ t → Counting b places (begin_of q text b places)
-    by_outcome true e = subst (Counting b places) (sym (begin_passed q text b places e)) (passed e)
-    by_outcome false e = subst (Counting b places) (sym (begin-told q text b places e)) (counting_stopped b places (A.Told (test_of text b)))
-
--- What comes of it, as the code has it.
-pub counting_as : (q : Question) (text b : List ℕ) (places : ℕ) (begun : Begun) → begun ≡ begin_of q text b places → Counting b places begun
-counting_as q text b places begun e = subst (Counting b places) (sym e) (counting_known q text b places)
-
--- Whatever comes of a question, there are sixteen counts.
-long_in : (q : Question) (n r : ℕ) (l : List ℕ) → length l ≡ 16 → (t : Bool) → length (cond t (going q n l) (stopped (A.Refused r))).counts ≡ 16
-unfolding going
-long_in Q.Steps n r l e true = e
-long_in (Q.Counts room) n r l e true = e
-long_in (Q.Burst k w) n r l e true = e
-long_in q n r l e false = refl
-
-long-begin : (q : Question) (commands : ℕ) (b : List ℕ) (places : ℕ) → length (begin_in header q commands b places).counts ≡ 16
-unfolding begin_in counts_of
-long-begin q commands b places =
-    let n = last_place header b in
-    let r = refusal_of q commands places n in
-    long_in q n r (counts_of (commands_at header b n)) (first-length 16 (λ k. occurs k (commands_at header b n))) (eqb r 0)
-
-pub counts-long : (q : Question) (text b : List ℕ) (places : ℕ) → length (begin_of q text b places).counts ≡ 16
-counts-long q text b places = by_outcome (trace_passed (test_of text b)) refl
-  where
-    by_outcome : (t : Bool) → trace_passed (test_of text b) ≡ t → length (begin_of q text b places).counts ≡ 16
-    by_outcome true e = ap (λ (x : Begun). length x.counts) (begin_passed q text b places e) ∙ long-begin q (get_or b 8 0) b places
-    by_outcome false e = ap (λ (x : Begun). length x.counts) (begin-told q text b places e)
+  pub counts-long : length begun.counts ≡ 16
+  unfolding counts_of
+  counts-long =
+      ap (λ (x : Begun). length x.counts) (begun_so q text b places begun began).1 ∙ first-length 16 (λ k. occurs k (commands_at header b (last_place header b)))

@@ -61,12 +61,11 @@ unfolding counts_of occurs
 none_counted = refl
 
 module _ (h : ℕ) (b counts : List ℕ) (i : ℕ) (counted : counts ≡ counts_of (commands_at h b i)) where
-  pub count_small : i < 65535 → (k : ℕ) → (length counts ≡ 16) × (get_or counts k 0 < 65535)
-  unfolding counts_of
-  count_small l k =
+  pub count_few : i < 65535 → (k : ℕ) → get_or counts k 0 < 65535
+  count_few l k =
       let e : get_or counts k 0 ≤ length (commands_at h b i) = subst (λ (x : List ℕ). get_or x k 0 ≤ length (commands_at h b i)) (sym counted) (count_le (commands_at h b i) k) in
       let f : length (commands_at h b i) ≡ i = first-length i (λ j. (step_at h b j).command) in
-      (ap length counted ∙ first-length 16 (λ j. occurs j (commands_at h b i)), omega (arith, e, f, l))
+      omega (arith, e, f, l)
 
   pub count_next : (s : Step) → s ≡ step_at h b i → (k : ℕ) → k ≡ s.command → (counts' : List ℕ) → counts' ≡ counted_of counts k → counts' ≡ counts_of (commands_at h b (i + 1))
   count_next s e k f counts' g =

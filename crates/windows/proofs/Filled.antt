@@ -4,8 +4,9 @@ use mathlib.Core.Path.{◌≡◌, refl, sym, ap, ◌∙◌, subst}
 use mathlib.Core.List.{List, [], ◌∷◌, ◌++◌}
 use Prim.Native.Nat.{ℕ, zero, suc, ◌+◌, ◌≤◌, ◌<◌}
 use native.Mathlib.Omega.{arith}
-use lib.ListN.{length, set, take, length-set}
+use lib.ListN.{length, set, take, drop, length-set}
 use lib.Seq.{sets, take-suc-set}
+use Rattle.std.proofs.lemmas.List.{length-take-le, take_all, take-append-drop, drop-set-lt}
 use Rattle.meaning.specs.Bits.{first}
 use Rattle.meaning.proofs.Number.{first-length}
 use Rattle.windows.specs.working.Surveying.{filled}
@@ -55,3 +56,27 @@ filled-front f l (suc n) h =
     take-suc-set (filled f l n) n (f n) below
     ∙ ap (λ (r : List Step). r ++ f n ∷ []) (filled-front f l n (omega (arith, h)))
     ∙ sym (first_snoc n f)
+
+-- What stands behind stays.
+filled-behind : (f : ℕ → Step) (l : List Step) (n i : ℕ) → i ≤ n → drop n (filled f l i) ≡ drop n l
+unfolding filled
+filled-behind f l n zero h = refl
+filled-behind f l n (suc i) h =
+    drop-set-lt n (filled f l i) i (f i) (omega (arith, h)) ∙ filled-behind f l n i (omega (arith, h))
+
+-- A part from the front on that is filled: it is the front of the list that is filled as far, and the rest of the list follows it.
+module _ (f : ℕ → Step) (l : List Step) (n : ℕ) (room : n ≤ length l) (part : List Step) (full : part ≡ filled f (take n l) (length (take n l))) where
+  part-first : part ≡ first n f
+  part-first =
+      let e : length (take n l) ≡ n = length-take-le n l room in
+      let at_end : take n (filled f (take n l) n) ≡ filled f (take n l) n = take_all n (filled f (take n l) n) (omega (arith, length-filled f (take n l) n, e)) in
+      full ∙ ap (filled f (take n l)) e ∙ sym at_end ∙ filled-front f (take n l) n (omega (arith, e))
+
+  pub part-front : part ≡ take n (filled f l n)
+  part-front = part-first ∙ sym (filled-front f l n room)
+
+  pub part-rest : part ++ drop n l ≡ filled f l n
+  part-rest =
+      ap (λ (r : List Step). r ++ drop n l) part-front
+      ∙ ap (λ (r : List Step). take n (filled f l n) ++ r) (sym (filled-behind f l n n (omega arith)))
+      ∙ take-append-drop n (filled f l n)

@@ -14,7 +14,10 @@ use Rattle.notation.specs.working.Machine as N
 use Rattle.notation.proofs.Texts.{answers_recased}
 use Rattle.meaning.specs.Bits.{first}
 use Rattle.meaning.specs.OneRow.{TraceStep}
+use Rattle.std.specs.Prelude.{Result, Ok, Err}
+use Rattle.refusals.specs.Reasons.{reason_of}
 use Rattle.conditions.specs.Outcomes as O
+use Rattle.conditions.proofs.Declining.{wording_declined}
 use Rattle.acceptance.specs.Promises.{answer_to}
 use Rattle.acceptance.specs.working.Test.{test_of}
 use Rattle.acceptance.proofs.Claims as C
@@ -26,13 +29,14 @@ use Rattle.windows.specs.Questions.{record_of, with_steps, refusal_of, Wording, 
 use Rattle.windows.specs.Questions as W
 use Rattle.windows.specs.Promises.{answer_of, counts_after, list_after, OnTrace, SurveysTell, RefusalTells, SurveyedWithoutCase}
 use Rattle.windows.specs.working.Sliding.{commands_in, tally_of, fresh}
-use Rattle.windows.specs.working.Surveying.{step_at, commands_at, filled, stopped, going, begin_in, begin_for, begin_of, answered_by, Survey, survey_in, header_of, survey_of}
+use Rattle.windows.specs.working.Surveying.{step_at, commands_at, filled, tally_for, going, begin_in, begin_for, begin_of, answered_by, Survey, survey_in, header_of, survey_of}
 use Rattle.windows.specs.declared.record.Step.{Step}
 use Rattle.windows.specs.declared.record.Question.{Question}
 use Rattle.windows.specs.declared.record.Question.TheVariants as Q
-use Rattle.windows.specs.declared.record.Answer.TheVariants as A
+use Rattle.windows.specs.declared.record.Unanswered.{Unanswered}
+use Rattle.windows.specs.declared.record.Unanswered.TheVariants as U
 use Rattle.windows.specs.declared.record.Begun.{Begun}
-use Rattle.windows.proofs.AskLaws.{has_room, begin-told, begin_passed}
+use Rattle.windows.proofs.AskLaws.{has_room, refusal_told, begin-told, begin_passed}
 use Rattle.windows.proofs.Filled.{filled-sets, filled-front}
 use Rattle.windows.proofs.StepRecords.{commands-kept, steps_records, steps-commands}
 use Rattle.windows.proofs.SurveyLaws.{survey_by}
@@ -67,15 +71,16 @@ module _ {b : List ℕ} {s : ℕ} {xs : List TraceStep} (C : Contents b s xs) (l
   counted = ap counts_of commands
 
   -- A question that is not refused, whichever it is.
-  goes : (q : Question) → Tells (survey_in header (going q n (counts_of (commands_at header b n))) b list) (answer_for q (commands_of xs)) (counts_of (commands_of xs)) (with_steps list xs)
-  unfolding going fresh tally_of wording_of answered_by answer_for
+  goes : (q : Question) → Tells (survey_in header q (Ok (going q n (counts_of (commands_at header b n)))) b list) (answer_for q (commands_of xs)) (counts_of (commands_of xs)) (with_steps list xs)
+  unfolding survey_in tally_for fresh tally_of wording_of answered_by answer_for
   goes Q.Steps = record { answer-is = ap steps as_many; counts_are = counted; list-is = list-filled }
   goes (Q.Counts places) = record { answer-is = ap steps as_many; counts_are = counted; list-is = list-filled }
   goes (Q.Burst k w) = record { answer-is = ap (λ (ys : List ℕ). W.burst (burst k w ys).most (burst k w ys).place) seen; counts_are = counted; list-is = list-filled }
 
 -- The whole survey tells answer, counts and list.
-all_told : (q : Question) (text b : List ℕ) (list : List Step) (begun : Begun) → begin_of q text b (length list) ≡ begun → survey_of q text b list ≡ survey_in header begun b list
-all_told q text b list begun e = sym (survey_by q text b list) ∙ ap (λ (x : Begun). survey_in header x b list) e
+all_told : (q : Question) (text b : List ℕ) (list : List Step) (begun : Result Begun Unanswered) → begin_of q text b (length list) ≡ begun
+    → survey_of q text b list ≡ survey_in header q begun b list
+all_told q text b list begun e = sym (survey_by q text b list) ∙ ap (λ (x : Result Begun Unanswered). survey_in header q x b list) e
 
 -- A question on a trace that passes.
 module _ (text b : List ℕ) (passed : trace_passed (test_of text b) ≡ true) {s : ℕ} {xs : List TraceStep} (C : Contents b s xs) (m : Model) (counts : get_or b 8 0 ≡ length m.commands)
@@ -86,13 +91,13 @@ module _ (text b : List ℕ) (passed : trace_passed (test_of text b) ≡ true) {
 
   told-refused : (n : ℕ) → refusal_of q (length m.commands) (length list) (length xs) ≡ n → 1 ≤ n
       → (answer_of q text b list ≡ W.refused n) × (list_after q text b list ≡ list)
-  unfolding begin_in wording_of answered_by filled
+  unfolding begin_in survey_in wording_of
   told-refused n e h =
       let r : refusal_of q (get_or b 8 0) (length list) (last_place header b) ≡ n = same-refusal ∙ e in
       let test : eqb (refusal_of q (get_or b 8 0) (length list) (last_place header b)) 0 ≡ false = ne_eqb _ _ (λ z. let f : n ≡ 0 = sym r ∙ z in omega (arith, h, f)) in
-      let begun : begin_of q text b (length list) ≡ stopped (A.Refused n) = begin_passed q text b (length list) passed ∙ rw test (ap (λ (k : ℕ). stopped (A.Refused k)) r) in
-      let t = all_told q text b list (stopped (A.Refused n)) begun in
-      (ap (λ (u : Survey). wording_of u.reply.answer) t, ap (λ (u : Survey). u.list) t)
+      let begun : begin_of q text b (length list) ≡ Err (U.Refused (reason_of n)) = begin_passed q text b (length list) passed ∙ rw test (ap (λ (k : ℕ). Err (U.Refused (reason_of k))) r) in
+      let t = all_told q text b list (Err (U.Refused (reason_of n))) begun in
+      (ap (λ (u : Survey). wording_of u.reply.answer) t ∙ ap W.refused (refusal_told q (length m.commands) (length list) (length xs) n e h), ap (λ (u : Survey). u.list) t)
 
   told-answered : refusal_of q (length m.commands) (length list) (length xs) ≡ 0
       → (answer_of q text b list ≡ answer_for q (commands_of xs)) × (counts_after q text b list ≡ counts_of (commands_of xs)) × (list_after q text b list ≡ with_steps list xs)
@@ -102,8 +107,8 @@ module _ (text b : List ℕ) (passed : trace_passed (test_of text b) ≡ true) {
       let test : eqb (refusal_of q (get_or b 8 0) (length list) (last_place header b)) 0 ≡ true = eq-eqb _ _ r in
       let room : last_place header b ≤ length list = (has_room q (get_or b 8 0) (length list) (last_place header b) (ltb (length list) (last_place header b)) refl r).0 in
       let start : Begun = going q (last_place header b) (counts_of (commands_at header b (last_place header b))) in
-      let begun : begin_of q text b (length list) ≡ start = begin_passed q text b (length list) passed ∙ rw test refl in
-      let t = all_told q text b list start begun in
+      let begun : begin_of q text b (length list) ≡ Ok start = begin_passed q text b (length list) passed ∙ rw test refl in
+      let t = all_told q text b list (Ok start) begun in
       let T = goes C list room q in
       (ap (λ (u : Survey). wording_of u.reply.answer) t ∙ T.answer-is, ap (λ (u : Survey). u.reply.counts) t ∙ T.counts_are, ap (λ (u : Survey). u.list) t ∙ T.list-is)
 
@@ -113,10 +118,10 @@ module _ (text b : List ℕ) (passed : trace_passed (test_of text b) ≡ true) {
 -- Where no trace passes.
 no-trace : (text b : List ℕ) → trace_passed (test_of text b) ≡ false → (q : Question) (list : List Step)
     → (answer_of q text b list ≡ told (answer_to text b)) × (list_after q text b list ≡ list)
-unfolding wording_of answered_by filled
+unfolding survey_in wording_of
 no-trace text b e q list =
-    let t = all_told q text b list (stopped (A.Told (test_of text b))) (begin-told q text b (length list) e) in
-    (ap (λ (u : Survey). wording_of u.reply.answer) t, ap (λ (u : Survey). u.list) t)
+    let t = all_told q text b list _ (begin-told q text b (length list) e) in
+    (ap (λ (u : Survey). wording_of u.reply.answer) t ∙ ap told (wording_declined (test_of text b)), ap (λ (u : Survey). u.list) t)
 
 pub surveys_tell : SurveysTell
 surveys_tell text m says b hb q list =
@@ -139,4 +144,4 @@ refusal-tells text n i r b q list =
 
 pub surveyed_without_case : SurveyedWithoutCase
 unfolding survey_of begin_of
-surveyed_without_case text other r b q list = ap (λ (x : N.Outcome). survey_in (header_of x) (begin_for x q b (length list)) b list) (answers_recased r)
+surveyed_without_case text other r b q list = ap (λ (x : N.Outcome). survey_in (header_of x) q (begin_for x q b (length list)) b list) (answers_recased r)

@@ -9,6 +9,7 @@ use lib.Dec.{ltb}
 use lib.ListN.{length, get_or, take, length-append, length-map, get_or-map}
 use lib.Seq.{take-suc, length-take-le, get_or-take, take-nil, drop-nil}
 use borrow.Author.Tests.{lt-ltb, le-ltb, ltb-true, ltb-false}
+use Rattle.std.proofs.lemmas.List.{take_all}
 use Rattle.windows.specs.Bursts.{Burst, occurs, occurs_from, last_stretch, first_most, burst}
 use Rattle.windows.specs.working.Sliding.{commands_in, tally_of, fresh, leaving_of, is_one, slid_of}
 use Rattle.windows.specs.declared.record.Step.{Step}
@@ -151,9 +152,9 @@ leaving_le w i = by_test (ltb i w)
 unfoldable pub tallied : Tally → List Step → ℕ → Tally
 tallied from l j = tally_of from.command from.width (commands_in (take j l))
 
-pub tallied_is : (from : Tally) (l : List Step) (j : ℕ) → tallied from l j ≡ tally_of from.command from.width (commands_in (take j l))
+pub tallied_all : (from : Tally) (l : List Step) (j : ℕ) → length l ≤ j → tallied from l j ≡ tally_of from.command from.width (commands_in l)
 unfolding tallied
-tallied_is from l j = refl
+tallied_all from l j h = rw (take_all j l h) refl
 
 pub tallied_zero : (from : Tally) (l : List Step) → from ≡ tally_of from.command from.width [] → from ≡ tallied from l 0
 unfolding tallied

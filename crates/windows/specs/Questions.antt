@@ -1,8 +1,9 @@
 -- What may be asked of the steps of a trace, what is answered, and why a question is refused.
 -- Assumes nothing.
-use Rattle.std.specs.Prelude.{cond, List, map, ℕ, eqb, leb, ltb, length}
+use Rattle.std.specs.Prelude.{cond, List, map, ℕ, eqb, leb, ltb, length, Result, Ok, Err}
 use Rattle.std.proofs.lemmas.List.Edits.{sets}
 use Rattle.meaning.specs.OneRow.{TraceStep}
+use Rattle.refusals.specs.Reasons.{number_of}
 use Rattle.conditions.specs.Outcomes as T
 use Rattle.windows.specs.Bursts as B
 use Rattle.windows.specs.declared.record.Step.{Step}
@@ -10,6 +11,8 @@ use Rattle.windows.specs.declared.record.Question.{Question}
 use Rattle.windows.specs.declared.record.Question.TheVariants as Q
 use Rattle.windows.specs.declared.record.Answer.{Answer}
 use Rattle.windows.specs.declared.record.Answer.TheVariants as A
+use Rattle.windows.specs.declared.record.Unanswered.{Unanswered}
+use Rattle.windows.specs.declared.record.Unanswered.TheVariants as U
 
 -- A step of a trace as a record of the list.
 abbrev pub record_of : TraceStep → Step
@@ -39,11 +42,11 @@ pub data Wording : Type 0 where
   told : T.Wording → Wording
 
 -- What each answer stands for.
-unfoldable pub wording_of : Answer → Wording
-wording_of (A.Steps n) = steps n
-wording_of (A.Burst most place) = burst most place
-wording_of (A.Refused n) = refused n
-wording_of (A.Told o) = told (T.wording_of o)
+unfoldable pub wording_of : Result Answer Unanswered → Wording
+wording_of (Ok (A.Steps n)) = steps n
+wording_of (Ok (A.Burst most place)) = burst most place
+wording_of (Err (U.Refused r)) = refused (number_of r)
+wording_of (Err (U.Declined d)) = told (T.wording_of_declined d)
 
 -- The answer to a question that is not refused, for steps with these commands.
 unfoldable pub answer_for : Question → List ℕ → Wording

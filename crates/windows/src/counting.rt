@@ -6,12 +6,13 @@ use crate::record::{Step, Tally};
 use sheets::fields::wide;
 
 // A command and a width, and nothing seen yet.
+#[tactic(auto, unfolding(crate::specs::working::Sliding::fresh))]
 pub fn fresh_tally(command: usize, width: usize) -> Tally
     ensures { result ≡ fresh command width }
 {
     Tally {
-        command: command,
-        width: width,
+        command,
+        width,
         seen: 0,
         here: 0,
         most: 0,
@@ -20,34 +21,20 @@ pub fn fresh_tally(command: usize, width: usize) -> Tally
 }
 
 // Which step leaves the window as step i enters it; i itself while none has to.
+#[tactic(auto, unfolding(crate::specs::working::Sliding::leaving_of))]
 pub fn leaving(t: Tally, i: usize) -> usize
     ensures { result ≡ leaving_of t.width i }
 {
     let width = t.width;
-    if i < width {
-        return i;
-    }
-    i - width
+    if i < width { i } else { i - width }
 }
 
 // 1 for the command that is counted, 0 for another.
+#[tactic(auto, unfolding(crate::specs::working::Sliding::is_one))]
 fn is_one(command: usize, k: usize) -> usize
     ensures { (result ≡ is_one command k) × (result ≤ 1) }
 {
-    if k == command {
-        return 1;
-    }
-    0
-}
-
-// What is left of n; nothing where less is there.
-fn less(n: usize, by: usize) -> usize
-    ensures { result ≡ n - by }
-{
-    if n < by {
-        return 0;
-    }
-    n - by
+    usize::from(k == command)
 }
 
 // The tally after one more step.
@@ -56,30 +43,28 @@ fn next(t: Tally, here: usize, most: usize, place: usize) -> Tally
     ensures { result ≡ next_of t here most place }
 {
     Tally {
-        command: t.command,
-        width: t.width,
         seen: t.seen + 1,
-        here: here,
-        most: most,
-        place: place,
+        here,
+        most,
+        place,
+        ..t
     }
 }
 
 // A step enters the window. While it is not full it shows all steps from the first on; afterwards a step leaves it.
+#[tactic(auto, unfolding(crate::specs::working::Sliding::slid_of))]
 pub fn slide(t: Tally, entering: Step, left: Step) -> Tally
     requires { (t.seen < 65535) × (t.here < 65535) }
     ensures { result ≡ slid_of t entering.command left.command }
 {
-    let command = t.command;
     let seen = t.seen;
     let width = t.width;
     let most = t.most;
-    let k = wide(entering.command);
-    let grown = t.here + is_one(command, k);
+    let grown = t.here + is_one(t.command, wide(entering.command));
     if seen < width {
         return next(t, grown, grown, 1);
     }
-    let here = less(grown, is_one(command, wide(left.command)));
+    let here = grown.saturating_sub(is_one(t.command, wide(left.command)));
     if most < here {
         return next(t, here, here, seen - width + 2);
     }

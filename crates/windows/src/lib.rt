@@ -13,34 +13,31 @@ ghost use Rattle.traces.specs.working.Passing.{header};
 ghost use Rattle.windows.specs.working.Sliding.{commands_in, tally_of};
 ghost use Rattle.windows.specs.working.Surveying.{step_at, filled, survey_of};
 
-use asking::{begin, reply};
+use asking::{answered, begin};
 use commands::step_at;
 use counting::{leaving, slide};
 use record::{Question, Reply, Step, Tally};
 
-// The first n places of the list become the first n steps of the trace in a sheet.
-pub fn fill(list: &mut [Step], sheet: &[u8], n: usize)
-    requires { (n ≤ length list.old) × (n ≤ 6551) × (10 * n ≤ length sheet.now - 17) }
-    ensures { list.new ≡ filled (step_at header sheet.now) list.old n }
+// The list becomes as many first steps of the trace in a sheet.
+#[tactic(auto, using(crate::proofs::Filled::filled_none, crate::proofs::Filled::filled_next))]
+pub fn fill(list: &mut [Step], sheet: &[u8])
+    requires { (length list.old ≤ 6551) × (10 * length list.old ≤ length sheet.now - 17) }
+    ensures { list.new ≡ filled (step_at header sheet.now) list.old (length list.old) }
 {
-    let mut i = 0;
-    while i < n {
-        list[i] = step_at(sheet, i);
-        i = i + 1;
+    for (i, step) in list.iter_mut().enumerate() {
+        *step = step_at(sheet, i);
     }
 }
 
-// The first n steps of the list, counted from a tally on that has seen nothing: one pass, whatever the width is.
-pub fn count(list: &[Step], n: usize, from: Tally) -> Tally
-    requires { (n ≤ length list.now) × (n ≤ 6551) × (1 ≤ from.width) × (from ≡ tally_of from.command from.width []) }
-    ensures { result ≡ tally_of from.command from.width (commands_in (take n list.now)) }
+// Steps counted from a tally on that has seen nothing: one pass, whatever the width is.
+#[tactic(auto, using(crate::proofs::Tallies::leaving_le, crate::proofs::Tallies::tallied_zero, crate::proofs::Tallies::tallied_small, crate::proofs::Tallies::tallied_next, crate::proofs::Tallies::tallied_all))]
+pub fn count(steps: &[Step], from: Tally) -> Tally
+    requires { (length steps.now ≤ 6551) × (1 ≤ from.width) × (from ≡ tally_of from.command from.width []) }
+    ensures { result ≡ tally_of from.command from.width (commands_in steps.now) }
 {
     let mut t = from;
-    let mut i = 0;
-    while i < n {
-        let k = leaving(from, i);
-        t = slide(t, list[i], list[k]);
-        i = i + 1;
+    for (i, step) in steps.iter().enumerate() {
+        t = slide(t, *step, steps[leaving(from, i)]);
     }
     t
 }
@@ -51,10 +48,20 @@ pub fn survey(list: &mut [Step], text: &[u8], sheet: &[u8], question: Question) 
         × (result ≡ (survey_of question text.now sheet.now list.old).reply)
         × AreBytes sheet.now }
 {
-    let begun = begin(text, sheet, list.len(), question);
-    let n = begun.steps;
-    let from = begun.from;
-    fill(list, sheet, n);
-    let tally = count(list, n, from);
-    reply(begun, tally)
+    match begin(text, sheet, list.len(), question) {
+        Ok(begun) => {
+            let steps = &mut list[..begun.steps];
+            fill(steps, sheet);
+            let tally = count(steps, begun.from);
+            let counts = begun.counts;
+            Reply {
+                answer: Ok(answered(question, begun.steps, tally)),
+                counts,
+            }
+        }
+        Err(unanswered) => Reply {
+            answer: Err(unanswered),
+            counts: [0; 16],
+        },
+    }
 }

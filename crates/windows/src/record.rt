@@ -1,5 +1,9 @@
 // A step of a trace as a lent list has it, what is asked of the list, and what is answered.
-use conditions::outcome::Outcome;
+ghost use Rattle.std.specs.Prelude.{◌≡◌};
+ghost use Rattle.windows.specs.declared.record.Unanswered.TheVariants as U;
+
+use conditions::outcome::Declined;
+use refusals::Reason;
 
 // One step: its command, its choice word and the state after it.
 #[repr(C)]
@@ -14,21 +18,33 @@ pub struct Step {
 pub type Counts = [u16; 16];
 
 // What is asked: the steps; how often each command occurs, for whoever has room for so many counts; or where a command occurs most in so many steps.
-#[derive(Clone, Copy)]
+#[derive(Clone, Copy, Debug, PartialEq, Eq)]
 pub enum Question {
     Steps,
     Counts(usize),
     Burst(usize, usize),
 }
 
-// What is answered: how many steps there are; the most times, and the first place where that is reached;
-// the number of a refusal; or what the test answers where the sheet is no trace that passes.
-#[derive(Clone, Copy)]
+// What is answered: how many steps there are; or the most times, and the first place where that is reached.
+#[derive(Clone, Copy, Debug, PartialEq, Eq)]
 pub enum Answer {
     Steps(usize),
     Burst(usize, usize),
-    Refused(usize),
-    Told(Outcome),
+}
+
+// Why there is no answer: what is told where the sheet is no trace that passes; or the reason for which the question is refused, whose place is always 0.
+#[derive(Clone, Copy, Debug, PartialEq, Eq)]
+pub enum Unanswered {
+    Declined(Declined),
+    Refused(Reason),
+}
+
+impl From<Declined> for Unanswered {
+    ghost from_gives = { λ declined unanswered. unanswered ≡ U.Declined declined };
+
+    fn from(declined: Declined) -> Unanswered {
+        Unanswered::Declined(declined)
+    }
 }
 
 // A command counted over the steps seen so far: in the last of them, which a window of this width shows, and the most in any window, with its first place.
@@ -42,11 +58,9 @@ pub struct Tally {
     pub place: usize,
 }
 
-// What comes of a question before the windows are counted: the answer as far as it is known, how many steps to put in the list, how often each command occurs in them,
-// and the tally to begin with.
+// What comes of a question before the windows are counted: how many steps to put in the list, how often each command occurs in them, and the tally to begin with.
 #[derive(Clone, Copy)]
 pub struct Begun {
-    pub answer: Answer,
     pub steps: usize,
     pub counts: Counts,
     pub from: Tally,
@@ -55,6 +69,6 @@ pub struct Begun {
 // The answer, and how often each command occurs in the steps that are put in the list.
 #[derive(Clone, Copy)]
 pub struct Reply {
-    pub answer: Answer,
+    pub answer: Result<Answer, Unanswered>,
     pub counts: Counts,
 }

@@ -7,6 +7,7 @@ use crate::record::{Question, Reply, Step};
 use crate::survey;
 
 // What is answered to a question.
+#[tactic(auto, unfolding(crate::specs::working::Surveying::blanks))]
 pub fn survey_of(text: &[u8], sheet: &[u8], question: Question) -> Reply
     ensures { (result ≡ (survey_of question text.now sheet.now blanks).reply)
         × AreBytes sheet.now }

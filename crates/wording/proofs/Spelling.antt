@@ -1,44 +1,34 @@
--- The line of each outcome, as the code puts it together.
+-- How long the line of an answer of the test is.
 -- Assumes nothing.
-use mathlib.Core.List.{List}
-use mathlib.Core.Path.{◌≡◌, refl, sym, ap, ◌∙◌}
-use Prim.Native.Nat.{ℕ, ◌≤◌}
+use Prim.Native.Nat.{◌≤◌}
 use native.Mathlib.Omega.{arith}
 use lib.ListN.{length}
-use lib.Seq.{sets}
-use Rattle.io.specs.Counts.{IsPrefixLen}
-use Rattle.conditions.specs.declared.outcome.Outcome.{Outcome}
-use Rattle.conditions.specs.declared.outcome.Outcome.TheVariants.{Refused}
-use Rattle.conditions.specs.Outcomes.{wording_of}
-use Rattle.lines.specs.Lines.{refusal_line}
-use Rattle.lines.specs.Puts.{Puts}
-use Rattle.lines.proofs.Stores.{front-counts}
+use Rattle.std.specs.Prelude.{Ok, Err}
+use Rattle.notation.specs.Bytes.{bytes}
+use Rattle.refusals.specs.Reasons.{number_of}
+use Rattle.conditions.specs.declared.outcome.Outcome.TheVariants.{SafeHolds, Void, TraceHolds, FailsA, FailsB, FailsC}
+use Rattle.conditions.specs.declared.outcome.Outcome.TheVariants.{FailsD, FailsE, FailsF}
+use Rattle.conditions.specs.declared.outcome.Declined.{Declined}
+use Rattle.conditions.specs.declared.outcome.Declined.TheVariants as D
+use Rattle.conditions.specs.Outcomes.{Tested, wording_of, wording_of_declined}
+use Rattle.lines.specs.Lines.{others, line}
 use Rattle.lines.proofs.Parts.{refusal-short}
-use Rattle.wording.specs.Lines.{spelt, line_of}
+use Rattle.wording.specs.Lines.{spelt, line_of, line_of_declined}
 
--- What was put is the line of the outcome that was matched.
-pub told :
-    (l x v : List ℕ) (r : ℕ) (o t : Outcome) →
-    Puts l 0 v x r →
-    o ≡ t →
-    v ≡ line_of t →
-    length v ≤ 64 →
-    64 ≤ length l →
-    ((x ≡ sets l 0 (line_of o)) × (r ≡ length (line_of o)) × (r ≤ 64)) × IsPrefixLen r x
-told l x v r o t P e f h k =
-    let w : v ≡ line_of o = f ∙ ap line_of (sym e) in
-    let z : r ≡ length v = omega (arith, P.ends) in
-    ((P.stored ∙ ap (sets l 0) w, z ∙ ap length w, omega arith), front-counts x l v r P.stored (omega arith))
+pub line-short : (t : Tested) → length (line_of t) ≤ 50
+unfolding spelt line others bytes wording_of
+line-short (Ok SafeHolds) = omega arith
+line-short (Ok Void) = omega arith
+line-short (Ok TraceHolds) = omega arith
+line-short (Ok FailsA) = omega arith
+line-short (Ok FailsB) = omega arith
+line-short (Ok FailsC) = omega arith
+line-short (Ok FailsD) = omega arith
+line-short (Ok FailsE) = omega arith
+line-short (Ok FailsF) = omega arith
+line-short (Err r) = refusal-short (number_of r.reason) r.place
 
-refused-line : (n p : ℕ) → refusal_line n p ≡ line_of (Refused n p)
-unfolding spelt wording_of
-refused-line n p = refl
-
-pub told-refusal :
-    (l x : List ℕ) (r : ℕ) (o : Outcome) (n p : ℕ) →
-    Puts l 0 (refusal_line n p) x r →
-    o ≡ Refused n p →
-    64 ≤ length l →
-    ((x ≡ sets l 0 (line_of o)) × (r ≡ length (line_of o)) × (r ≤ 64)) × IsPrefixLen r x
-told-refusal l x r o n p P e k =
-    told l x (refusal_line n p) r o (Refused n p) P e (refused-line n p) (omega (arith, refusal-short n p)) k
+pub declined-short : (d : Declined) → length (line_of_declined d) ≤ 50
+unfolding wording_of_declined
+declined-short (D.Refused r) = line-short (Err r)
+declined-short (D.Tested o) = line-short (Ok o)

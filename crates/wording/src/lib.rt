@@ -1,35 +1,56 @@
-// The line that an outcome is written as.
+// The line that the answer of the test is written as.
 #![tactic(auto)]
 
 ghost use Rattle.std.specs.Prelude.{◌≡◌, ◌≤◌, length};
 ghost use Rattle.std.proofs.lemmas.List.Edits.{sets};
 ghost use Rattle.io.specs.Counts.{IsPrefixLen};
-ghost use Rattle.wording.specs.Lines.{line_of};
+ghost use Rattle.lines.specs.Writers.{HasRoom, Writes};
+ghost use Rattle.wording.specs.Lines.{line_of, line_of_declined};
 
-use conditions::outcome::Outcome;
-use lines::{put, put_refusal};
+use conditions::outcome::{Declined, Outcome, Tested};
+use lines::Writer;
 
 // Room for every line: a refusal's number and place have at most 20 digits each.
 pub type Line = [u8; 64];
 
-// Puts the line of an outcome at the front; how long it is.
-pub fn put_line(line: &mut Line, outcome: Outcome) -> usize
-    ensures line_after { (line.new ≡ sets line.old 0 (line_of outcome)) × (result ≡ length (line_of outcome)) × (result ≤ 64) }
+// The line of an outcome or a refusal.
+#[tactic(auto, unfolding(crate::specs::Lines::spelt, lines::specs::Lines::line, lines::specs::Lines::others, notation::specs::Bytes::bytes, conditions::specs::Outcomes::wording_of))]
+pub fn put_tested(out: &mut Writer, tested: Tested)
+    requires { HasRoom out.old (line_of tested) }
+    ensures { Writes out.old (line_of tested) out.new }
+{
+    match tested {
+        Ok(Outcome::SafeHolds) => out.put(b"safe holds\n"),
+        Ok(Outcome::Void) => out.put(b"void\n"),
+        Ok(Outcome::TraceHolds) => out.put(b"trace holds\n"),
+        Ok(Outcome::FailsA) => out.put(b"A\n"),
+        Ok(Outcome::FailsB) => out.put(b"B\n"),
+        Ok(Outcome::FailsC) => out.put(b"C\n"),
+        Ok(Outcome::FailsD) => out.put(b"D\n"),
+        Ok(Outcome::FailsE) => out.put(b"E\n"),
+        Ok(Outcome::FailsF) => out.put(b"F\n"),
+        Err(refusal) => out.put_refusal(refusal),
+    }
+}
+
+// The line of what is told in place of an answer.
+#[tactic(auto, unfolding(conditions::specs::Outcomes::wording_of_declined))]
+pub fn put_declined(out: &mut Writer, declined: Declined)
+    requires { HasRoom out.old (line_of_declined declined) }
+    ensures { Writes out.old (line_of_declined declined) out.new }
+{
+    match declined {
+        Declined::Refused(refusal) => put_tested(out, Err(refusal)),
+        Declined::Tested(outcome) => put_tested(out, Ok(outcome)),
+    }
+}
+
+// Puts the line of an outcome or a refusal at the front; how long it is.
+pub fn put_line(line: &mut Line, tested: Tested) -> usize
+    ensures line_after { (line.new ≡ sets line.old 0 (line_of tested)) × (result ≡ length (line_of tested)) × (result ≤ 64) }
     ensures prefix_len { IsPrefixLen result line.new }
 {
-    match outcome {
-        Outcome::SafeHolds => put(line, 0, b"safe holds\n"),
-        Outcome::Void => put(line, 0, b"void\n"),
-        Outcome::TraceHolds => put(line, 0, b"trace holds\n"),
-        Outcome::FailsA => put(line, 0, b"A\n"),
-        Outcome::FailsB => put(line, 0, b"B\n"),
-        Outcome::FailsC => put(line, 0, b"C\n"),
-        Outcome::FailsD => put(line, 0, b"D\n"),
-        Outcome::FailsE => put(line, 0, b"E\n"),
-        Outcome::FailsF => put(line, 0, b"F\n"),
-        Outcome::Refused(number, place) => {
-            let n = number as usize;
-            put_refusal(line, 0, n, place)
-        }
-    }
+    let mut out = Writer::new(line);
+    put_tested(&mut out, tested);
+    out.len()
 }

@@ -8,20 +8,15 @@ use native.Mathlib.Omega.{arith}
 use lib.ListN.{length}
 use borrow.Author.Tests.{lt-ltb, le-ltb}
 use Rattle.notation.specs.Bytes.{bytes}
-use Rattle.conditions.specs.Outcomes as W
-use Rattle.conditions.specs.declared.outcome.Outcome.{Outcome}
-use Rattle.acceptance.specs.Promises as A
-use Rattle.packing.specs.Packed.{packed}
-use Rattle.packing.specs.Outcomes as T
-use Rattle.packing.proofs.OutcomesTold.{outcome_told, other-letter}
+use Rattle.conditions.specs.declared.outcome.Declined.{Declined}
+use Rattle.std.specs.Prelude.{Result, Ok, Err}
+use Rattle.packing.proofs.OutcomesTold.{declined_told, declined-letter}
 use Rattle.player.specs.Answers.{wording_of, opened, opening_for}
 use Rattle.player.specs.Promises.{opening_of, answer_of, record_after, Bounded, BoundedOpening}
 use Rattle.player.specs.declared.record.Player.{Player}
 use Rattle.player.specs.declared.record.Direction.{Direction}
 use Rattle.player.specs.declared.record.Answer.{Answer}
-use Rattle.player.specs.declared.record.Answer.TheVariants.{Moved, AtEnd, Foreign, Told}
-use Rattle.player.specs.declared.record.Opened.{Opened}
-use Rattle.player.specs.declared.record.Opened.TheVariants as O
+use Rattle.player.specs.declared.record.Answer.TheVariants.{Moved, AtEnd, Foreign}
 use Rattle.player.specs.declared.record.Move.{Move}
 use Rattle.player.specs.working.Playing.{move_of, open_of}
 use Rattle.player.proofs.MovesTold.{players_bounded}
@@ -41,23 +36,23 @@ put_same (x ∷ []) h = absurd (omega (arith, h))
 put_same (x ∷ y ∷ l) h = refl
 
 -- The number of a move's answer tells it.
-answer-told : (a : Answer) → Bounded (wording_of a) → answer_for (answer_number (wording_of a)) ≡ wording_of a
+answer-told : (a : Result Answer Declined) → Bounded (wording_of a) → answer_for (answer_number (wording_of a)) ≡ wording_of a
 unfolding wording_of answer_number bytes
-answer-told Moved b = refl
-answer-told AtEnd b = refl
-answer-told Foreign b = refl
-answer-told (Told o) b =
+answer-told (Ok Moved) b = refl
+answer-told (Ok AtEnd) b = refl
+answer-told (Ok Foreign) b = refl
+answer-told (Err d) b =
     rw (
-      other-letter o b 109 (inl (omega arith, omega arith)),
-      other-letter o b 101 (inl (omega arith, omega arith)),
-      other-letter o b 102 (inl (omega arith, omega arith)),
-      outcome_told o b,
+      declined-letter d b 109 (inl (omega arith, omega arith)),
+      declined-letter d b 101 (inl (omega arith, omega arith)),
+      declined-letter d b 102 (inl (omega arith, omega arith)),
+      declined_told d b,
     )
 
-opening-told : (o : Opened) → BoundedOpening (opening_for o) → (l : List ℕ) → 2 ≤ length l → opening_in (opening_told (opening_for o) l) ≡ opening_for o
+opening-told : (o : Result Player Declined) → BoundedOpening (opening_for o) → (l : List ℕ) → 2 ≤ length l → opening_in (opening_told (opening_for o) l) ≡ opening_for o
 unfolding opening_for opening_told bytes
-opening-told (O.At p) b l h = rw (le-ltb (length l) 2 h) (ap opened (put_back l p h))
-opening-told (O.Told o) b l h = rw (other-letter o b 111 (inl (omega arith, omega arith)), outcome_told o b)
+opening-told (Ok p) b l h = rw (le-ltb (length l) 2 h) (ap opened (put_back l p h))
+opening-told (Err d) b l h = rw (declined-letter d b 111 (inl (omega arith, omega arith)), declined_told d b)
 
 -- A list with room: the move of the record that it has.
 module _ (d : Direction) (text b l : List ℕ) where
@@ -83,55 +78,8 @@ players_tell text b l h =
     }
 
 -- What the functions ask.
-pub answer-fits : (a : Answer) → Bounded (wording_of a) → (o : Outcome) → a ≡ Told o → A.Bounded (W.wording_of o)
-unfolding wording_of
-answer-fits a b o e = subst (λ (x : Answer). Bounded (wording_of x)) e b
-
-pub opening-fits : (x : Opened) → BoundedOpening (opening_for x) → (o : Outcome) → x ≡ O.Told o → A.Bounded (W.wording_of o)
-unfolding opening_for
-opening-fits x b o e = subst (λ (y : Opened). BoundedOpening (opening_for y)) e b
-
-pub opened_bounded : (text b : List ℕ) (x : Opened) → x ≡ open_of text b → BoundedOpening (opening_for x)
-opened_bounded text b x e = subst (λ (y : Opened). BoundedOpening (opening_for y)) (sym e) (players_bounded text b).0
+pub opened_bounded : (text b : List ℕ) (x : Result Player Declined) → x ≡ open_of text b → BoundedOpening (opening_for x)
+opened_bounded text b x e = subst (λ (y : Result Player Declined). BoundedOpening (opening_for y)) (sym e) (players_bounded text b).0
 
 pub moved_bounded : (d : Direction) (text b : List ℕ) (p : Player) (m : Move) → m ≡ move_of d text b p → Bounded (wording_of m.answer)
 moved_bounded d text b p m e = subst (λ (n : Move). Bounded (wording_of n.answer)) (sym e) ((players_bounded text b).1 d p)
-
--- The number of an answer that is this one.
-pub answer_of_lem : (a known : Answer) (r : ℕ) → a ≡ known → r ≡ answer_number (wording_of known) → r ≡ answer_number (wording_of a)
-answer_of_lem a known r e h = h ∙ sym (ap (λ (x : Answer). answer_number (wording_of x)) e)
-
--- What each arm of the code leaves of an opening.
-module _ (x : Opened) (l : List ℕ) where
-  pub unopened-told : (o : Outcome) (r : ℕ) → x ≡ O.Told o → r ≡ T.test_number (W.wording_of o)
-      → (r ≡ (opening_told (opening_for x) l).number) × (l ≡ (opening_told (opening_for x) l).entries)
-  unfolding opening_for opening_told
-  unopened-told o r e h = rw e (h, refl)
-
-  module _ (p : Player) (g : x ≡ O.At p) where
-    pub short-told : length l < 2 → (r : ℕ) → r ≡ packed 8 0 → (r ≡ (opening_told (opening_for x) l).number) × (l ≡ (opening_told (opening_for x) l).entries)
-    unfolding opening_for opening_told
-    short-told h r e = rw (g, lt-ltb (length l) 2 h) (e, refl)
-
-    pub opened-told : 2 ≤ length l → (r : ℕ) → r ≡ packed 111 0 → (after : List ℕ) → after ≡ with_player l p
-        → (r ≡ (opening_told (opening_for x) l).number) × (after ≡ (opening_told (opening_for x) l).entries)
-    unfolding opening_for opening_told bytes
-    opened-told h r e after f = rw (g, le-ltb (length l) 2 h) (e, f)
-
--- And of a move: where the list is short, what is left of an opening; else the number of the answer and the record.
-module _ (d : Direction) (text b l : List ℕ) (r : ℕ) (after : List ℕ) where
-  pub short-move : length l < 2 → (x : Opened) → x ≡ open_of text b → r ≡ (opening_told (opening_for x) l).number → after ≡ (opening_told (opening_for x) l).entries
-      → (r ≡ (move_told d text b l).number) × (after ≡ (move_told d text b l).entries)
-  short-move h x e f g =
-      let s = short d text b l h in (
-        f ∙ ap (λ (y : Opened). (opening_told (opening_for y) l).number) e ∙ sym (ap (λ (t : P.Told). t.number) s),
-        g ∙ ap (λ (y : Opened). (opening_told (opening_for y) l).entries) e ∙ sym (ap (λ (t : P.Told). t.entries) s),
-      )
-
-  pub whole-move : 2 ≤ length l → (m : Move) → m ≡ move_of d text b (player_in l) → r ≡ answer_number (wording_of m.answer) → after ≡ with_player l m.player
-      → (r ≡ (move_told d text b l).number) × (after ≡ (move_told d text b l).entries)
-  whole-move h m e f g =
-      let s = roomy d text b l h in (
-        f ∙ ap (λ (n : Move). answer_number (wording_of n.answer)) e ∙ sym (ap (λ (t : P.Told). t.number) s),
-        g ∙ ap (λ (n : Move). with_player l n.player) e ∙ sym (ap (λ (t : P.Told). t.entries) s),
-      )

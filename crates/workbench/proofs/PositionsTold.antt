@@ -1,22 +1,20 @@
 -- The numbers that stand for positions and replies tell them, and fit.
 -- Assumes nothing.
-use mathlib.Core.Path.{◌≡◌, refl, sym, ap, ◌∙◌, subst}
+use mathlib.Core.Path.{◌≡◌, refl, ap, ◌∙◌, subst}
 use mathlib.Core.Logic.{inl, inr}
 use mathlib.Core.Bool.{Bool, true, false, cond, ◌||◌}
 use mathlib.Core.List.{List, []}
-use Prim.Native.Nat.{ℕ, ◌+◌, ◌*◌, ◌/◌, ◌%◌, ◌<◌, ◌≤◌}
+use Prim.Native.Nat.{ℕ, ◌+◌, ◌*◌, ◌/◌, ◌%◌, ◌≤◌}
 use native.Mathlib.Omega.{arith}
 use lib.Dec.{eqb}
-use borrow.Author.Tests.{ne_eqb, le-leb, lt-leb}
+use borrow.Author.Tests.{ne_eqb}
 use Rattle.notation.specs.Bytes.{bytes}
 use Rattle.exploration.specs.Pause.{Pause}
 use Rattle.packing.specs.Packed.{packed, most_above}
 use Rattle.packing.proofs.Packed.{low-back, above_back}
-use Rattle.packing.proofs.OutcomesTold.{outcome_told, other-letter}
-use Rattle.packing.specs.Outcomes as T
-use Rattle.conditions.specs.declared.outcome.Outcome.{Outcome}
-use Rattle.conditions.specs.Outcomes as W
-use Rattle.acceptance.specs.Promises as A
+use Rattle.packing.proofs.OutcomesTold.{declined_told, declined-letter}
+use Rattle.std.specs.Prelude.{Result, Ok, Err}
+use Rattle.conditions.specs.declared.outcome.Declined.{Declined}
 use Rattle.pauses.specs.Answers.{Wording, paused, returned}
 use Rattle.verdicts.specs.Left.{Leaves}
 use Rattle.pauses.specs.Held.{Holding}
@@ -28,12 +26,6 @@ use Rattle.questions.specs.Answers as Q
 use Rattle.questions.specs.Promises as QP
 use Rattle.questions.specs.working.Asking.{reached_of}
 use Rattle.questions.proofs.ReachedTells.{replies_bounded}
-use Rattle.questions.specs.declared.reply.Reply.{Reply}
-use Rattle.questions.specs.declared.reply.Reply.TheVariants.{Yes, No, Told}
-use Rattle.search.specs.Answers.{wording_of}
-use Rattle.search.specs.declared.position.Position.{Position}
-use Rattle.search.specs.declared.position.Paused.{Paused}
-use Rattle.search.specs.declared.position.Paused.TheVariants.{At, Refused}
 use Rattle.workbench.specs.Positions.{ended, position_number, paused_number, pause_at, wording_for, PositionsTell, reply_number, reply_for, RepliesTell}
 
 -- A position in bounds, by its digits.
@@ -89,60 +81,16 @@ positions_tell text p k first second =
     record { opened = told (open_of text first second).answer B.opened; portion = told (portion_of text p k first second).answer B.portion }
 
 -- No answer of the test has the letter of yes or no.
-outcome_other : (o : Outcome) → A.Bounded (W.wording_of o) → reply_for (T.test_number (W.wording_of o)) ≡ Q.told (T.wording_for (T.test_number (W.wording_of o)))
-outcome_other o b = rw (other-letter o b 121 (inr (omega arith)), other-letter o b 110 (inl (omega arith, omega arith)))
-
-reply-told : (r : Reply) → QP.Bounded (Q.wording_of r) → reply_for (reply_number (Q.wording_of r)) ≡ Q.wording_of r
+reply-told : (r : Result Bool Declined) → QP.Bounded (Q.wording_of r) → reply_for (reply_number (Q.wording_of r)) ≡ Q.wording_of r
 unfolding Q.wording_of reply_number bytes
-reply-told Yes b = refl
-reply-told No b = refl
-reply-told (Told o) b = outcome_other o b ∙ ap Q.told (outcome_told o b)
+reply-told (Ok true) b = refl
+reply-told (Ok false) b = refl
+reply-told (Err d) b =
+    rw (declined-letter d b 121 (inr (omega arith)), declined-letter d b 110 (inl (omega arith, omega arith)), declined_told d b)
 
 pub replies_tell : RepliesTell
 replies_tell text t first second sheet =
     record { met = reply-told (met_of text t first second) (met_bounded text t first second); reached = reply-told (reached_of text sheet t) (replies_bounded text sheet t) }
-
--- What the functions ask.
-
-pub position-fits : (p : Paused) → Bounded (wording_of p) → (x : Position) → p ≡ At x → (x.expanded ≤ 4096) × (x.met ≤ 4096) × (x.trials ≤ 67108864)
-unfolding wording_of
-position-fits p b x e = subst (λ (y : Paused). Bounded (wording_of y)) e b
-
-pub place-fits : (p : Paused) → Bounded (wording_of p) → (n i : ℕ) → p ≡ Refused n i → i ≤ most_above
-unfolding wording_of
-place-fits p b n i e = let c = subst (λ (y : Paused). Bounded (wording_of y)) e b in omega (arith, c.2)
-
-pub outcome_fits : (r : Reply) → QP.Bounded (Q.wording_of r) → (o : Outcome) → r ≡ Told o → A.Bounded (W.wording_of o)
-unfolding Q.wording_of
-outcome_fits r b o e = subst (λ (x : Reply). QP.Bounded (Q.wording_of x)) e b
-
--- The number of an answer that is this one.
-pub number_of : (p told : Paused) (r : ℕ) → p ≡ told → r ≡ paused_number (wording_of told) → r ≡ paused_number (wording_of p)
-number_of p told r e h = h ∙ sym (ap (λ (y : Paused). paused_number (wording_of y)) e)
-
-pub reply_of : (p told : Reply) (r : ℕ) → p ≡ told → r ≡ reply_number (Q.wording_of told) → r ≡ reply_number (Q.wording_of p)
-reply_of p told r e h = h ∙ sym (ap (λ (y : Reply). reply_number (Q.wording_of y)) e)
-
--- The number of a position by the case that it is.
-module _ (e m t : ℕ) where
-  abbrev By : Bool → ℕ
-  By b = position_number (record { expanded = e; met = m; broke = b; trials = t })
-
-  pub number-broke : (b : Bool) → b ≡ true → packed 101 (1 + 2 * (e + 8192 * (m + 8192 * t))) ≡ By b
-  unfolding position_number bytes
-  number-broke b h = sym (ap By h)
-
-  pub number-ended : (b : Bool) → b ≡ false → m ≤ e → packed 101 (2 * (e + 8192 * (m + 8192 * t))) ≡ By b
-  unfolding position_number bytes
-  number-ended b h l =
-      let z : 2 * (e + 8192 * (m + 8192 * t)) ≡ 0 + 2 * (e + 8192 * (m + 8192 * t)) = omega arith in
-      ap (packed 101) z ∙ ap (λ (c : Bool). packed (cond c 101 112) (0 + 2 * (e + 8192 * (m + 8192 * t)))) (sym (le-leb m e l)) ∙ sym (ap By h)
-
-  pub number-paused : (b : Bool) → b ≡ false → e < m → packed 112 (2 * (e + 8192 * (m + 8192 * t))) ≡ By b
-  unfolding position_number bytes
-  number-paused b h l =
-      let z : 2 * (e + 8192 * (m + 8192 * t)) ≡ 0 + 2 * (e + 8192 * (m + 8192 * t)) = omega arith in
-      ap (packed 112) z ∙ ap (λ (c : Bool). packed (cond c 101 112) (0 + 2 * (e + 8192 * (m + 8192 * t)))) (sym (lt-leb m e l)) ∙ sym (ap By h)
 
 -- What is left by calls from the same position.
 pub portion-same : (text : List ℕ) (a b : Pause) (k : ℕ) (first second : List ℕ) {q p : List ℕ} → a ≡ b → Holding (portion_of text a k first second) q p → Holding (portion_of text b k first second) q p

@@ -18,10 +18,19 @@ ghost use Rattle.verdicts.specs.working.Searching.{search_of};
 ghost use Rattle.workbench.specs.Numbers.{search_number};
 ghost use Rattle.workbench.specs.Needs.{told_of};
 
-use packing::pack;
+use packing::{pack, refusal_number};
+use refusals::{Reason, Refusal};
 use reserving::{Reservation, reserve};
 use search::search;
-use verdicts::finding::Finding;
+use verdicts::finding::{Finding, Searched};
+
+// The number where a lent list has no room for what is to be told in it.
+#[tactic(auto, unfolding(refusals::specs::Reasons::number_of))]
+fn no_room() -> u64
+    ensures { result ≡ packed 8 0 }
+{
+    refusal_number(Reason::NoRoom.at(0))
+}
 
 // The number of a verdict: its letter, the sheet's length, and the number of trials above both. No sheet has more than 7 + 10 * 4096 bytes, and no search makes more than 4096 * 16 * 256 trials; of a position that was altered there may be four times as many.
 fn verdict_number(letter: u8, length: usize, trials: usize) -> u64
@@ -32,15 +41,16 @@ fn verdict_number(letter: u8, length: usize, trials: usize) -> u64
 }
 
 // The number of an answer.
-pub fn finding_number(finding: Finding) -> u64
-    requires { FinishBounded (wording_of finding) }
-    ensures { result ≡ search_number (wording_of finding) }
+#[tactic(auto, unfolding(crate::specs::Numbers::search_number, verdicts::specs::Answers::wording_of, notation::specs::Bytes::bytes))]
+pub fn finding_number(searched: Searched) -> u64
+    requires { FinishBounded (wording_of searched) }
+    ensures { result ≡ search_number (wording_of searched) }
 {
-    match finding {
-        Finding::Safe(length, trials) => verdict_number(b's', length, trials),
-        Finding::Void(length) => verdict_number(b'v', length, 0),
-        Finding::Unsafe(length) => verdict_number(b'u', length, 0),
-        Finding::Refused(number, place) => pack(number, place),
+    match searched {
+        Ok(Finding::Safe { length, trials }) => verdict_number(b's', length, trials),
+        Ok(Finding::Void { length }) => verdict_number(b'v', length, 0),
+        Ok(Finding::Unsafe { length }) => verdict_number(b'u', length, 0),
+        Err(refusal) => refusal_number(refusal),
     }
 }
 
@@ -60,22 +70,21 @@ pub extern "C" fn nutseason_search(
 }
 
 // The number of a reservation, whose three numbers go to the front of the lent list.
-fn reservation_number(reservation: Reservation, needs: &mut [u64]) -> u64
-    requires { reserving.Bounded (reservations.wording_of reservation) }
-    ensures value { result ≡ (told_of (reservations.wording_of reservation) needs.old).number }
-    ensures left { needs.new ≡ (told_of (reservations.wording_of reservation) needs.old).needs }
+#[tactic(auto, unfolding(crate::specs::Needs::told_of, reserving::specs::Answers::wording_of, notation::specs::Bytes::bytes))]
+fn reservation_number(reserved: Result<Reservation, Refusal>, needs: &mut [u64]) -> u64
+    requires { reserving.Bounded (reservations.wording_of reserved) }
+    ensures value { result ≡ (told_of (reservations.wording_of reserved) needs.old).number }
+    ensures left { needs.new ≡ (told_of (reservations.wording_of reserved) needs.old).needs }
 {
-    match reservation {
-        Reservation::Refused(number, place) => pack(number, place),
-        Reservation::Needs(entries, bytes, trials) => {
-            if needs.len() < 3 {
-                return pack(8, 0);
-            }
-            needs[0] = entries as u64;
-            needs[1] = bytes as u64;
-            needs[2] = trials as u64;
+    match reserved {
+        Ok(_) if needs.len() < 3 => no_room(),
+        Ok(reservation) => {
+            needs[0] = reservation.entries as u64;
+            needs[1] = reservation.bytes as u64;
+            needs[2] = reservation.trials as u64;
             pack(b'r', 0)
         }
+        Err(refused) => refusal_number(refused),
     }
 }
 

@@ -6,10 +6,12 @@ ghost use Rattle.player.specs.declared.record.Direction.TheVariants.{Forward, Ba
 ghost use Rattle.sheets.specs.SheetTexts.{AreBytes};
 ghost use Rattle.workbench.specs.Players.{with_player, opening_told, answer_number, move_told};
 
-use packing::outcomes::outcome_number;
+use crate::no_room;
+use conditions::outcome::Declined;
+use packing::outcomes::declined_number;
 use packing::pack;
 use player::moves::open_player;
-use player::record::{Answer, Direction, Move, Opened, Player};
+use player::record::{Answer, Direction, Move, Player};
 use player::values::move_of;
 
 // Puts a record at the front of the list.
@@ -22,33 +24,33 @@ fn put_player(entries: &mut [u64], player: Player)
 }
 
 // The number of what opening answers; a record goes to the front of the list.
-fn opened_number(opened: Opened, entries: &mut [u64]) -> u64
+#[tactic(auto, unfolding(crate::specs::Players::opening_told, player::specs::Answers::opening_for, notation::specs::Bytes::bytes))]
+fn opened_number(opened: Result<Player, Declined>, entries: &mut [u64]) -> u64
     requires { BoundedOpening (opening_for opened) }
     ensures value { result ≡ (opening_told (opening_for opened) entries.old).number }
     ensures left { entries.new ≡ (opening_told (opening_for opened) entries.old).entries }
 {
     match opened {
-        Opened::Told(outcome) => outcome_number(outcome),
-        Opened::At(player) => {
-            if entries.len() < 2 {
-                return pack(8, 0);
-            }
+        Ok(_) if entries.len() < 2 => no_room(),
+        Ok(player) => {
             put_player(entries, player);
             pack(b'o', 0)
         }
+        Err(declined) => declined_number(declined),
     }
 }
 
 // The number of a move's answer.
-fn answer_number(answer: Answer) -> u64
+#[tactic(auto, unfolding(crate::specs::Players::answer_number, player::specs::Answers::wording_of, notation::specs::Bytes::bytes))]
+fn answer_number(answer: Result<Answer, Declined>) -> u64
     requires { Bounded (wording_of answer) }
     ensures { result ≡ answer_number (wording_of answer) }
 {
     match answer {
-        Answer::Moved => pack(b'm', 0),
-        Answer::AtEnd => pack(b'e', 0),
-        Answer::Foreign => pack(b'f', 0),
-        Answer::Told(outcome) => outcome_number(outcome),
+        Ok(Answer::Moved) => pack(b'm', 0),
+        Ok(Answer::AtEnd) => pack(b'e', 0),
+        Ok(Answer::Foreign) => pack(b'f', 0),
+        Err(declined) => declined_number(declined),
     }
 }
 
@@ -58,9 +60,8 @@ fn moved_number(moved: Move, entries: &mut [u64]) -> u64
     ensures value { result ≡ answer_number (wording_of moved.answer) }
     ensures left { entries.new ≡ with_player entries.old moved.player }
 {
-    let answer = moved.answer;
     put_player(entries, moved.player);
-    answer_number(answer)
+    answer_number(moved.answer)
 }
 
 // A player opened on a sheet.
@@ -74,6 +75,7 @@ pub extern "C" fn nutseason_player(text: &[u8], sheet: &[u8], entries: &mut [u64
 }
 
 // A move of the record that the list has.
+#[tactic(auto, unfolding(crate::specs::Players::move_told))]
 fn moved_in(direction: Direction, text: &[u8], sheet: &[u8], entries: &mut [u64]) -> u64
     ensures value { result ≡ (move_told direction text.now sheet.now entries.old).number }
     ensures left { entries.new ≡ (move_told direction text.now sheet.now entries.old).entries }

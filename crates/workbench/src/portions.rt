@@ -13,44 +13,42 @@ ghost use Rattle.workbench.specs.Numbers.{search_number};
 ghost use Rattle.workbench.specs.Positions.{position_number, paused_number, pause_at, reply_number};
 
 use crate::finding_number;
-use packing::outcomes::outcome_number;
-use packing::pack;
+use conditions::outcome::Declined;
+use packing::outcomes::declined_number;
+use packing::{pack, refusal_number};
 use questions::reached;
-use questions::reply::Reply;
 use search::position::{Paused, Position, met, open};
 
 // The number of a position.
-fn position_number(expanded: usize, met: usize, broke: bool, trials: usize) -> u64
-    requires { (expanded ≤ 4096) × (met ≤ 4096) × (trials ≤ 67108864) }
-    ensures { result ≡ position_number (record { expanded = expanded; met = met; broke = broke; trials = trials }) }
+#[tactic(auto, unfolding(crate::specs::Positions::position_number, notation::specs::Bytes::bytes))]
+fn position_number(position: Position) -> u64
+    requires { (position.expanded ≤ 4096) × (position.met ≤ 4096) × (position.trials ≤ 67108864) }
+    ensures { result ≡ position_number (pause_for position) }
 {
-    let above = 2 * (expanded + 8192 * (met + 8192 * trials));
-    if broke {
+    let above = 2 * (position.expanded + 8192 * (position.met + 8192 * position.trials));
+    if position.broke {
         return pack(b'e', 1 + above);
     }
-    if met <= expanded {
+    if position.met <= position.expanded {
         return pack(b'e', above);
     }
     pack(b'p', above)
 }
 
 // The number of an answer that may be a position.
+#[tactic(auto, unfolding(crate::specs::Positions::paused_number, search::specs::Answers::wording_of))]
 fn paused_number(paused: Paused) -> u64
     requires { Bounded (wording_of paused) }
     ensures { result ≡ paused_number (wording_of paused) }
 {
     match paused {
-        Paused::At(position) => position_number(
-            position.expanded,
-            position.met,
-            position.broke,
-            position.trials,
-        ),
-        Paused::Refused(number, place) => pack(number, place),
+        Ok(position) => position_number(position),
+        Err(refusal) => refusal_number(refusal),
     }
 }
 
 // The position that a number stands for. Every number stands for one: what it says is judged by the call that it is handed to.
+#[tactic(auto, unfolding(crate::specs::Positions::pause_at))]
 fn position_at(number: u64) -> Position
     ensures { pause_for result ≡ pause_at number }
 {
@@ -63,14 +61,15 @@ fn position_at(number: u64) -> Position
 }
 
 // The number of a reply.
-fn reply_number(reply: Reply) -> u64
+#[tactic(auto, unfolding(crate::specs::Positions::reply_number, questions::specs::Answers::wording_of, notation::specs::Bytes::bytes))]
+fn reply_number(reply: Result<bool, Declined>) -> u64
     requires { asking.Bounded (questions.wording_of reply) }
     ensures { result ≡ reply_number (questions.wording_of reply) }
 {
     match reply {
-        Reply::Yes => pack(b'y', 0),
-        Reply::No => pack(b'n', 0),
-        Reply::Told(outcome) => outcome_number(outcome),
+        Ok(true) => pack(b'y', 0),
+        Ok(false) => pack(b'n', 0),
+        Err(declined) => declined_number(declined),
     }
 }
 

@@ -9,12 +9,7 @@ fn met_bit(states: usize, parent: &[u16], s: usize) -> u8
     ensures value { result ≡ bit_at (map (ltb 0) (take states parent.now)) s }
     ensures upper_bound { result ≤ 1 }
 {
-    if s < states {
-        if 0 < parent[s] {
-            return 1;
-        }
-    }
-    0
+    u8::from(s < states && 0 < parent[s])
 }
 
 // Byte i of the map.
@@ -22,15 +17,11 @@ fn map_byte(states: usize, parent: &[u16], i: usize) -> u8
     requires { (states ≤ length parent.now) × (i < 512) }
     ensures { result ≡ map_byte (map (ltb 0) (take states parent.now)) i }
 {
-    let s = 8 * i;
-    let low = met_bit(states, parent, s)
-        + 2 * met_bit(states, parent, s + 1)
-        + 4 * met_bit(states, parent, s + 2)
-        + 8 * met_bit(states, parent, s + 3);
-    low + 16 * met_bit(states, parent, s + 4)
-        + 32 * met_bit(states, parent, s + 5)
-        + 64 * met_bit(states, parent, s + 6)
-        + 128 * met_bit(states, parent, s + 7)
+    let mut byte = 0;
+    for j in (0..8).rev() {
+        byte = 2 * byte + met_bit(states, parent, 8 * i + j);
+    }
+    byte
 }
 
 // Writes the map's n bytes from `at` on.
@@ -38,7 +29,7 @@ pub fn write_map(states: usize, parent: &[u16], n: usize, at: usize, out: &mut [
     requires { (states ≤ length parent.now) × (n ≤ 512) × (at + n ≤ length out.old) }
     ensures { out.new ≡ sets out.old at (map_from (map (ltb 0) (take states parent.now)) 0 n) }
 {
-    for i in 0..n {
-        out[at + i] = map_byte(states, parent, i);
+    for (i, byte) in out[at..at + n].iter_mut().enumerate() {
+        *byte = map_byte(states, parent, i);
     }
 }

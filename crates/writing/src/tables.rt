@@ -6,7 +6,5 @@ pub fn clear(table: &mut [u16], n: usize)
     requires { n ≤ length table.old }
     ensures { table.new ≡ replicate n 0 ++ drop n table.old }
 {
-    for i in 0..n {
-        table[i] = 0;
-    }
+    table[..n].fill(0);
 }

@@ -1,25 +1,14 @@
 -- `test` meets its contract: the text's refusal, or the outcome over the flat form that was read.
-use mathlib.Core.Path.{refl, sym}
-use Rattle.acceptance.proofs.TestTexts.{read_sound, test_read, test-refused}
+use Rattle.std.proofs.Common.{refl}
+use Rattle.std.proofs.lemmas.Result.{err_from_is_err_and}
+use Rattle.acceptance.proofs.TestTexts.{table_read, table_refused, test_read, test-refused}
 use Rattle.acceptance.proofs.test.Goals as goal
 
-pub read_plan-told-requires : goal.read_plan-told-requires
-read_plan-told-requires c = refl
+pub returns-in_err-table-clause-value : goal.returns-in_err-table-clause-value
+returns-in_err-table-clause-value c =
+    let p = err_from_is_err_and c.from_residual.result c.from_residual.ensures.1 in
+    rw (p.1, p.2) (test-refused _ (table_refused _ c.read_table.ensures _ c.in_err-table.was) _ refl _)
 
-pub test_sheet-requires : goal.test_sheet-requires
-test_sheet-requires c =
-    read_sound _ c.read_plan-told.ensures (sym c.in-Read.is)
-
-pub returns-in-Refused : goal.returns-in-Refused
-returns-in-Refused c =
-    record {
-      value = test-refused _ c.read_plan-told.ensures _ _ _ (sym c.in-Refused.is);
-      bytes = c.bytes_known.ensures;
-    }
-
-pub returns-in-Read : goal.returns-in-Read
-returns-in-Read c =
-    record {
-      value = test_read _ c.read_plan-told.ensures (sym c.in-Read.is) _ _ c.test_sheet.ensures;
-      bytes = c.bytes_known.ensures;
-    }
+pub returns-clause-value : goal.returns-clause-value
+returns-clause-value c =
+    test_read _ (table_read _ c.read_table.ensures _ c.in_ok-table.was) _ refl _ _ c.test_sheet.ensures

@@ -5,6 +5,7 @@ use Rattle.notation.specs.Tokens.{Word}
 use Rattle.notation.specs.Texts.{model_of}
 use Rattle.notation.specs.working.Machine as N
 use Rattle.notation.specs.working.Answer.{answer}
+use Rattle.reader.specs.declared.Code.{Code}
 use Rattle.windows.specs.Questions.{Wording, steps, burst, refused, told}
 use Rattle.windows.specs.Promises.{answer_of, counts_after}
 use Rattle.windows.specs.working.Surveying.{blanks}
@@ -26,15 +27,16 @@ line_for called count (told tested) = []
 abbrev pub answer_line : (ℕ → Word) → List ℕ → List ℕ → List ℕ → ℕ → ℕ → List ℕ
 answer_line called counts text b w k = line_for (called k) (get_or counts k 0) (answer_of (Burst k w) text b blanks)
 
--- The names of n commands begin with name `base` of the reader's array, and no name is longer than 16 bytes.
-pub record Listed (text names : List ℕ) (base n : ℕ) : Type 0 where
+-- The names of n commands stand in the text behind the others of the flat form, and none is longer than 16 bytes.
+pub record Listed (text : List ℕ) (code : Code) (n : ℕ) : Type 0 where
+  pub few_names : code.shared + code.row ≤ 12
   pub few : n ≤ 16
-  pub named : (k : ℕ) → k < n → Named text names (base + k)
-  pub short : (k : ℕ) → k < n → length (name_in text names (base + k)) ≤ 16
+  pub named : (k : ℕ) → k < n → Named text code.names (code.shared + code.row + k)
+  pub short : (k : ℕ) → k < n → length (name_in text code.names (code.shared + code.row + k)) ≤ 16
 
 -- Their lines, where the commands have these counts.
-abbrev pub table_in : List ℕ → List ℕ → ℕ → List ℕ → List ℕ → ℕ → ℕ → List ℕ
-table_in text names base counts b w n = lines_from (answer_line (λ k. name_in text names (base + k)) counts text b w) 0 n
+abbrev pub table_in : List ℕ → Code → List ℕ → List ℕ → ℕ → List ℕ
+table_in text code counts b w = lines_from (answer_line (λ k. name_in text code.names (code.shared + code.row + k)) counts text b w) 0 (length counts)
 
 -- The names of the commands, and how many there are, where a text was read as a tree. Where it was refused there is none.
 unfoldable pub called_in : List ℕ → N.Outcome → ℕ → Word

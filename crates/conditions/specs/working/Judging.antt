@@ -1,6 +1,7 @@
 -- The outcome for the bytes of a sheet, computed over a system.
 -- Assumes nothing.
-use Rattle.std.specs.Prelude.{cond, List, ℕ, ◌+◌}
+use Rattle.std.specs.Prelude.{cond, List, ℕ, ◌+◌, Ok, Err}
+use Rattle.refusals.specs.Reasons.{refusal_of}
 use Rattle.meaning.specs.OneRow.{TraceStep, last_of}
 use Rattle.meaning.specs.Evidence.{Sheet, safe, trace}
 use Rattle.meaning.specs.working.Conditions.{test_void, test_a, test_b, test_c, test_e}
@@ -8,7 +9,8 @@ use Rattle.sheets.specs.Sheets.{System, size}
 use Rattle.sheets.specs.SheetTexts.{two_at}
 use Rattle.sheets.specs.working.SheetReading.{Reading, refused, holds, steps_in, step_count, sheet_of}
 use Rattle.conditions.specs.declared.outcome.Outcome.{Outcome}
-use Rattle.conditions.specs.declared.outcome.Outcome.TheVariants.{SafeHolds, Void, TraceHolds, FailsA, FailsB, FailsC, FailsD, FailsE, FailsF, Refused}
+use Rattle.conditions.specs.declared.outcome.Outcome.TheVariants.{SafeHolds, Void, TraceHolds, FailsA, FailsB, FailsC, FailsD, FailsE, FailsF}
+use Rattle.conditions.specs.Outcomes.{Tested}
 
 -- The outcome for a map that passes: void where there is no start state.
 unfoldable pub passed_answer : System → Outcome
@@ -34,12 +36,12 @@ answer_in M (safe map) = map_answer M map
 answer_in M (trace s xs) = trace_answer M s xs
 
 -- The outcome for what was read.
-unfoldable pub judge : System → Reading → Outcome
-judge M (refused n p) = Refused n p
-judge M (holds x) = answer_in M x
+unfoldable pub judge : System → Reading → Tested
+judge M (refused n p) = Err (refusal_of n p)
+judge M (holds x) = Ok (answer_in M x)
 
 -- The outcome for bytes.
-unfoldable pub outcome_of : System → List ℕ → Outcome
+unfoldable pub outcome_of : System → List ℕ → Tested
 outcome_of M b = judge M (sheet_of M b)
 
 -- The outcome for the trace whose first record stands at p.

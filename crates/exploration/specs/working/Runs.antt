@@ -1,6 +1,6 @@
 -- Runs over transitions, and which of two comes first.
 -- Assumes nothing.
-use Rattle.std.specs.Prelude.{ℕ, suc, zero, ◌+◌, ◌-◌, ◌<◌, ◌≡◌, true, false, cond, List, [], ◌∷◌, ◌++◌, get_or, eqb, ◌⊎◌}
+use Rattle.std.specs.Prelude.{ℕ, suc, zero, ◌+◌, ◌-◌, ◌<◌, ◌≡◌, true, false, cond, List, [], ◌∷◌, ◌++◌, get_or, eqb, ◌⊎◌, Option, None, Some}
 use Rattle.meaning.specs.OneRow.{TraceStep}
 use Rattle.exploration.specs.working.Transitions.{Transitions, Move, moves}
 
@@ -46,6 +46,11 @@ steps (goes_on r m) = suc (steps r)
 unfoldable pub first_move : Transitions → ℕ → ℕ → List Move → Move
 first_move M s t [] = record { command = 0; word = 0 }
 first_move M s t (m ∷ ms) = cond (eqb (M.step s m.command m.word) t) m (first_move M s t ms)
+
+-- The same, where there may be none.
+unfoldable pub move_to : Transitions → ℕ → ℕ → List Move → Option Move
+move_to M s t [] = None
+move_to M s t (m ∷ ms) = cond (eqb (M.step s m.command m.word) t) (Some m) (move_to M s t ms)
 
 -- The run to t that a table of parents records, n steps at most: back from t to the state that is its own parent.
 unfoldable pub run_to : Transitions → List ℕ → ℕ → ℕ → Run

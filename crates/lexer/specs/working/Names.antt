@@ -1,6 +1,7 @@
 -- The declared names, as the code keeps them: name i begins at entry i of an array, and entry 28 + i is its length.
 -- Assumes nothing.
-use Rattle.std.specs.Prelude.{Bool, cond, List, [], ◌∷◌, ◌≡◌, ℕ, zero, suc, ◌+◌, ◌*◌, ◌-◌, ◌≤◌, ◌<◌, ltb, length, get_or}
+use Rattle.std.specs.Prelude as C
+use Rattle.std.specs.Prelude.{Bool, cond, List, [], ◌∷◌, ◌≡◌, ℕ, zero, suc, ◌+◌, ◌-◌, ◌≤◌, ◌<◌, ltb, length, get_or}
 use Rattle.notation.specs.Bytes.{between, lower_case, in_lower_case, same_word}
 use Rattle.notation.specs.Tokens.{Word}
 
@@ -8,20 +9,6 @@ use Rattle.notation.specs.Tokens.{Word}
 unfoldable pub window : List ℕ → ℕ → ℕ → Word
 window text a zero = []
 window text a (suc n) = get_or text a 0 ∷ window text (suc a) n
-
--- The eight bytes from place i on are the digits of r, the first lowest.
-pub record Packed (text : List ℕ) (i r : ℕ) : Type 0 where
-  pub number : r ≡ get_or text i 0 + 256 * (get_or text (i + 1) 0 + 256 *
-      (get_or text (i + 2) 0 + 256 * (get_or text (i + 3) 0 + 256 *
-      (get_or text (i + 4) 0 + 256 * (get_or text (i + 5) 0 + 256 * (get_or text (i + 6) 0 + 256 * get_or text (i + 7) 0))))))
-  pub d0 : get_or text i 0 < 256
-  pub d1 : get_or text (i + 1) 0 < 256
-  pub d2 : get_or text (i + 2) 0 < 256
-  pub d3 : get_or text (i + 3) 0 < 256
-  pub d4 : get_or text (i + 4) 0 < 256
-  pub d5 : get_or text (i + 5) 0 < 256
-  pub d6 : get_or text (i + 6) 0 < 256
-  pub d7 : get_or text (i + 7) 0 < 256
 
 -- The byte in upper case.
 abbrev pub upper_case : ℕ → ℕ
@@ -50,3 +37,7 @@ word_at text names i = in_lower_case (window text (get_or names i 0) (get_or nam
 unfoldable pub words_in : List ℕ → List ℕ → ℕ → ℕ → List Word
 words_in text names i zero = []
 words_in text names i (suc n) = word_at text names i ∷ words_in text names (suc i) n
+
+-- A name that was looked for among those before `to`: its place is `to` where it is none of them.
+abbrev pub name_found : ℕ → ℕ → C.Option ℕ
+name_found to i = cond (ltb i to) (C.Some i) C.None

@@ -1,12 +1,13 @@
 -- What the calls of a search in portions leave, as computations.
 -- Assumes nothing.
-use Rattle.std.specs.Prelude.{Bool, true, false, cond, ◌&&◌, List, ℕ, ◌-◌, leb, ltb, length, get_or}
+use Rattle.std.specs.Prelude.{Bool, true, false, cond, ◌&&◌, List, ℕ, ◌-◌, leb, ltb, length, get_or, Result, Ok, Err}
+use Rattle.refusals.specs.Reasons.{refusal_of}
 use Rattle.notation.specs.working.Machine as N
 use Rattle.notation.specs.working.Answer.{answer}
-use Rattle.reader.specs.Read.{reading_of}
 use Rattle.sheets.specs.Sheets.{System, size}
 use Rattle.sheets.specs.working.FlatSystem.{system_in}
 use Rattle.acceptance.specs.working.Test.{plan_of}
+use Rattle.reader.specs.Read.{read_code}
 use Rattle.exploration.specs.Pause.{Pause}
 use Rattle.exploration.specs.working.Transitions.{Transitions}
 use Rattle.exploration.specs.working.Exploring.{Seen, Progress, broke, through}
@@ -14,15 +15,14 @@ use Rattle.exploration.specs.working.Pauses.{Stand, seen_in, opened, further, pa
 use Rattle.exploration.specs.working.Found.{transitions_of}
 use Rattle.verdicts.specs.Left.{Left}
 use Rattle.verdicts.specs.working.Searching.{roomy, left_by, left_alone, found_by}
-use Rattle.conditions.specs.declared.outcome.Outcome.TheVariants.{Refused}
-use Rattle.questions.specs.declared.reply.Reply.{Reply}
-use Rattle.questions.specs.declared.reply.Reply.TheVariants.{Yes, No, Told}
+use Rattle.conditions.specs.declared.outcome.Declined.{Declined}
+use Rattle.conditions.specs.declared.outcome.Declined.TheVariants.{Refused}
 use Rattle.pauses.specs.Answers.{paused, returned}
 use Rattle.pauses.specs.Held.{Held}
 
 -- The system of a text's model, by its flat form.
 abbrev pub flat_of : List ℕ → System
-flat_of text = system_in (reading_of text).code.ops (plan_of (reading_of text).code)
+flat_of text = system_in (read_code text).ops (plan_of (read_code text))
 
 -- Whether the lent tables have an entry for each state.
 unfoldable pub tabled : System → List ℕ → List ℕ → Bool
@@ -105,13 +105,15 @@ unfoldable pub finish_of : List ℕ → Pause → List ℕ → List ℕ → List
 finish_of text p = left_in (answer text) (finish_for (flat_of text) p)
 
 -- Whether a state is met: its entry in the table of parents is not 0.
-unfoldable pub met_for : System → ℕ → List ℕ → List ℕ → Reply
+unfoldable pub met_for : System → ℕ → List ℕ → List ℕ → Result Bool Declined
 met_for M t first second =
-    cond (tabled M first second) (cond (ltb t (size M)) (cond (ltb 0 (get_or second t 0)) Yes No) (Told (Refused 10 0))) (Told (Refused 8 0))
+    cond (tabled M first second)
+    (cond (ltb t (size M)) (Ok (ltb 0 (get_or second t 0))) (Err (Refused (refusal_of 10 0))))
+    (Err (Refused (refusal_of 8 0)))
 
-unfoldable pub met_in : N.Outcome → (List ℕ → List ℕ → Reply) → List ℕ → List ℕ → Reply
+unfoldable pub met_in : N.Outcome → (List ℕ → List ℕ → Result Bool Declined) → List ℕ → List ℕ → Result Bool Declined
 met_in (N.read x) due first second = due first second
-met_in (N.refused n p) due first second = Told (Refused n p)
+met_in (N.refused n p) due first second = Err (Refused (refusal_of n p))
 
-unfoldable pub met_of : List ℕ → ℕ → List ℕ → List ℕ → Reply
+unfoldable pub met_of : List ℕ → ℕ → List ℕ → List ℕ → Result Bool Declined
 met_of text t = met_in (answer text) (met_for (flat_of text) t)

@@ -1,26 +1,12 @@
--- `reached` meets its contract: the text's refusal, or what the sheet is asked over the flat form that was read.
-use mathlib.Core.Path.{refl, sym}
-use Rattle.acceptance.proofs.TestTexts.{read_sound}
-use Rattle.questions.proofs.ReachedTexts.{was_read_lem, was_refused_lem}
+-- `reached` meets its contract: the text's refusal, or what the sheet is asked.
+use mathlib.Core.Path.{refl, sym, ap, ◌∙◌}
+use Rattle.std.specs.Prelude.{Err}
+use Rattle.std.proofs.lemmas.Result.{err_from_is_err_and}
+use Rattle.acceptance.proofs.TestTexts.{table_refused}
+use Rattle.questions.proofs.ReachedTexts.{reached_refused}
 use Rattle.questions.proofs.reached.Goals as goal
 
-pub read_plan-told-requires : goal.read_plan-told-requires
-read_plan-told-requires c = refl
-
-pub asked-requires : goal.asked-requires
-asked-requires c =
-    read_sound _ c.read_plan-told.ensures (sym c.in-Read.is)
-
-pub returns-in-Refused : goal.returns-in-Refused
-returns-in-Refused c =
-    record {
-      value = was_refused_lem _ c.read_plan-told.ensures _ _ _ _ (sym c.in-Refused.is);
-      bytes = c.bytes_known.ensures;
-    }
-
-pub returns-in-Read : goal.returns-in-Read
-returns-in-Read c =
-    record {
-      value = was_read_lem _ c.read_plan-told.ensures (sym c.in-Read.is) _ _ _ c.asked.ensures;
-      bytes = c.bytes_known.ensures;
-    }
+pub returns-in_err-table-clause-value : goal.returns-in_err-table-clause-value
+returns-in_err-table-clause-value c =
+    let p = err_from_is_err_and c.from_residual.result c.from_residual.ensures.1 in
+    p.1 ∙ ap Err p.2 ∙ sym (reached_refused _ _ _ (table_refused _ c.in_err-table.ensures _ refl))

@@ -1,6 +1,6 @@
 -- What the readers of declarations and clauses answer.
 -- Assumes nothing.
-use Rattle.std.specs.Prelude.{◌≡◌, Bool, false, cond, List, [], ◌∷◌, ◌++◌, ℕ, ◌+◌, ◌≤◌, length, set}
+use Rattle.std.specs.Prelude.{◌≡◌, Bool, false, cond, List, [], ◌∷◌, ◌++◌, ℕ, ◌+◌, ◌≤◌, length, set, Result, Ok, Err}
 use Rattle.std.proofs.lemmas.List.Edits.{sets}
 use Rattle.notation.specs.Tokens.{name, Name}
 use Rattle.notation.specs.Notation.{Mode, fixed_shared, fixed_row, part, declares, Expr, Clause, clause'}
@@ -9,21 +9,26 @@ use Rattle.notation.specs.Texts.{Numbered, numbered, words_of, longest_text}
 use Rattle.notation.specs.working.Lexing.{tokens_from}
 use Rattle.notation.specs.working.Ledger.{note, fault}
 use Rattle.notation.specs.working.Table as T
-use Rattle.notation.specs.working.Descent.{Got, got, stop, then_reads, ruling, reader, or_reader}
+use Rattle.notation.specs.working.Descent.{Got, got, then_reads, ruling, reader, or_reader}
 use Rattle.statements.specs.declared.cursor.Cursor.{Cursor}
 use Rattle.statements.specs.declared.cursor.Ledger.{Ledger}
-use Rattle.statements.specs.declared.cursor.Parsed.{Parsed}
-use Rattle.statements.specs.declared.cursor.Parsed.TheVariants.{Ok, Refused}
-use Rattle.reader.specs.declared.clauses.Declared.{Declared}
-use Rattle.reader.specs.declared.clauses.Declared.TheVariants as D
+use Rattle.refusals.specs.declared.Refusal.{Refusal}
 use Rattle.reader.specs.Read.{placed}
-use Rattle.lexer.specs.working.Pieces.{name_in, listed, Fresh, piece_at}
+use Rattle.lexer.specs.working.Pieces.{name_in, listed, Fresh}
 use Rattle.statements.specs.working.Names.{shared_words, row_words}
-use Rattle.statements.specs.working.Cursors.{book_of, moved, Done, Wrote}
+use Rattle.statements.specs.working.Cursors.{Parsed, stopped, book_of, passed, Done, Wrote}
 use Rattle.statements.specs.working.Expressions.{expr_words}
 use Rattle.statements.specs.working.Items.{kind_of}
 
 -- ---- names
+
+-- What a reader of names to declare answers, and the answer that a result makes with the cursor and the ledger behind it.
+abbrev pub Declared : Type 0
+Declared = Result (Cursor × Ledger) Refusal
+
+abbrev pub reached_with : Result (Unit {0}) Refusal → Cursor → Ledger → Declared
+reached_with (Ok u) c l = Ok (c, l)
+reached_with (Err r) c l = Err r
 
 -- The ledger with k names more, row names if `rows`, or else shared names.
 abbrev pub grown : Bool → ℕ → Ledger → Ledger
@@ -67,15 +72,15 @@ pub record WroteNames (i : ℕ) (before after : List ℕ) : Type 0 where
 
 -- One name, as a list of one. It is refused before it is stored.
 unfoldable pub NameSays : List ℕ → List ℕ → Ledger → Bool → Cursor → List ℕ → Declared → Type 0
-NameSays text names l rows c names' (D.Ok d l') =
+NameSays text names l rows c names' (Ok (d, l')) =
     (name_at text names l rows c ≡ got (name_in text c.next) (listed text d.next) (book_of text names' l' d))
     × ((names' ≡ placed names (l.shared + l.row) (name_in text c.next ∷ []))
-    × ((l' ≡ grown rows 1 l) × ((d ≡ moved (piece_at text c.next.end) c c.items c.nodes c.stars) × Listing text names' l' rows d)))
-NameSays text names l rows c names' (D.Refused n i) = (name_at text names l rows c ≡ stop n i) × (names' ≡ names)
+    × ((l' ≡ grown rows 1 l) × ((d ≡ passed text c) × Listing text names' l' rows d)))
+NameSays text names l rows c names' (Err r) = (name_at text names l rows c ≡ stopped r) × (names' ≡ names)
 
 unfoldable pub NamesSay : List ℕ → List ℕ → Ledger → Bool → Cursor → Got (List Name) → List ℕ → Declared → Type 0
-NamesSay text names l rows c g names' (D.Ok d l') = Noted text names l rows c g names' d l'
-NamesSay text names l rows c g names' (D.Refused n i) = (g ≡ stop n i) × WroteNames (l.shared + l.row) names names'
+NamesSay text names l rows c g names' (Ok (d, l')) = Noted text names l rows c g names' d l'
+NamesSay text names l rows c g names' (Err r) = (g ≡ stopped r) × WroteNames (l.shared + l.row) names names'
 
 -- ---- clauses
 
@@ -90,7 +95,7 @@ segment_at text names l rows kind c =
 -- A sign and an expression were read, and its end is stored.
 unfoldable pub SegmentSays : List ℕ → List ℕ → Ledger → Bool → ℕ → ℕ → Cursor → List ℕ → List ℕ → List ℕ → List ℕ → Parsed → Type 0
 SegmentSays text names l rows kind i c p e a e' (Ok d) = Done text names l (expr_words text names l) 0 c p (segment_at text names l rows kind c) a d × (e' ≡ set e i d.emitted)
-SegmentSays text names l rows kind i c p e a e' (Refused n j) = (segment_at text names l rows kind c ≡ stop n j) × (Wrote c.emitted p a × (e' ≡ e))
+SegmentSays text names l rows kind i c p e a e' (Err r) = (segment_at text names l rows kind c ≡ stopped r) × (Wrote c.emitted p a × (e' ≡ e))
 
 -- The code of a clause.
 abbrev pub clause_words : List ℕ → List ℕ → Ledger → ℕ → Clause → Numbered (List ℕ)
@@ -112,4 +117,4 @@ pub record ClauseDone (text names : List ℕ) (l : Ledger) (kind i : ℕ) (c : C
 
 unfoldable pub ClauseSays : List ℕ → List ℕ → Ledger → ℕ → ℕ → Cursor → List ℕ → List ℕ → List ℕ → List ℕ → Parsed → Type 0
 ClauseSays text names l kind i c p e a e' (Ok d) = ClauseDone text names l kind i c p e a e' d
-ClauseSays text names l kind i c p e a e' (Refused n j) = (clause_at text names l kind c ≡ stop n j) × (Wrote c.emitted p a × Wrote i e e')
+ClauseSays text names l kind i c p e a e' (Err r) = (clause_at text names l kind c ≡ stopped r) × (Wrote c.emitted p a × Wrote i e e')

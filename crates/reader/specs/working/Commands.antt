@@ -1,6 +1,6 @@
 -- What the readers of commands answer.
 -- Assumes nothing.
-use Rattle.std.specs.Prelude.{◌≡◌, List, [], ◌∷◌, map, ℕ, ◌+◌, ◌≤◌, ◌<◌, length}
+use Rattle.std.specs.Prelude.{◌≡◌, false, List, [], ◌∷◌, map, ℕ, ◌+◌, ◌≤◌, ◌<◌, length, Ok, Err}
 use Rattle.std.specs.Borrow.{MutBor}
 use denote.Triple.Both.{Both}
 use Rattle.std.proofs.lemmas.List.Edits.{sets}
@@ -12,19 +12,16 @@ use Rattle.notation.specs.Layout.{command_code, ends_from, joined}
 use Rattle.notation.specs.working.Lexing.{tokens_from}
 use Rattle.notation.specs.working.Ledger.{Book, note, fault}
 use Rattle.notation.specs.working.Table as T
-use Rattle.notation.specs.working.Descent.{Got, got, stop, then_reads, ruling, reader, or_reader}
+use Rattle.notation.specs.working.Descent.{Got, got, then_reads, ruling, reader, or_reader}
 use Rattle.statements.specs.declared.cursor.Cursor.{Cursor}
 use Rattle.statements.specs.declared.cursor.Ledger.{Ledger}
-use Rattle.statements.specs.declared.cursor.Parsed.{Parsed}
-use Rattle.reader.specs.declared.clauses.Declared.{Declared}
-use Rattle.reader.specs.declared.clauses.Declared.TheVariants as D
 use Rattle.lexer.specs.working.Pieces.{listed, Fresh}
 use Rattle.statements.specs.working.Names.{shared_words, row_words}
-use Rattle.statements.specs.working.Cursors.{book_of, Ready, Wrote, Says}
-use Rattle.statements.specs.working.Items.{items_words}
+use Rattle.statements.specs.working.Cursors.{Parsed, stopped, book_of, Ready, Wrote, Says}
+use Rattle.statements.specs.working.Items.{items_words, all_in}
 use Rattle.reader.specs.Read.{placed}
-use Rattle.reader.specs.working.Clauses.{WroteNames}
-use Rattle.statements.specs.working.Sequences.{Tested, tested, tested_words, all_items}
+use Rattle.reader.specs.working.Clauses.{Declared, WroteNames}
+use Rattle.statements.specs.working.Sequences.{Tested, tested, tested_words}
 
 -- The ledger with k commands more.
 abbrev pub with_commands : ℕ → Ledger → Ledger
@@ -52,16 +49,16 @@ pub record Titled (text names : List ℕ) (l : Ledger) (c : Cursor) (names' : Li
   pub few : l.commands < limit_of COMMANDS
 
 unfoldable pub TitleSays : List ℕ → List ℕ → Ledger → Cursor → List ℕ → Declared → Type 0
-TitleSays text names l c names' (D.Ok d l') = Titled text names l c names' d l'
-TitleSays text names l c names' (D.Refused n i) = (title_at text names l c ≡ stop n i) × (names' ≡ names)
+TitleSays text names l c names' (Ok (d, l')) = Titled text names l c names' d l'
+TitleSays text names l c names' (Err r) = (title_at text names l c ≡ stopped r) × (names' ≡ names)
 
 -- `if`, the test, and the two branches.
 abbrev pub body_reader : ℕ → List Lexeme → Book → Got (Tested Item)
-body_reader len ts b = then_reads (reader len (T.lit IF) ts b) (λ u ts b. tested len (all_items len) DOT (or_reader len free_shared 0 ts b))
+body_reader len ts b = then_reads (reader len (T.lit IF) ts b) (λ u ts b. tested len (all_in false len) DOT (or_reader len free_shared 0 ts b))
 
 abbrev pub BodySays : List ℕ → List ℕ → Ledger → Cursor → List ℕ → List ℕ → Parsed → Type 0
 BodySays text names l c before after r =
-    Says text names l (tested_words text names l (items_words text names l)) 3 c before (body_reader (length text) (listed text c.next) (book_of text names l c)) after r
+    Says text names l (tested_words text names l (items_words text names l false)) 3 c before (body_reader (length text) (listed text c.next) (book_of text names l c)) after r
 
 -- The code of a command, and how many stars it has: the number after its last star.
 abbrev pub command_words : List Word → List Word → ℕ → Command → List ℕ
@@ -134,5 +131,5 @@ abbrev pub one_at : List ℕ → List ℕ → Ledger → Cursor → Got (List Co
 one_at text names l c = then_reads (command_at text names l c) (λ x ts b. got (x ∷ []) ts b)
 
 unfoldable pub CommandsSay : List ℕ → Ledger → Cursor → Arrays → Got (List Command) → Arrays → Declared → Type 0
-CommandsSay text l c s g s' (D.Ok d l') = Commanded text l c s g s' d l'
-CommandsSay text l c s g s' (D.Refused n i) = (g ≡ stop n i) × WroteCommands l c.emitted s s'
+CommandsSay text l c s g s' (Ok (d, l')) = Commanded text l c s g s' d l'
+CommandsSay text l c s g s' (Err r) = (g ≡ stopped r) × WroteCommands l c.emitted s s'

@@ -1,6 +1,6 @@
 -- What the readers of a whole text answer.
 -- Assumes nothing.
-use Rattle.std.specs.Prelude.{◌≡◌, Bool, true, false, List, ◌++◌, ℕ, ◌+◌, length, replicate}
+use Rattle.std.specs.Prelude.{◌≡◌, Bool, true, false, List, ◌++◌, ℕ, ◌+◌, length, replicate, Result, Ok, Err}
 use Rattle.std.proofs.lemmas.List.Edits.{sets}
 use Rattle.notation.specs.Tokens.{SHARED, ROW, START, KEEP, DOT, Name, Lexeme}
 use Rattle.notation.specs.Notation.{Tree, Clause}
@@ -10,22 +10,18 @@ use Rattle.notation.specs.working.Lexing.{tokens}
 use Rattle.notation.specs.working.Ledger.{Book, blank_book}
 use Rattle.notation.specs.working.Table as T
 use Rattle.notation.specs.working.Machine.{read, refused, reading}
-use Rattle.notation.specs.working.Descent.{Got, got, stop, then_reads, reader}
-use Rattle.reader.specs.declared.Answer.TheVariants as A
-use Rattle.reader.specs.declared.Reading.{Reading}
-use Rattle.reader.specs.declared.Summary.{Summary}
+use Rattle.notation.specs.working.Descent.{Got, got, then_reads, reader}
+use Rattle.refusals.specs.declared.Refusal.{Refusal}
+use Rattle.refusals.specs.Reasons.{number_of}
+use Rattle.reader.specs.declared.Code.{Code}
 use Rattle.statements.specs.declared.cursor.Cursor.{Cursor}
 use Rattle.statements.specs.declared.cursor.Ledger.{Ledger}
-use Rattle.statements.specs.declared.cursor.Parsed.{Parsed}
-use Rattle.statements.specs.declared.cursor.Parsed.TheVariants.{Ok, Refused}
-use Rattle.reader.specs.declared.clauses.Declared.{Declared}
-use Rattle.reader.specs.declared.clauses.Declared.TheVariants as D
 use Rattle.lexer.specs.working.Pieces.{listed}
 use Rattle.statements.specs.working.Names.{shared_words, row_words}
-use Rattle.statements.specs.working.Cursors.{book_of, Done, Wrote}
+use Rattle.statements.specs.working.Cursors.{Parsed, stopped, book_of, Done, Wrote}
 use Rattle.statements.specs.working.Items.{kind_of}
 use Rattle.reader.specs.Read.{placed}
-use Rattle.reader.specs.working.Clauses.{WroteNames, clause_words, clause_ends, clause_at}
+use Rattle.reader.specs.working.Clauses.{Declared, WroteNames, clause_words, clause_ends, clause_at}
 use Rattle.statements.specs.working.Sequences.{Pair, paired, pairing}
 use Rattle.reader.specs.working.Commands.{Naming, Arrays, arrays, WroteArrays}
 
@@ -56,8 +52,8 @@ pub record Heads (text names names' : List ℕ) (c : Cursor) (l : Ledger) : Type
   pub naming : Naming text names' l c
 
 unfoldable pub HeadsSay : List ℕ → List ℕ → List ℕ → Declared → Type 0
-HeadsSay text names names' (D.Ok c l) = Heads text names names' c l
-HeadsSay text names names' (D.Refused n i) = (heads_at text ≡ stop n i) × WroteNames 0 names names'
+HeadsSay text names names' (Ok (c, l)) = Heads text names names' c l
+HeadsSay text names names' (Err r) = (heads_at text ≡ stopped r) × WroteNames 0 names names'
 
 -- Both clauses.
 abbrev pub clauses_at : List ℕ → List ℕ → Ledger → Cursor → Got (Pair Clause Clause)
@@ -70,7 +66,7 @@ pub record ClausesDone (text names : List ℕ) (l : Ledger) (c : Cursor) (p e a 
 
 unfoldable pub ClausesSay : List ℕ → List ℕ → Ledger → Cursor → List ℕ → List ℕ → List ℕ → List ℕ → Parsed → Type 0
 ClausesSay text names l c p e a e' (Ok d) = ClausesDone text names l c p e a e' d
-ClausesSay text names l c p e a e' (Refused n i) = (clauses_at text names l c ≡ stop n i) × (Wrote c.emitted p a × Wrote 0 e e')
+ClausesSay text names l c p e a e' (Err r) = (clauses_at text names l c ≡ stopped r) × (Wrote c.emitted p a × Wrote 0 e e')
 
 -- A whole text was read, and the flat form of its model and its names are stored.
 pub record Modelled (text : List ℕ) (s s' : Arrays) (l : Ledger) : Type 0 where
@@ -82,23 +78,18 @@ pub record Modelled (text : List ℕ) (s s' : Arrays) (l : Ledger) : Type 0 wher
   pub stars : s'.stars ≡ sets s.stars 0 (layout_of (model_of tree)).stars
   pub ledger : l ≡ record { shared = (layout_of (model_of tree)).shared; row = (layout_of (model_of tree)).row; commands = (layout_of (model_of tree)).commands }
 
-unfoldable pub ModelSays : List ℕ → Arrays → Arrays → Declared → Type 0
-ModelSays text s s' (D.Ok c l) = Modelled text s s' l
-ModelSays text s s' (D.Refused n i) = (reading (length text) (tokens text) ≡ refused n i) × WroteArrays 0 0 0 0 s s'
+unfoldable pub ModelSays : List ℕ → Arrays → Arrays → Result Ledger Refusal → Type 0
+ModelSays text s s' (Ok l) = Modelled text s s' l
+ModelSays text s s' (Err r) = (reading (length text) (tokens text) ≡ refused (number_of r.reason) r.place) × WroteArrays 0 0 0 0 s s'
 
 -- The arrays before a text is read into them.
 abbrev pub zeros : Arrays
 zeros = arrays (replicate 56 0) (replicate 2048 0) (replicate 20 0) (replicate 16 0)
 
--- The summary of a text that is refused.
-abbrev pub refused_with : ℕ → ℕ → Summary
-refused_with n i = record { answer = A.Refused n i; shared = 0; row = 0; commands = 0 }
+-- The arrays of a code, and how many names of each kind it has.
+abbrev pub arrays_in : Code → Arrays
+arrays_in c = arrays c.names c.ops c.ends c.stars
 
--- The reading that a summary and the arrays make.
-abbrev pub reading_with : Summary → Arrays → Reading
-reading_with r s =
-    record {
-      answer = r.answer;
-      code =
-          record { ops = s.ops; ends = s.ends; stars = s.stars; names = s.names; shared = r.shared; row = r.row; commands = r.commands };
-    }
+abbrev pub counted : Result Code Refusal → Result Ledger Refusal
+counted (Ok c) = Ok (record { shared = c.shared; row = c.row; commands = c.commands })
+counted (Err r) = Err r

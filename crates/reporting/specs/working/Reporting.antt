@@ -8,7 +8,7 @@ use Rattle.notation.specs.working.Answer.{answer}
 use Rattle.sheets.specs.Sheets.{system_of}
 use Rattle.meaning.specs.Evidence.{Verdict}
 use Rattle.exploration.specs.working.Found.{found_in, transitions_of}
-use Rattle.verdicts.specs.declared.finding.Finding.{Finding}
+use Rattle.verdicts.specs.Answers as V
 use Rattle.verdicts.specs.working.Searching.{search_of}
 use Rattle.lines.specs.Lines.{refusal_line}
 use Rattle.reporting.specs.Reports.{report_lines}
@@ -27,7 +27,7 @@ abbrev pub report_of : List ℕ → List ℕ
 report_of text = report_in text (answer text)
 
 -- An answer and the bytes of a sheet buffer that a search of the text left, in one go, over buffers with room for every search.
-pub record Searched (text : List ℕ) (found : Finding) (sheet : List ℕ) : Type 0 where
+pub record Searched (text : List ℕ) (found : V.Searched) (sheet : List ℕ) : Type 0 where
   pub first : List ℕ
   pub second : List ℕ
   pub before : List ℕ

@@ -4,7 +4,7 @@ use Rattle.std.specs.Prelude.{List, ◌++◌, ℕ, ◌+◌, ◌-◌, ◌/◌, �
 use Rattle.notation.specs.Regular.{Every}
 use Rattle.meaning.specs.OneRow.{TraceStep}
 use Rattle.reader.specs.declared.Code.{Code}
-use Rattle.sheets.specs.SheetTexts.{two_at, step_in}
+use Rattle.sheets.specs.SheetTexts.{two_at}
 use Rattle.sheets.specs.working.SheetReading.{map_in, steps_in}
 use Rattle.names.specs.working.Arrays.{name_in, Named}
 use Rattle.counting.specs.CountLines.{count_lines}
@@ -37,12 +37,6 @@ steps_shown text names base sheet = step_lines (λ k. name_in text names (base +
 abbrev pub run_lines : List ℕ → List ℕ → ℕ → List ℕ → List ℕ
 run_lines text names base sheet = unsafe_line (steps_of sheet) ++ (start_line (start_in sheet) ++ steps_shown text names base sheet)
 
--- The payload of a step stands at p, and the step's command has a name.
-pub record StepShown (text names : List ℕ) (base : ℕ) (sheet : List ℕ) (p : ℕ) : Type 0 where
-  pub few : base ≤ 28
-  pub inside : p + 4 ≤ length sheet
-  pub named : Named text names (base + (step_in sheet p).command)
-
 -- A start state stands there, and the command of each step has a name.
 pub record Shown (text names : List ℕ) (base : ℕ) (sheet : List ℕ) : Type 0 where
   pub long : header_end + 8 ≤ length sheet
@@ -69,8 +63,9 @@ abbrev pub map_lines : Code → List ℕ → List ℕ
 map_lines c sheet = count_lines (2 ^ (c.shared + c.row)) (2 ^ c.shared) (map_in sheet payload_start (payload_length sheet))
 
 -- What they ask of the flat form and the sheet.
-abbrev pub MapShown : Code → List ℕ → Type 0
-MapShown c sheet = Countable (c.shared + c.row) c.shared sheet payload_start (payload_length sheet)
+pub record MapShown (c : Code) (sheet : List ℕ) : Type 0 where
+  pub long : payload_start ≤ length sheet
+  pub map : Countable (c.shared + c.row) c.shared (map_in sheet payload_start (payload_length sheet))
 
 -- The report of a safe model, whose map stands in the sheet.
 abbrev pub safe_report : Code → List ℕ → List ℕ

@@ -1,22 +1,13 @@
--- `put_reservation` meets its contract: the lines of what a search rules, or of the refusal.
+-- `put_reservation` meets its contract: there is room for all lines.
 use native.Mathlib.Omega.{arith}
-use Rattle.lines.proofs.Parts.{refusal-fits}
-use Rattle.reserve.proofs.LinesPut.{needs-told, refusal-told}
+use Rattle.lines.proofs.Writers.{front-room, front-put}
+use Rattle.reserve.proofs.LinesTold.{lines-short}
 use Rattle.reserve.proofs.put_reservation.Goals as goal
 
-pub put_refusal-requires : goal.put_refusal-requires
-put_refusal-requires c =
-    refusal-fits c.args.out.now _ _ (omega arith)
+pub put_needs-requires : goal.put_needs-requires
+put_needs-requires c = front-room _ c.new-out.ensures.room c.new-out.ensures.len (omega (arith, lines-short c.args.needs))
 
-pub returns-in-Needs : goal.returns-in-Needs
-returns-in-Needs c =
-    let put = c.put_needs.ensures in
-    record {
-      puts = needs-told c.args.reservation c.args.out.now _ _ _ c.in-Needs.is put.puts;
-      within = put.within;
-    }
-
-pub returns-in-Refused : goal.returns-in-Refused
-returns-in-Refused c =
-    let t = refusal-told c.args.reservation c.args.out.now (omega arith) _ _ c.in-Refused.is c.put_refusal.ensures in
-    record { puts = t.0; within = t.1 }
+pub returns : goal.returns
+returns c =
+    let put = front-put _ c.new-out.ensures.room c.new-out.ensures.len (omega (arith, lines-short c.args.needs)) c.put_needs.ensures c.len.ensures in
+    record { puts = put.0; within = put.1 }

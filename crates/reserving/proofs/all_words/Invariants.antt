@@ -7,9 +7,5 @@ use Rattle.reserving.proofs.all_words.Given as goal
 
 abbrev pub invariant-commands : goal.invariant-commands
 invariant-commands l =
-    (l.k ≤ l.commands)
-    × (l.sum + words_of (λ i. 2 ^ stars_in l.plan.stars i) l.k (l.commands - l.k) ≡ words_of (λ i. 2 ^ stars_in l.plan.stars i) 0 l.commands)
+    (l.sum + words_of (λ i. 2 ^ stars_in l.table.plan.stars i) l.k (l.table.plan.commands - l.k) ≡ words_of (λ i. 2 ^ stars_in l.table.plan.stars i) 0 l.table.plan.commands)
     × (l.sum ≤ 256 * l.k)
-
-abbrev pub decreases-commands : goal.decreases-commands
-decreases-commands l = l.commands - l.k

@@ -10,8 +10,7 @@ use Rattle.exploration.specs.working.Pauses.{GoneOn}
 use Rattle.traversal.specs.declared.exploring.Reach.{Reach}
 use Rattle.pauses.specs.Held.{Held, Holding}
 use Rattle.pauses.specs.working.Pausing as P
-use Rattle.search.specs.declared.position.Paused.{Paused}
-use Rattle.search.specs.Answers.{wording_of}
+use Rattle.search.specs.Answers.{Paused, wording_of}
 
 -- How far the loops went, as a position.
 abbrev pub pause_in : Reach → Pause

@@ -3,6 +3,7 @@
 use Rattle.std.specs.Prelude.{List, ℕ}
 use Rattle.evaluation.specs.working.CodeSystem.{starts_in, breaks_in, next_in, stars_in}
 use Rattle.evaluation.specs.declared.plan.Plan.{Plan}
+use Rattle.evaluation.specs.declared.one_row.OneRow.{OneRow}
 use Rattle.sheets.specs.Sheets.{System}
 use Rattle.sheets.specs.working.SheetReading.{counts_in}
 
@@ -19,3 +20,6 @@ system_in ops plan =
       breaks = breaks_in ops plan.ends;
       step = next_in ops plan.ends plan.bits;
     }
+
+abbrev pub system_at : OneRow → System
+system_at table = system_in table.ops.now table.plan

@@ -1,20 +1,38 @@
 -- What a cursor stands for in a reading, and what a reader of one symbol answers: the descent's own answer, with the code stored.
 -- Assumes nothing.
-use Rattle.std.specs.Prelude.{◌≡◌, List, [], ◌∷◌, ℕ, ◌+◌, ◌*◌, ◌≤◌, length}
+use Rattle.std.specs.Prelude.{◌≡◌, List, [], ◌∷◌, ℕ, ◌+◌, ◌*◌, ◌≤◌, length, Result, Ok, Err}
 use Rattle.std.proofs.lemmas.List.Edits.{sets}
 use Rattle.notation.specs.Notation.{Mode}
 use Rattle.notation.specs.Rules.{NAMES, COMMANDS, ITEMS, NODES, STARS, limit_of}
 use Rattle.notation.specs.Texts.{Numbered, longest_text}
 use Rattle.notation.specs.working.Ledger.{Book}
 use Rattle.notation.specs.working.Descent.{Got, got, stop}
+use Rattle.refusals.specs.declared.Reason.{Reason}
+use Rattle.refusals.specs.declared.Refusal.{Refusal}
+use Rattle.refusals.specs.Reasons.{number_of}
+use Rattle.lexer.specs.working.Kinds.{kind_number}
 use Rattle.lexer.specs.declared.pieces.Piece.{Piece}
 use Rattle.statements.specs.declared.cursor.Cursor.{Cursor}
 use Rattle.statements.specs.declared.cursor.Ledger.{Ledger}
 use Rattle.statements.specs.declared.cursor.Scope.{Scope}
-use Rattle.statements.specs.declared.cursor.Parsed.{Parsed}
-use Rattle.statements.specs.declared.cursor.Parsed.TheVariants.{Ok, Refused}
-use Rattle.lexer.specs.working.Pieces.{listed, Fresh, piece_at}
+use Rattle.lexer.specs.working.Pieces.{misplaced, listed, Fresh, piece_at}
 use Rattle.statements.specs.working.Names.{names_kept}
+
+-- What a reader answers, and the answer that a result and the cursor behind it make.
+abbrev pub Parsed : Type 0
+Parsed = Result Cursor Refusal
+
+abbrev pub reached : Result (Unit {0}) Refusal → Cursor → Parsed
+reached (Ok u) c = Ok c
+reached (Err r) c = Err r
+
+-- The refusal for a reason, told of a piece.
+abbrev pub refused_at : Reason → Piece → Refusal
+refused_at q t = record { reason = q; place = t.start }
+
+-- The descent's answer where it refuses so.
+abbrev pub stopped : {A : Type 0} → Refusal → Got A
+stopped r = stop (number_of r.reason) r.place
 
 abbrev pub mode_of : Scope → Mode
 mode_of sc = record { rows = sc.rows; stars = sc.stars }
@@ -28,14 +46,18 @@ book_of text names l c =
 abbrev pub moved : Piece → Cursor → ℕ → ℕ → ℕ → Cursor
 moved u c items nodes stars = record { next = u; emitted = c.emitted; items = items; nodes = nodes; stars = stars }
 
+-- The cursor past its piece.
+abbrev pub passed : List ℕ → Cursor → Cursor
+passed text c = moved (piece_at text c.next.end) c c.items c.nodes c.stars
+
 -- The cursor with one code word more.
 abbrev pub emitted : Cursor → Cursor
 emitted c = record { next = c.next; emitted = c.emitted + 1; items = c.items; nodes = c.nodes; stars = c.stars }
 
 -- The answer where a sign of this kind has to stand.
 unfoldable pub Expected : List ℕ → Cursor → ℕ → Parsed → Type 0
-Expected text c k (Ok d) = (c.next.kind ≡ k) × (d ≡ moved (piece_at text c.next.end) c c.items c.nodes c.stars)
-Expected text c k (Refused n i) = (c.next.kind ≡ k → ⊥) × ((n ≡ c.next.fault) × (i ≡ c.next.start))
+Expected text c k (Ok d) = (kind_number c.next.kind ≡ k) × (d ≡ passed text c)
+Expected text c k (Err r) = (kind_number c.next.kind ≡ k → ⊥) × (r ≡ misplaced c.next)
 
 -- What holds wherever a reader is called: the counts are within their limits, and there is room for the code to come and for `spare` words besides.
 pub record Ready (text : List ℕ) (l : Ledger) (spare : ℕ) (c : Cursor) : Type 0 where
@@ -72,4 +94,4 @@ pub record Wrote (i : ℕ) (before after : List ℕ) : Type 0 where
 -- The answer is what the descent answers, g. What was stored before the reader began stands after a refusal too.
 pub data Says {A : Type 0} (text names : List ℕ) (l : Ledger) (code : ℕ → A → Numbered (List ℕ)) (extra : ℕ) (c₀ : Cursor) (before : List ℕ) (g : Got A) (after : List ℕ) : Parsed → Type 0 where
   was_read : {c : Cursor} → Done text names l code extra c₀ before g after c → Says text names l code extra c₀ before g after (Ok c)
-  was_refused : {n i : ℕ} → g ≡ stop n i → Wrote c₀.emitted before after → Says text names l code extra c₀ before g after (Refused n i)
+  was_refused : {r : Refusal} → g ≡ stopped r → Wrote c₀.emitted before after → Says text names l code extra c₀ before g after (Err r)

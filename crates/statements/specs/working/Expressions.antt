@@ -1,7 +1,6 @@
 -- What the readers of an expression's levels answer.
 -- Assumes nothing.
-use Rattle.std.specs.Prelude.{◌≡◌, List, ℕ, ◌+◌, ◌-◌, ◌≤◌, ◌<◌, length, set}
-use Rattle.notation.specs.Tokens.{CLOSE}
+use Rattle.std.specs.Prelude.{◌≡◌, List, ℕ, ◌+◌, ◌-◌, ◌≤◌, ◌<◌, length, set, Ok, Err}
 use Rattle.notation.specs.Notation.{Expr}
 use Rattle.notation.specs.Rules.{NODES, limit_of, depth_limit}
 use Rattle.notation.specs.Texts.{Numbered, numbered, expr_of}
@@ -11,11 +10,10 @@ use Rattle.notation.specs.working.Descent.{Got, reader, or_reader, and_reader}
 use Rattle.statements.specs.declared.cursor.Cursor.{Cursor}
 use Rattle.statements.specs.declared.cursor.Ledger.{Ledger}
 use Rattle.statements.specs.declared.cursor.Scope.{Scope}
-use Rattle.statements.specs.declared.cursor.Parsed.{Parsed}
-use Rattle.statements.specs.declared.cursor.Parsed.TheVariants.{Ok, Refused}
+use Rattle.refusals.specs.declared.Reason.TheVariants.{TooMany}
 use Rattle.lexer.specs.working.Pieces.{listed, piece_at}
 use Rattle.statements.specs.working.Names.{shared_words, row_words}
-use Rattle.statements.specs.working.Cursors.{mode_of, book_of, moved, emitted, Expected, Says}
+use Rattle.statements.specs.working.Cursors.{Parsed, refused_at, mode_of, book_of, moved, emitted, Says}
 
 -- The code of an expression, its stars numbered from k on, and the next number.
 unfoldable pub expr_words : List ℕ → List ℕ → Ledger → ℕ → Expr → Numbered (List ℕ)
@@ -39,26 +37,12 @@ or_at text names sc l depth c = or_reader (length text) (mode_of sc) (depth_limi
 unfoldable pub Leaf : List ℕ → Cursor → ℕ → ℕ → List ℕ → List ℕ → Parsed → Type 0
 Leaf text c code stars before after (Ok d) =
     (c.nodes < limit_of NODES) × ((d ≡ emitted (moved (piece_at text c.next.end) c c.items (c.nodes + 1) stars)) × (after ≡ set before c.emitted code))
-Leaf text c code stars before after (Refused n i) = (limit_of NODES ≤ c.nodes) × ((n ≡ 7) × ((i ≡ c.next.start) × (after ≡ before)))
+Leaf text c code stars before after (Err r) = (limit_of NODES ≤ c.nodes) × ((r ≡ refused_at TooMany c.next) × (after ≡ before))
 
 -- An operand is refused before anything is stored.
 unfoldable pub Kept : List ℕ → List ℕ → Parsed → Type 0
 Kept before after (Ok c) = Unit {0}
-Kept before after (Refused n i) = after ≡ before
+Kept before after (Err r) = after ≡ before
 
 abbrev pub SaysOperand : List ℕ → List ℕ → Ledger → Cursor → List ℕ → Got Expr → List ℕ → Parsed → Type 0
 SaysOperand text names l c before g after r = SaysExpr text names l c before g after r × Kept before after r
-
-abbrev pub roomed : Parsed → Type 0
-roomed (Ok c) = c.emitted < 2048
-roomed (Refused n i) = Unit {0}
-
--- An operator's code word after its operand's.
-unfoldable pub AfterNode : ℕ → Parsed → List ℕ → List ℕ → Parsed → Type 0
-AfterNode code (Ok c) before after r = (r ≡ Ok (emitted c)) × (after ≡ set before c.emitted code)
-AfterNode code (Refused n i) before after r = (r ≡ Refused n i) × (after ≡ before)
-
--- The closing parenthesis after what it encloses.
-unfoldable pub AfterClose : List ℕ → Parsed → Parsed → Type 0
-AfterClose text (Ok c) r = Expected text c CLOSE r
-AfterClose text (Refused n i) r = r ≡ Refused n i

@@ -1,14 +1,13 @@
 -- Readers one after the other: a pair of values, a sign after a value, and a test with its two branches.
 -- Assumes nothing.
-use Rattle.std.specs.Prelude.{List, ◌∷◌, ◌++◌, ℕ}
+use Rattle.std.specs.Prelude.{List, ◌++◌, ℕ}
 use Rattle.notation.specs.Tokens.{Lexeme, DO, ELSE}
 use Rattle.notation.specs.Notation.{Expr}
 use Rattle.notation.specs.Texts.{Numbered, numbered}
 use Rattle.notation.specs.Layout.{WHEN, OTHERWISE, DONE}
 use Rattle.notation.specs.working.Ledger.{Book}
-use Rattle.notation.specs.working.Table.{lit, row_item, row_items, item, items}
+use Rattle.notation.specs.working.Table.{lit}
 use Rattle.notation.specs.working.Descent.{Got, got, then_reads, reader}
-use Rattle.notation.specs.Notation.{RowItem, Item}
 use Rattle.statements.specs.declared.cursor.Ledger.{Ledger}
 use Rattle.statements.specs.working.Expressions.{expr_words}
 use Rattle.statements.specs.working.Items.{with_word}
@@ -33,13 +32,6 @@ pairing g h = then_reads g (λ a ts b. then_reads (h ts b) (λ v ts b. got (pair
 -- What is read, and then a sign.
 abbrev pub signed_by : {A : Type 0} → ℕ → ℕ → Got A → Got A
 signed_by len kind g = then_reads g (λ a ts b. then_reads (reader len (lit kind) ts b) (λ u ts b. got a ts b))
-
--- One item and the rest.
-abbrev pub all_rows : ℕ → List Lexeme → Book → Got (List RowItem)
-all_rows len ts b = then_reads (reader len row_item ts b) (λ x ts b. then_reads (reader len row_items ts b) (λ xs ts b. got (x ∷ xs) ts b))
-
-abbrev pub all_items : ℕ → List Lexeme → Book → Got (List Item)
-all_items len ts b = then_reads (reader len item ts b) (λ x ts b. then_reads (reader len items ts b) (λ xs ts b. got (x ∷ xs) ts b))
 
 -- What a test and two branches make.
 abbrev pub Tested : Type 0 → Type 0

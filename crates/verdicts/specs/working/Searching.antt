@@ -1,7 +1,8 @@
 -- What a call of the search leaves, as a computation.
 -- Assumes nothing.
-use Rattle.std.specs.Prelude.{Bool, cond, ◌&&◌, List, ℕ, leb, length}
+use Rattle.std.specs.Prelude.{Bool, cond, ◌&&◌, List, ℕ, leb, length, Ok, Err}
 use Rattle.std.proofs.lemmas.List.Edits.{sets}
+use Rattle.refusals.specs.Reasons.{refusal_of}
 use Rattle.notation.specs.Texts.{model_of}
 use Rattle.notation.specs.working.Machine as N
 use Rattle.notation.specs.working.Answer.{answer}
@@ -12,14 +13,14 @@ use Rattle.exploration.specs.working.Exploring.{Progress}
 use Rattle.exploration.specs.working.Results.{result_of}
 use Rattle.exploration.specs.working.Found.{found_in, verdict_for, transitions_of}
 use Rattle.verdicts.specs.declared.finding.Finding.{Finding}
-use Rattle.verdicts.specs.declared.finding.Finding.TheVariants.{Safe, Void, Unsafe, Refused}
+use Rattle.verdicts.specs.declared.finding.Finding.TheVariants.{Safe, Void, Unsafe}
 use Rattle.verdicts.specs.Left.{Left, zeroed}
 
 -- Whether the lent tables have an entry for each state, and the lent buffer has room for every sheet.
 unfoldable pub roomy : System → List ℕ → List ℕ → List ℕ → Bool
 roomy M first second sheet = leb (size M) (length first) && (leb (size M) (length second) && leb (sheet_room M) (length sheet))
 
--- The answer that gives a verdict, whose sheet has so many bytes, after so many trials.
+-- The finding that gives a verdict, whose sheet has so many bytes, after so many trials.
 unfoldable pub verdict_of : Verdict → ℕ → ℕ → Finding
 verdict_of (safe_by map) n t = Safe n t
 verdict_of (void_by map) n t = Void n
@@ -29,7 +30,7 @@ verdict_of (unsafe_by s xs) n t = Unsafe n
 abbrev pub left_with : System → Verdict → ℕ → List ℕ → List ℕ → List ℕ → Left
 left_with M x t first second sheet =
     record {
-      answer = verdict_of x (length (sheet_bytes M (evidence_of x))) t;
+      answer = Ok (verdict_of x (length (sheet_bytes M (evidence_of x))) t);
       first = zeroed (size M) first;
       second = zeroed (size M) second;
       sheet = sets sheet 0 (sheet_bytes M (evidence_of x));
@@ -37,7 +38,7 @@ left_with M x t first second sheet =
 
 -- After a refusal every buffer is as it was.
 abbrev pub left_alone : ℕ → ℕ → List ℕ → List ℕ → List ℕ → Left
-left_alone n p first second sheet = record { answer = Refused n p; first = first; second = second; sheet = sheet }
+left_alone n p first second sheet = record { answer = Err (refusal_of n p); first = first; second = second; sheet = sheet }
 
 -- Where a search went so, after so many trials.
 abbrev pub left_by : System → Progress → ℕ → List ℕ → List ℕ → List ℕ → Left

@@ -1,11 +1,7 @@
 -- `rows_of` meets its contract: the rows before r are filled.
-use Prim.Native.Nat.{◌-◌, ◌≤◌}
 use mathlib.Core.Path.{◌≡◌}
 use Rattle.evaluation.specs.working.Ends.{fills, row_of}
 use Rattle.evaluation.proofs.lanes.rows_of.Given as goal
 
 abbrev pub invariant-loop-r : goal.invariant-loop-r
-invariant-loop-r l = (l.r ≤ 16) × (l.n ≤ 16) × (l.out ≡ fills (row_of l.cells l.n) l.r l.initial.out)
-
-abbrev pub decreases-loop-r : goal.decreases-loop-r
-decreases-loop-r l = 16 - l.r
+invariant-loop-r l = l.out ≡ fills (row_of l.cells l.n) l.r l.initial.out

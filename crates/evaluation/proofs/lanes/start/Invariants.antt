@@ -1,5 +1,5 @@
 -- `start` meets its contract: the cells before i are filled.
-use Prim.Native.Nat.{◌-◌, ◌≤◌, ◌*◌}
+use Prim.Native.Nat.{◌*◌}
 use mathlib.Core.Path.{◌≡◌}
 use Rattle.evaluation.specs.working.Ends.{fills}
 use Rattle.meaning.specs.working.Digits.{digit}
@@ -7,7 +7,4 @@ use Rattle.evaluation.specs.working.Cells.{ones}
 use Rattle.evaluation.proofs.lanes.start.Given as goal
 
 abbrev pub invariant-loop-i : goal.invariant-loop-i
-invariant-loop-i l = (l.i ≤ l.n) × (l.n ≤ 32) × (l.cells ≡ fills (λ k. digit l.state k * ones) l.i l.initial.cells)
-
-abbrev pub decreases-loop-i : goal.decreases-loop-i
-decreases-loop-i l = l.n - l.i
+invariant-loop-i l = l.cells ≡ fills (λ k. digit l.state k * ones) l.i l.initial.cells

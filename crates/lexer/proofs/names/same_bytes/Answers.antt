@@ -1,8 +1,10 @@
 -- The first k bytes are the same but for case exactly if all are, since those behind them are.
 use mathlib.Core.Path.{refl, sym, ap, ◌∙◌}
-use Prim.Native.Nat.{◌≤◌}
+use Prim.Native.Nat.{◌≤◌, ◌+◌, ◌-◌}
+use lib.ListN.{get_or}
 use native.Mathlib.Omega.{arith}
 use Rattle.lexer.specs.working.Names.{same_first}
+use Rattle.lexer.proofs.Spelling.{same_is}
 use Rattle.lexer.proofs.Lookup.{last-no, last_more, none_left, left_le, left_same}
 use Rattle.lexer.proofs.names.same_bytes.Goals as goal
 use Rattle.lexer.proofs.names.same_bytes.Goals.{After-left_to_compare-m}
@@ -17,13 +19,17 @@ fewer c =
 pub loop-k-init : goal.loop-k-init
 loop-k-init c = (omega arith, refl)
 
-pub returns-then-not-same : goal.returns-then-not-same
-returns-then-not-same c =
-    last-no _ _ _ _ _ (omega arith) (sym c.same_but_for_case-same.ensures ∙ c.if-not-same.true) ∙ c.loop-k.invariant.1
+pub returns-then-not-eq_ignore_ascii_case : goal.returns-then-not-eq_ignore_ascii_case
+returns-then-not-eq_ignore_ascii_case c =
+    let a = c.args in
+    let q = same_is (get_or a.text.now (a.b + (c.loop-k.k - 1)) 0) (get_or a.text.now (a.a + (c.loop-k.k - 1)) 0) in
+    last-no _ _ _ _ (c.loop-k.k - 1) (omega arith) (sym q ∙ sym c.eq_ignore_ascii_case.ensures ∙ c.if-not-eq_ignore_ascii_case.true) ∙ c.loop-k.invariant.1
 
-pub loop-k-preserved-then-m-k : goal.loop-k-preserved-then-m-k
-loop-k-preserved-then-m-k c =
-    (omega arith, last_more _ _ _ _ _ (omega arith) (sym c.same_but_for_case-same.ensures ∙ c.if-not-same.false) ∙ c.loop-k.invariant.1)
+pub loop-k-preserved-else-not-eq_ignore_ascii_case : goal.loop-k-preserved-else-not-eq_ignore_ascii_case
+loop-k-preserved-else-not-eq_ignore_ascii_case c =
+    let a = c.args in
+    let q = same_is (get_or a.text.now (a.b + (c.loop-k.k - 1)) 0) (get_or a.text.now (a.a + (c.loop-k.k - 1)) 0) in
+    (omega arith, last_more _ _ _ _ (c.loop-k.k - 1) (omega arith) (sym q ∙ sym c.eq_ignore_ascii_case.ensures ∙ c.if-not-eq_ignore_ascii_case.false) ∙ c.loop-k.invariant.1)
 
 pub loop-k-smaller : goal.loop-k-smaller
 loop-k-smaller c = let l = fewer (goal.at.loop-k-smaller c).After-left_to_compare-m in omega (arith, l)

@@ -1,32 +1,33 @@
 -- Each answer is the token that the definition gives a byte that passed the tests so far.
 use mathlib.Core.Path.{◌≡◌, sym, ◌∙◌}
 use mathlib.Core.Bool.{false}
-use borrow.Author.Tests.{eq-eqb, ne_eqb}
+use native.Mathlib.Omega.{arith}
+use borrow.Author.Tests.{ne_eqb}
 use Rattle.notation.specs.Bytes.{letter}
 use Rattle.lexer.specs.working.Pieces.{byte_piece}
+use Rattle.lexer.proofs.Spelling.{letter_is}
 use Rattle.lexer.proofs.pieces.byte_piece.Goals as goal
-use Rattle.lexer.proofs.pieces.byte_piece.Goals.{Else-named}
+use Rattle.lexer.proofs.pieces.byte_piece.Goals.{Else-is_ascii_alphabetic}
 
-no-letter : (c : Else-named) →
-    letter c.args.b ≡ false
-no-letter c = sym c.is_letter-named.ensures ∙ c.if-named.false
+no-letter : (c : Else-is_ascii_alphabetic) → letter c.args.b ≡ false
+no-letter c = sym (letter_is c.args.b) ∙ sym c.is_ascii_alphabetic.ensures.value ∙ c.if-is_ascii_alphabetic.false
 
-pub returns-then-named : goal.returns-then-named
+pub returns-then-is_ascii_alphabetic : goal.returns-then-is_ascii_alphabetic
 unfolding byte_piece
-returns-then-named c =
-    rw (sym c.is_letter-named.ensures ∙ c.if-named.true) c.token.ensures
+returns-then-is_ascii_alphabetic c =
+    rw (sym (letter_is c.args.b) ∙ sym c.is_ascii_alphabetic.ensures.value ∙ c.if-is_ascii_alphabetic.true) c.token.ensures
 
-pub returns-then-b-eq48 : goal.returns-then-b-eq48
+pub returns-in-48 : goal.returns-in-48
 unfolding byte_piece
-returns-then-b-eq48 c =
-    rw (no-letter (goal.at.returns-then-b-eq48 c).Else-named, eq-eqb _ _ c.if-b-eq48.true) c.token-then-b-eq48.ensures
+returns-in-48 c = rw (no-letter (goal.at.returns-in-48 c).Else-is_ascii_alphabetic, c.in-48.is) c.token-in-48.ensures
 
-pub returns-then-b-eq49 : goal.returns-then-b-eq49
+pub returns-in-49 : goal.returns-in-49
 unfolding byte_piece
-returns-then-b-eq49 c =
-    rw (no-letter (goal.at.returns-then-b-eq49 c).Else-named, ne_eqb _ _ c.if-b-eq48.false, eq-eqb _ _ c.if-b-eq49.true) c.token-then-b-eq49.ensures
+returns-in-49 c = rw (no-letter (goal.at.returns-in-49 c).Else-is_ascii_alphabetic, c.in-49.is) c.token-in-49.ensures
 
-pub returns : goal.returns
+pub returns-in_default : goal.returns-in_default
 unfolding byte_piece
-returns c =
-    rw (no-letter (goal.at.returns c).Else-named, ne_eqb _ _ c.if-b-eq48.false, ne_eqb _ _ c.if-b-eq49.false) c.token-2.ensures
+returns-in_default c =
+    let zero : c.args.b ≡ 48 → ⊥ = omega arith in
+    let one : c.args.b ≡ 49 → ⊥ = omega arith in
+    rw (no-letter (goal.at.returns-in_default c).Else-is_ascii_alphabetic, ne_eqb _ _ zero, ne_eqb _ _ one) c.token-in_default.ensures

@@ -1,4 +1,5 @@
 -- Each arm makes the piece that the definition gives for its byte.
+use native.Mathlib.Omega.{arith}
 use borrow.Author.Tests.{eq-eqb, ne_eqb}
 use Rattle.lexer.specs.working.Pieces.{mark_piece}
 use Rattle.lexer.proofs.pieces.mark_piece.Goals as goal
@@ -40,15 +41,13 @@ returns-else-next-eq61 c =
 pub returns-in_default : goal.returns-in_default
 unfolding mark_piece
 returns-in_default c =
-    let n = c.in_default.in_default-own.rest in
     simp (
-      ne_eqb _ _ n.0.0.0.0.0.0.1,
-      ne_eqb _ _ n.0.0.0.0.0.1,
-      ne_eqb _ _ n.0.0.0.0.1,
-      ne_eqb _ _
-          n.0.0.0.1,
-      ne_eqb _ _ n.0.0.1,
-      ne_eqb _ _ n.0.1,
-      ne_eqb _ _ n.1,
+      ne_eqb c.args.b 58 (omega arith),
+      ne_eqb c.args.b 46 (omega arith),
+      ne_eqb c.args.b 59 (omega arith),
+      ne_eqb c.args.b 40 (omega arith),
+      ne_eqb c.args.b 41 (omega arith),
+      ne_eqb c.args.b 42 (omega arith),
+      ne_eqb c.args.b 61 (omega arith),
     )
     c.refused.ensures

@@ -10,16 +10,16 @@ returns-then-n-s c =
 
 pub word_piece-requires : goal.word_piece-requires
 word_piece-requires c = (
-  run-grows word-run _ _ _ c.if-n-s.false (sym c.is_word-word.ensures ∙ c.if-word.true) c.word_end-e.ensures.0,
+  run-grows word-run _ _ _ c.if-n-s.false (sym c.is_word.ensures ∙ c.if-is_word.true) c.word_end-e.ensures.0,
   c.word_end-e.ensures.1,
 )
 
-pub returns-then-word : goal.returns-then-word
-returns-then-word c =
-    at-word _ _ _ c.skip_blanks-s.ensures c.if-n-s.false (sym c.is_word-word.ensures ∙ c.if-word.true)
+pub returns-then-is_word : goal.returns-then-is_word
+returns-then-is_word c =
+    at-word _ _ _ c.skip_blanks-s.ensures c.if-n-s.false (sym c.is_word.ensures ∙ c.if-is_word.true)
     c.word_end-e.ensures.0 c.word_piece.ensures
 
 pub returns : goal.returns
 returns c =
-    at_mark _ _ _ c.skip_blanks-s.ensures c.if-n-s.false (sym c.is_word-word.ensures ∙ c.if-word.false)
+    at_mark _ _ _ c.skip_blanks-s.ensures c.if-n-s.false (sym c.is_word.ensures ∙ c.if-is_word.false)
     c.byte_at-next.ensures c.mark_piece.ensures

@@ -1,17 +1,12 @@
--- A word that is longer than seven letters is none; any other is looked up in the tables.
-use mathlib.Core.Path.{subst⁻¹}
-use Prim.Native.Nat.{ℕ, ◌<◌}
-use lib.Seq.{length-slice}
+-- The table is that of the reserved words, with the kinds of their pieces.
+use mathlib.Core.Path.{refl, ap, ◌∙◌}
 use Rattle.notation.specs.Bytes.{bytes}
-use Rattle.notation.specs.Tokens.{reserved}
-use Rattle.lexer.proofs.Spelling.{row, rows, tabled, look_long}
+use Rattle.notation.specs.Tokens.{reserved, word_in}
+use Rattle.lexer.specs.working.Kinds.{kind_of}
+use Rattle.lexer.specs.working.Pieces.{found}
+use Rattle.lexer.proofs.Spelling.{part_is, kinded, kind_found}
 use Rattle.lexer.proofs.words.reserved_at.Goals as goal
 
-pub returns-then-e-s-gt-LONGEST : goal.returns-then-e-s-gt-LONGEST
-returns-then-e-s-gt-LONGEST c =
-    look_long _ (subst⁻¹ (λ (n : ℕ). 7 < n) (length-slice _ _ _ c.requires.1) c.if-e-s-gt-LONGEST.true)
-
-pub number_in-requires : goal.number_in-requires
-unfolding row rows reserved bytes
-number_in-requires c =
-    (tabled, c.requires)
+pub returns : goal.returns
+unfolding reserved bytes kinded kind_of
+returns c = c.kind_in.ensures ∙ kind_found _ _ reserved 0 (record { rows = refl }) ∙ ap (λ w. found (word_in w reserved 0)) (part_is _ _ _ c.requires.0)

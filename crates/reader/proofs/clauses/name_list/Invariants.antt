@@ -4,7 +4,7 @@ use Rattle.reader.proofs.NameLists.{Rest}
 use Rattle.reader.proofs.clauses.name_list.Given as goal
 
 abbrev pub invariant-listed : goal.invariant-listed
-invariant-listed l = Rest l.text l.rows l.initial.names l.initial.led l.initial.cur l.names l.led l.cur
+invariant-listed l = Rest l.text l.rows l.initial.names l.initial.l l.initial.c l.names l.l l.c
 
 abbrev pub decreases-listed : goal.decreases-listed
-decreases-listed l = 12 - (l.led.shared + l.led.row)
+decreases-listed l = 12 - (l.l.shared + l.l.row)

@@ -1,112 +1,94 @@
 -- `body` meets its contract: `if`, and then a test and its two branches, each followed by its sign and its code word.
+use mathlib.Core.Bool.{false}
 use native.Mathlib.Omega.{arith}
-use lib.ListN.{length}
-use Rattle.statements.specs.working.Items.{items_words}
-use Rattle.statements.specs.working.Sequences.{all_items}
-use Rattle.statements.proofs.StoredCode.{wrote_none, says_same}
-use Rattle.statements.proofs.Moves.{expected_said, ready-less}
-use Rattle.statements.proofs.TwoBranches.{test-roomed, first_bad, yes-ready, done-roomed, second_bad, no-ready}
-use Rattle.statements.proofs.TwoBranches.{rest-roomed, tested-says}
+use Rattle.statements.specs.working.Cursors.{Ready, was_refused}
+use Rattle.statements.proofs.Moves.{ready-less}
+use Rattle.statements.proofs.StoredCode.{wrote_none, passed, said_ok}
+use Rattle.statements.proofs.TwoBranches.{test_bad, test_room, first_bad, yes-ready, done_bad, mid_room, second_bad, no-ready}
+use Rattle.statements.proofs.TwoBranches.{rest_bad, rest_room, tested-says}
 use Rattle.reader.proofs.Bodies.{body_bad, body-ready, body-says}
-use Rattle.notation.specs.Tokens.{IF}
-use Rattle.statements.specs.declared.cursor.Parsed.TheVariants.{Ok}
-use Rattle.statements.specs.working.Cursors.{Expected, Ready}
 use Rattle.reader.proofs.commands.body.Goals as goal
-use Rattle.reader.proofs.commands.body.Goals.{In-Ok}
+use Rattle.reader.proofs.commands.body.Goals.{In_ok-expect}
 
--- The sign is there, and a reader may be called past it.
-there : (c : In-Ok) → Expected c.args.text.now c.args.c IF (Ok c.in-Ok.inside)
-there c =
-    expected_said _ _ _ _ _ c.expect-sign.ensures c.in-Ok.is
-
-ready : (c : In-Ok) → Ready c.args.text.now c.args.l 3 c.in-Ok.inside
+-- A reader may be called past the sign.
+ready : (c : In_ok-expect) → Ready c.args.text.now c.args.l 3 c.expect.new.self
 ready c =
-    body-ready _ c.args.names.now _ _ c.requires _ (there c)
+    body-ready _ c.args.names.now _ _ c.requires _ c.in_ok-expect.ensures
 
-pub returns-in_default : goal.returns-in_default
-returns-in_default c =
-    says_same c.in_default.is
-    (body_bad _ _ _ _ c.requires _ _
-    (expected_said _ _ _ _ _ c.expect-sign.ensures c.in_default.is))
-    wrote_none
+pub returns-in_err-expect : goal.returns-in_err-expect
+returns-in_err-expect c =
+    rw (passed c.from_residual.result c.from_residual.ensures.1)
+    (was_refused (body_bad _ _ _ _ c.requires _ c.in_err-expect.ensures) wrote_none)
 
-pub or_level-test-requires : goal.or_level-test-requires
-or_level-test-requires c =
-    (omega arith, ready-less (ready (goal.at.or_level-test-requires c).In-Ok) (omega arith))
+pub or_level-requires : goal.or_level-requires
+or_level-requires c =
+    (omega arith, ready-less (ready (goal.at.or_level-requires c).In_ok-expect) (omega arith))
 
-pub mark-first-requires : goal.mark-first-requires
-mark-first-requires c =
-    let names = c.args.names.now in
-    let text = c.args.text.now in
-    let l = c.args.l in
-    test-roomed text names l (items_words text names l) (all_items (length text)) 18 (omega arith) (ready (goal.at.mark-first-requires c).In-Ok)
-    c.or_level-test.ensures
-
-pub returns-in_default-first : goal.returns-in_default-first
-returns-in_default-first c =
-    let names = c.args.names.now in
-    let text = c.args.text.now in
-    let l = c.args.l in
-    body-says _ _ _ _ c.requires _
-    (there (goal.at.returns-in_default-first c).In-Ok) _ _ _
-    (first_bad text names l (items_words text names l) (all_items (length text)) 18 (omega arith) (ready (goal.at.returns-in_default-first c).In-Ok)
-    c.or_level-test.ensures _ _ c.mark-first.ensures c.in_default-first.is)
-
-pub items-done-requires : goal.items-done-requires
-items-done-requires c =
-    let names = c.args.names.now in
-    let text = c.args.text.now in
-    let l = c.args.l in
-    yes-ready text names l (items_words text names l) (all_items (length text)) 18 (omega arith) (ready (goal.at.items-done-requires c).In-Ok)
-    c.or_level-test.ensures _ _ c.mark-first.ensures c.in-Ok-first.is
-
-pub mark-second-requires : goal.mark-second-requires
-mark-second-requires c =
-    let names = c.args.names.now in
-    let text = c.args.text.now in
-    let l = c.args.l in
-    done-roomed text names l (items_words text names l) (all_items (length text)) 18 (omega arith) (ready (goal.at.mark-second-requires c).In-Ok)
-    c.or_level-test.ensures _ _ c.mark-first.ensures c.in-Ok-first.is
-    c.items-done.ensures
-
-pub returns-in_default-second : goal.returns-in_default-second
-returns-in_default-second c =
-    let names = c.args.names.now in
-    let text = c.args.text.now in
-    let l = c.args.l in
-    body-says _ _ _ _ c.requires _
-    (there (goal.at.returns-in_default-second c).In-Ok) _ _ _
-    (second_bad text names l (items_words text names l) (all_items (length text)) 18 (omega arith) (ready (goal.at.returns-in_default-second c).In-Ok)
-    c.or_level-test.ensures _ _ c.mark-first.ensures c.in-Ok-first.is
-    c.items-done.ensures _ _ c.mark-second.ensures c.in_default-second.is)
-
-pub items-rest-requires : goal.items-rest-requires
-items-rest-requires c =
-    let names = c.args.names.now in
-    let text = c.args.text.now in
-    let l = c.args.l in
-    no-ready text names l (items_words text names l) (all_items (length text)) 18 (omega arith) (ready (goal.at.items-rest-requires c).In-Ok)
-    c.or_level-test.ensures _ _ c.mark-first.ensures c.in-Ok-first.is
-    c.items-done.ensures _ _ c.mark-second.ensures c.in-Ok-second.is
+pub returns-in_err-or_level : goal.returns-in_err-or_level
+returns-in_err-or_level c =
+    rw (passed c.from_residual-in_err-or_level.result c.from_residual-in_err-or_level.ensures.1)
+    (body-says _ _ _ _ c.requires _ c.in_ok-expect.ensures _ _ _
+    (test_bad _ _ _ false 18 c.in_err-or_level.ensures))
 
 pub mark-requires : goal.mark-requires
 mark-requires c =
-    let names = c.args.names.now in
-    let text = c.args.text.now in
-    let l = c.args.l in
-    rest-roomed text names l (items_words text names l) (all_items (length text)) 18 (omega arith) (ready (goal.at.mark-requires c).In-Ok)
-    c.or_level-test.ensures _ _ c.mark-first.ensures c.in-Ok-first.is
-    c.items-done.ensures _ _ c.mark-second.ensures c.in-Ok-second.is
-    c.items-rest.ensures
+    test_room _ _ _ false 18 (omega arith) (ready (goal.at.mark-requires c).In_ok-expect)
+    (said_ok c.in_ok-or_level.ensures)
+
+pub returns-in_err-mark : goal.returns-in_err-mark
+returns-in_err-mark c =
+    rw (passed c.from_residual-in_err-mark.result c.from_residual-in_err-mark.ensures.1)
+    (body-says _ _ _ _ c.requires _ c.in_ok-expect.ensures _ _ _
+    (first_bad _ _ _ false 18 (omega arith) (ready (goal.at.returns-in_err-mark c).In_ok-expect) (said_ok c.in_ok-or_level.ensures) _ _ c.in_err-mark.ensures))
+
+pub items-requires : goal.items-requires
+items-requires c =
+    yes-ready _ _ _ false 18 (omega arith) (ready (goal.at.items-requires c).In_ok-expect)
+    (said_ok c.in_ok-or_level.ensures) _ _ c.in_ok-mark.ensures
+
+pub returns-in_err-items : goal.returns-in_err-items
+returns-in_err-items c =
+    rw (passed c.from_residual-in_err-items.result c.from_residual-in_err-items.ensures.1)
+    (body-says _ _ _ _ c.requires _ c.in_ok-expect.ensures _ _ _
+    (done_bad _ _ _ false 18 (omega arith) (ready (goal.at.returns-in_err-items c).In_ok-expect) (said_ok c.in_ok-or_level.ensures) _ _ c.in_ok-mark.ensures c.in_err-items.ensures))
+
+pub mark-requires-2 : goal.mark-requires-2
+mark-requires-2 c =
+    mid_room _ _ _ false 18 (omega arith) (ready (goal.at.mark-requires-2 c).In_ok-expect)
+    (said_ok c.in_ok-or_level.ensures) _ _ c.in_ok-mark.ensures
+    (said_ok c.in_ok-items.ensures)
+
+pub returns-in_err-mark-2 : goal.returns-in_err-mark-2
+returns-in_err-mark-2 c =
+    rw (passed c.from_residual-in_err-mark-2.result c.from_residual-in_err-mark-2.ensures.1)
+    (body-says _ _ _ _ c.requires _ c.in_ok-expect.ensures _ _ _
+    (second_bad _ _ _ false 18 (omega arith) (ready (goal.at.returns-in_err-mark-2 c).In_ok-expect) (said_ok c.in_ok-or_level.ensures) _ _ c.in_ok-mark.ensures
+    (said_ok c.in_ok-items.ensures) _ _ c.in_err-mark-2.ensures))
+
+pub items-requires-2 : goal.items-requires-2
+items-requires-2 c =
+    no-ready _ _ _ false 18 (omega arith) (ready (goal.at.items-requires-2 c).In_ok-expect)
+    (said_ok c.in_ok-or_level.ensures) _ _ c.in_ok-mark.ensures
+    (said_ok c.in_ok-items.ensures) _ _ c.in_ok-mark-2.ensures
+
+pub returns-in_err-items-2 : goal.returns-in_err-items-2
+returns-in_err-items-2 c =
+    rw (passed c.from_residual-in_err-items-2.result c.from_residual-in_err-items-2.ensures.1)
+    (body-says _ _ _ _ c.requires _ c.in_ok-expect.ensures _ _ _
+    (rest_bad _ _ _ false 18 (omega arith) (ready (goal.at.returns-in_err-items-2 c).In_ok-expect) (said_ok c.in_ok-or_level.ensures) _ _ c.in_ok-mark.ensures
+    (said_ok c.in_ok-items.ensures) _ _ c.in_ok-mark-2.ensures c.in_err-items-2.ensures))
+
+pub mark-requires-3 : goal.mark-requires-3
+mark-requires-3 c =
+    rest_room _ _ _ false 18 (omega arith) (ready (goal.at.mark-requires-3 c).In_ok-expect)
+    (said_ok c.in_ok-or_level.ensures) _ _ c.in_ok-mark.ensures
+    (said_ok c.in_ok-items.ensures) _ _ c.in_ok-mark-2.ensures
+    (said_ok c.in_ok-items-2.ensures)
 
 pub returns : goal.returns
 returns c =
-    let names = c.args.names.now in
-    let text = c.args.text.now in
-    let l = c.args.l in
-    body-says _ _ _ _ c.requires _
-    (there (goal.at.returns c).In-Ok) _ _ _
-    (tested-says text names l (items_words text names l) (all_items (length text)) 18 (omega arith) (ready (goal.at.returns c).In-Ok)
-    c.or_level-test.ensures _ _ c.mark-first.ensures c.in-Ok-first.is
-    c.items-done.ensures _ _ c.mark-second.ensures c.in-Ok-second.is
-    c.items-rest.ensures c.mark.ensures)
+    body-says _ _ _ _ c.requires _ c.in_ok-expect.ensures _ _ _
+    (tested-says _ _ _ false 18 (omega arith) (ready (goal.at.returns c).In_ok-expect)
+    (said_ok c.in_ok-or_level.ensures) _ _ c.in_ok-mark.ensures
+    (said_ok c.in_ok-items.ensures) _ _ c.in_ok-mark-2.ensures
+    (said_ok c.in_ok-items-2.ensures) _ _ c.mark-3.ensures)

@@ -1,66 +1,47 @@
 -- `command` meets its contract: its title and its body are read, and its end and its number of stars stored.
 use Prim.Native.Nat.{◌<◌}
 use native.Mathlib.Omega.{arith}
+use Rattle.statements.proofs.StoredCode.{passed}
 use Rattle.reader.proofs.OneCommand.{title-refused, title-ready, title-few, body_refused, command-small}
 use Rattle.reader.proofs.OneCommand.{command-says}
 use Rattle.reader.proofs.commands.command.Goals as goal
-use Rattle.reader.proofs.commands.command.Goals.{In-Ok, In-Ok-read}
+use Rattle.reader.proofs.commands.command.Goals.{In_ok-title, In_ok-body}
 
 -- There are few commands, and what is stored of one is small.
-few : (c : In-Ok) → c.args.l.commands < 16
+few : (c : In_ok-title) → c.args.l.now.commands < 16
 few c =
-    title-few c.requires.0 _ c.title-titled.ensures c.in-Ok.is
+    title-few c.requires.0 _ _ _ c.in_ok-title.ensures
 
-small : (c : In-Ok-read) → (c.in-Ok-read.after.emitted < 65536) × (c.in-Ok-read.after.stars < 65536)
+small : (c : In_ok-body) → (c.body.new.c.emitted < 65536) × (c.body.new.c.stars < 65536)
 small c =
-    command-small c.requires.0 _ c.title-titled.ensures c.in-Ok.is c.body-read.ensures c.in-Ok-read.is
+    command-small c.requires.0 _ _ _ c.in_ok-title.ensures c.in_ok-body.ensures
 
-pub title-titled-requires : goal.title-titled-requires
-title-titled-requires c =
-    c.requires
+pub returns-in_err-title : goal.returns-in_err-title
+returns-in_err-title c =
+    rw (passed c.from_residual.result c.from_residual.ensures.1)
+    (title-refused c.requires.0 _ c.args.ops.now c.args.ends.now c.args.stars.now _ c.in_err-title.ensures)
 
-pub returns-in_default : goal.returns-in_default
-returns-in_default c =
-    title-refused c.requires.0 _ c.title-titled.ensures c.args.ops.now c.args.ends.now c.args.stars.now c.in_default.is
+pub body-requires : goal.body-requires
+body-requires c =
+    title-ready c.requires.0 _ _ _ c.in_ok-title.ensures
 
-pub body-read-requires : goal.body-read-requires
-body-read-requires c =
-    title-ready c.requires.0 _ c.title-titled.ensures c.in-Ok.is
+pub returns-in_err-body : goal.returns-in_err-body
+returns-in_err-body c =
+    rw (passed c.from_residual-in_err-body.result c.from_residual-in_err-body.ensures.1)
+    (body_refused c.requires.0 _ _ _ c.in_ok-title.ensures c.args.ends.now c.args.stars.now c.in_err-body.ensures)
 
 pub overflow_cast-ends : goal.overflow_cast-ends
 overflow_cast-ends c =
-    omega (arith, (small (goal.at.overflow_cast-ends c).In-Ok-read).0)
-
-pub overflow_add-ends : goal.overflow_add-ends
-overflow_add-ends c =
-    omega (arith, few (goal.at.overflow_add-ends c).In-Ok)
-
-pub offset_bounds-ends-k : goal.offset_bounds-ends-k
-offset_bounds-ends-k c =
-    omega (arith, few (goal.at.offset_bounds-ends-k c).In-Ok)
+    omega (arith, (small (goal.at.overflow_cast-ends c).In_ok-body).0)
 
 pub bounds-ends-k : goal.bounds-ends-k
 bounds-ends-k c =
-    omega (arith, few (goal.at.bounds-ends-k c).In-Ok)
-
-pub overflow_cast-stars : goal.overflow_cast-stars
-overflow_cast-stars c =
-    omega (arith, (small (goal.at.overflow_cast-stars c).In-Ok-read).1)
-
-pub offset_bounds-stars-k : goal.offset_bounds-stars-k
-offset_bounds-stars-k c =
-    omega (arith, few (goal.at.offset_bounds-stars-k c).In-Ok)
+    omega (arith, few (goal.at.bounds-ends-k c).In_ok-title)
 
 pub bounds-stars-k : goal.bounds-stars-k
 bounds-stars-k c =
-    omega (arith, few (goal.at.bounds-stars-k c).In-Ok)
+    omega (arith, few (goal.at.bounds-stars-k c).In_ok-title)
 
-pub returns-in-Ok-read : goal.returns-in-Ok-read
-returns-in-Ok-read c =
-    command-says c.requires.0 _ c.title-titled.ensures c.in-Ok.is c.body-read.ensures c.in-Ok-read.is
-    c.args.ends.now c.args.stars.now
-
-pub returns-in-Refused : goal.returns-in-Refused
-returns-in-Refused c =
-    body_refused c.requires.0 _ c.title-titled.ensures c.in-Ok.is c.args.ends.now c.args.stars.now
-    c.body-read.ensures c.in-Refused.is
+pub returns : goal.returns
+returns c =
+    command-says c.requires.0 _ _ _ c.in_ok-title.ensures c.in_ok-body.ensures c.args.ends.now c.args.stars.now

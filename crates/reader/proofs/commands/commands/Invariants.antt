@@ -6,7 +6,7 @@ use Rattle.reader.proofs.commands.commands.Given as goal
 
 abbrev pub invariant-each : goal.invariant-each
 invariant-each l =
-    Going l.text l.initial.led l.initial.cur (arrays l.initial.names l.initial.ops l.initial.ends l.initial.stars) l.led l.cur (arrays l.names l.ops l.ends l.stars)
+    Going l.text l.initial.l l.initial.c (arrays l.initial.names l.initial.ops l.initial.ends l.initial.stars) l.l l.c (arrays l.names l.ops l.ends l.stars)
 
 abbrev pub decreases-each : goal.decreases-each
-decreases-each l = 16 - l.led.commands
+decreases-each l = 16 - l.l.commands

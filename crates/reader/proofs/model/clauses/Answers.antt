@@ -1,28 +1,18 @@
 -- `clauses` meets its contract: one clause after the other, their ends stored side by side.
 use native.Mathlib.Omega.{arith}
+use Rattle.statements.proofs.StoredCode.{passed}
 use Rattle.reader.proofs.WholeTexts.{start_bad, keep-ready, clauses-say}
 use Rattle.reader.proofs.model.clauses.Goals as goal
 
-pub clause-start-requires : goal.clause-start-requires
-clause-start-requires c =
-    (c.requires, (omega arith, omega arith))
+pub returns-in_err-clause : goal.returns-in_err-clause
+returns-in_err-clause c =
+    rw (passed c.from_residual.result c.from_residual.ensures.1)
+    (start_bad c.args.text.now c.args.names.now c.args.l c.args.c.now c.args.ops.now c.args.ends.now _ _ _ c.in_err-clause.ensures)
 
-pub returns-in_default : goal.returns-in_default
-returns-in_default c =
-    start_bad c.args.text.now c.args.names.now c.args.l c.args.c
-    c.args.ops.now c.args.ends.now _ _ _ c.clause-start.ensures _ _
-    c.in_default.is
-
-pub clause-requires : goal.clause-requires
-clause-requires c = (
-  keep-ready c.args.text.now c.args.names.now c.args.l c.args.c
-      c.args.ops.now c.args.ends.now _ _ _ c.clause-start.ensures _
-      c.in-Ok.is c.requires,
-  (omega arith, omega arith),
-)
+pub clause-requires-2 : goal.clause-requires-2
+clause-requires-2 c =
+    (keep-ready c.args.text.now c.args.names.now c.args.l c.args.c.now c.args.ops.now c.args.ends.now _ _ _ c.in_ok-clause.ensures c.requires, (omega arith, omega arith))
 
 pub returns : goal.returns
 returns c =
-    clauses-say c.args.text.now c.args.names.now c.args.l c.args.c
-    c.args.ops.now c.args.ends.now _ _ _ c.clause-start.ensures _
-    c.in-Ok.is _ _ _ c.clause.ensures
+    clauses-say c.args.text.now c.args.names.now c.args.l c.args.c.now c.args.ops.now c.args.ends.now _ _ _ c.in_ok-clause.ensures _ _ _ c.clause-2.ensures

@@ -1,30 +1,22 @@
 -- `declaration` meets its contract: its answer is that of its sign, of the names after it, and of the full stop after them.
-use Rattle.reader.proofs.Declarations.{head_bad, sign-listing, list_bad, end_bad, end_ok}
+use Rattle.statements.proofs.StoredCode.{passed}
+use Rattle.reader.proofs.Declarations.{head_bad, sign-listing, list_bad, end_says}
 use Rattle.reader.proofs.model.declaration.Goals as goal
 
-pub name_list-list-requires : goal.name_list-list-requires
-name_list-list-requires c =
-    sign-listing _ _ _ _ _ _ c.requires.0 c.requires.1 _ c.expect-sign.ensures _
-    c.in-Ok.is
+pub returns-in_err-expect : goal.returns-in_err-expect
+returns-in_err-expect c =
+    rw (passed c.from_residual.result c.from_residual.ensures.1)
+    (head_bad _ _ _ _ _ _ c.requires.0 c.requires.1 _ c.in_err-expect.ensures)
 
-pub returns-in_default : goal.returns-in_default
-returns-in_default c =
-    list_bad _ _ _ _ _ _ c.requires.0 c.requires.1 _ c.expect-sign.ensures _
-    c.in-Ok.is _ _ c.name_list-list.ensures _ _ c.in_default.is
+pub name_list-requires : goal.name_list-requires
+name_list-requires c =
+    sign-listing _ _ _ _ _ _ c.requires.0 c.requires.1 _ c.in_ok-expect.ensures
 
-pub returns-in-Ok-end : goal.returns-in-Ok-end
-returns-in-Ok-end c =
-    end_ok _ _ _ _ _ _ c.requires.0 c.requires.1 _ c.expect-sign.ensures _ c.in-Ok.is
-    _ _ c.name_list-list.ensures _ _ c.in-Ok-list.is _ c.expect-end.ensures _
-    c.in-Ok-end.is
+pub returns-in_err-name_list : goal.returns-in_err-name_list
+returns-in_err-name_list c =
+    rw (passed c.from_residual-in_err-name_list.result c.from_residual-in_err-name_list.ensures.1)
+    (list_bad _ _ _ _ _ _ c.requires.0 c.requires.1 _ c.in_ok-expect.ensures _ _ c.in_err-name_list.ensures)
 
-pub returns-in-Refused-end : goal.returns-in-Refused-end
-returns-in-Refused-end c =
-    end_bad _ _ _ _ _ _ c.requires.0 c.requires.1 _ c.expect-sign.ensures _ c.in-Ok.is
-    _ _ c.name_list-list.ensures _ _ c.in-Ok-list.is _ c.expect-end.ensures _ _
-    c.in-Refused-end.is
-
-pub returns-in-Refused : goal.returns-in-Refused
-returns-in-Refused c =
-    head_bad _ _ _ _ _ _ c.requires.0 c.requires.1 _ c.expect-sign.ensures _ _
-    c.in-Refused.is
+pub returns : goal.returns
+returns c =
+    end_says _ _ _ _ _ _ c.requires.0 c.requires.1 _ c.in_ok-expect.ensures _ _ _ c.in_ok-name_list.ensures _ _ c.expect-2.ensures

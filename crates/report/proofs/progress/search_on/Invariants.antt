@@ -3,8 +3,5 @@ use Rattle.search.specs.Answers.{pause_for}
 use Rattle.report.specs.working.Underway.{Underway}
 use Rattle.report.proofs.progress.search_on.Given as goal
 
-abbrev pub invariant-portions : goal.invariant-portions
-invariant-portions g l = Underway l.text (pause_for l.position) l.first l.second
-
-abbrev pub decreases-portions : goal.decreases-portions
-decreases-portions g l = l.left
+abbrev pub invariant-loop : goal.invariant-loop
+invariant-loop g l = Underway l.text (pause_for l.position) l.first l.second

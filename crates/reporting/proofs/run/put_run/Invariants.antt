@@ -1,11 +1,10 @@
--- `put_run` meets its contract: what writes the steps that are left, writes all of them from where the loop began.
-use Prim.Native.Nat.{◌-◌}
-use Rattle.reporting.proofs.StepsLeft.{Going}
+-- `put_run` meets its contract: the lines of the steps before i are put.
+use Prim.Native.Nat.{◌+◌}
+use Rattle.lines.specs.Writers.{Writes}
+use Rattle.names.specs.working.Arrays.{name_in}
+use Rattle.reporting.specs.working.Writing.{header_end}
+use Rattle.reporting.proofs.StepsLeft.{lines}
 use Rattle.reporting.proofs.run.put_run.Given as goal
 
 abbrev pub invariant-steps : goal.invariant-steps
-invariant-steps l =
-    Going l.text l.names l.base l.sheet l.from l.steps l.initial.out l.initial.end l.out l.end l.i
-
-abbrev pub decreases-steps : goal.decreases-steps
-decreases-steps l = l.steps - l.i
+invariant-steps l = Writes l.initial.out (lines (λ k. name_in l.text l.code.names (l.base + k)) l.sheet (header_end + 8) l.i) l.out

@@ -6,8 +6,8 @@ use Rattle.search.proofs.concluding.search_roomy.Goals as goal
 
 pub conclude-requires : goal.conclude-requires
 conclude-requires c =
-    (c.requires.0, c.requires.1, ran_closing (code_lawful c.args.ops.now c.args.plan) c.run-reach.ensures, c.requires.4)
+    (c.requires.0, ran_closing (code_lawful c.args.table.now.ops.now c.args.table.now.plan) c.run-reach.ensures, c.requires.3)
 
 pub returns : goal.returns
 returns c =
-    run_left _ _ c.requires.0 _ c.requires.1 _ c.requires.4 c.run-reach.ensures c.conclude.ensures
+    run_left _ _ c.args.table.now.sound _ c.requires.0 _ c.requires.3 c.run-reach.ensures c.conclude.ensures

@@ -12,46 +12,38 @@ use Rattle.search.proofs.portions.finish_roomy.Goals.{After-can_go_on}
 
 -- The judgement is that over as many states as the transitions have.
 judgement : (c : After-can_go_on) →
-    intact (transitions_in c.args.ops.now c.args.plan).size (pause_in c.args.reach) c.args.first.now c.args.second.now ≡ c.can_go_on.result
+    intact (transitions_in c.args.table.now.ops.now c.args.table.now.plan).size (pause_in c.args.reach) c.args.first.now c.args.second.now ≡ c.can_go_on.result
 judgement c =
     sym
-    (subst (λ (n : ℕ). c.can_go_on.result ≡ intact n (pause_in c.args.reach) c.args.first.now c.args.second.now) c.requires.1
+    (subst (λ (n : ℕ). c.can_go_on.result ≡ intact n (pause_in c.args.reach) c.args.first.now c.args.second.now) c.requires.0
     c.can_go_on.ensures)
 
 pub returns-then-not-can_go_on : goal.returns-then-not-can_go_on
 returns-then-not-can_go_on c =
-    finish-anew c.args.ops.now c.args.plan c.requires.0 _ c.requires.1 _ c.requires.4 (pause_in c.args.reach) _ _ (judgement (goal.at.returns-then-not-can_go_on c).After-can_go_on ∙ c.if-not-can_go_on.true)
+    finish-anew c.args.table.now.ops.now c.args.table.now.plan c.args.table.now.sound _ c.requires.0 _ c.requires.3 (pause_in c.args.reach) _ _ (judgement (goal.at.returns-then-not-can_go_on c).After-can_go_on ∙ c.if-not-can_go_on.true)
     c.search_roomy.ensures
 
 pub go_on-all-requires : goal.go_on-all-requires
-go_on-all-requires c = (
-  c.requires.0,
-  judged (transitions_in c.args.ops.now c.args.plan) (pause_in c.args.reach) _ _ (omega (arith, c.requires.1, c.requires.2)) (omega (arith, c.requires.1, c.requires.3))
-      (judgement (goal.at.go_on-all-requires c).After-can_go_on ∙ c.if-not-can_go_on.false),
-)
-
-pub search_roomy-requires-then-not-can_close : goal.search_roomy-requires-then-not-can_close
-search_roomy-requires-then-not-can_close c =
-    let K = c.go_on-all.ensures.kept in
-    (c.requires.0, c.requires.1, omega (arith, K.queue-length, c.requires.2), omega (arith, K.parent-length, c.requires.3), c.requires.4)
+go_on-all-requires c =
+    judged (transitions_in c.args.table.now.ops.now c.args.table.now.plan) (pause_in c.args.reach) _ _ (omega (arith, c.requires.0, c.requires.1)) (omega (arith, c.requires.0, c.requires.2))
+    (judgement (goal.at.go_on-all-requires c).After-can_go_on ∙ c.if-not-can_go_on.false)
 
 pub returns-then-not-can_close : goal.returns-then-not-can_close
 returns-then-not-can_close c =
-    finish_unclosed c.args.ops.now c.args.plan c.requires.0 _ c.requires.1 _ c.requires.4 (pause_in c.args.reach) _ _ (judgement (goal.at.returns-then-not-can_close c).After-can_go_on ∙ c.if-not-can_go_on.false)
+    finish_unclosed c.args.table.now.ops.now c.args.table.now.plan c.args.table.now.sound _ c.requires.0 _ c.requires.3 (pause_in c.args.reach) _ _ (judgement (goal.at.returns-then-not-can_close c).After-can_go_on ∙ c.if-not-can_go_on.false)
     (pause_in c.go_on-all.result) c.go_on-all.ensures (sym c.can_close.ensures ∙ c.if-not-can_close.true)
     c.search_roomy-then-not-can_close.ensures
 
 pub conclude-requires : goal.conclude-requires
 conclude-requires c = (
   c.requires.0,
-  c.requires.1,
-  can_close_lem (transitions_in c.args.ops.now c.args.plan) c.go_on-all.result.found c.go_on-all.result.count _ _ c.go_on-all.ensures.kept.ready
+  can_close_lem (transitions_in c.args.table.now.ops.now c.args.table.now.plan) c.go_on-all.result.found c.go_on-all.result.count _ _ c.go_on-all.ensures.kept.ready
       (sym c.can_close.ensures ∙ c.if-not-can_close.false),
-  c.requires.4,
+  c.requires.3,
 )
 
 pub returns : goal.returns
 returns c =
-    finish-closed c.args.ops.now c.args.plan c.requires.0 _ c.requires.1 _ c.requires.4 (pause_in c.args.reach) _ _ (judgement (goal.at.returns c).After-can_go_on ∙ c.if-not-can_go_on.false)
+    finish-closed c.args.table.now.ops.now c.args.table.now.plan c.args.table.now.sound _ c.requires.0 _ c.requires.3 (pause_in c.args.reach) _ _ (judgement (goal.at.returns c).After-can_go_on ∙ c.if-not-can_go_on.false)
     (pause_in c.go_on-all.result) c.go_on-all.ensures (sym c.can_close.ensures ∙ c.if-not-can_close.false)
     c.conclude.ensures

@@ -10,22 +10,22 @@ use Rattle.search.proofs.portions.go_on.Goals as goal
 
 pub returns-then-reach : goal.returns-then-reach
 returns-then-reach c =
-    gone_nowhere c.requires.1 c.if-reach.true
+    gone_nowhere c.requires c.if-reach.true
 
 pub overflow_add-result : goal.overflow_add-result
 overflow_add-result c =
-    let bits = c.args.plan.bits in
+    let bits = c.args.table.now.plan.bits in
     omega (
       arith,
-      c.requires.1.few,
-      explored_few c.explore-next.ensures c.requires.1.ready c.requires.1.within (pow_small bits (2 ^ bits) c.requires.0.few_bits refl)
-          (moves-few c.args.ops.now c.args.plan c.requires.0),
+      c.requires.few,
+      explored_few c.explore-next.ensures c.requires.ready c.requires.within (pow_small bits (2 ^ bits) c.args.table.now.sound.few_bits refl)
+          (moves-few c.args.table.now.ops.now c.args.table.now.plan c.args.table.now.sound),
     )
 
 pub returns : goal.returns
 returns c =
-    let bits = c.args.plan.bits in
-    gone_further c.requires.1 c.if-reach.false c.explore-next.ensures
-    (explored_within c.explore-next.ensures c.requires.1.ready c.requires.1.within)
-    (explored_few c.explore-next.ensures c.requires.1.ready c.requires.1.within (pow_small bits (2 ^ bits) c.requires.0.few_bits refl)
-    (moves-few c.args.ops.now c.args.plan c.requires.0))
+    let bits = c.args.table.now.plan.bits in
+    gone_further c.requires c.if-reach.false c.explore-next.ensures
+    (explored_within c.explore-next.ensures c.requires.ready c.requires.within)
+    (explored_few c.explore-next.ensures c.requires.ready c.requires.within (pow_small bits (2 ^ bits) c.args.table.now.sound.few_bits refl)
+    (moves-few c.args.table.now.ops.now c.args.table.now.plan c.args.table.now.sound))

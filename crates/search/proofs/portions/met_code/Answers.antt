@@ -1,28 +1,23 @@
 -- `met_code` meets its contract: the call is refused where a table has no room or there is no such state, and else the entry tells.
-use native.Mathlib.Omega.{arith}
+use mathlib.Core.Path.{ap, ◌∙◌}
+use Rattle.std.proofs.lemmas.Result.{err_from_is_err_and}
+use Rattle.std.specs.Prelude.{Err}
+use Rattle.refusals.specs.Reasons.{reason_of}
+use Rattle.conditions.specs.declared.outcome.Declined.TheVariants.{Refused}
 use Rattle.sheets.specs.working.FlatSystem.{system_in}
-use Rattle.search.proofs.PausesHeld.{first_missing, second_missing, both_there, unasked, no-state, not-met, is-met}
+use Rattle.search.proofs.PausesHeld.{unasked, no-state, entry-told}
 use Rattle.search.proofs.portions.met_code.Goals as goal
 
-pub returns-then-first-states : goal.returns-then-first-states
-returns-then-first-states c =
-    unasked (system_in c.args.ops.now c.args.plan) _ _ _ (first_missing (system_in c.args.ops.now c.args.plan) _ c.power-states.ensures _ _ c.if-first-states.true)
-
-pub returns-then-second-states : goal.returns-then-second-states
-returns-then-second-states c =
-    unasked (system_in c.args.ops.now c.args.plan) _ _ _ (second_missing (system_in c.args.ops.now c.args.plan) _ c.power-states.ensures _ _ c.if-first-states.false c.if-second-states.true)
+pub returns-in_err-table_room : goal.returns-in_err-table_room
+returns-in_err-table_room c =
+    let p = err_from_is_err_and c.from_residual.result c.from_residual.ensures.1 in
+    rw (p.1, p.2) (unasked (system_in c.args.table.now.ops.now c.args.table.now.plan) _ c.power-states.ensures _ _ _ c.in_err-table_room.ensures)
 
 pub returns-then-states-state : goal.returns-then-states-state
+unfolding reason_of
 returns-then-states-state c =
-    let there = both_there (system_in c.args.ops.now c.args.plan) _ c.power-states.ensures c.args.first.now c.args.second.now c.if-first-states.false c.if-second-states.false in
-    no-state (system_in c.args.ops.now c.args.plan) _ _ _ there (omega (arith, c.power-states.ensures, c.if-states-state.true))
-
-pub returns-then-second-state-eq0 : goal.returns-then-second-state-eq0
-returns-then-second-state-eq0 c =
-    let there = both_there (system_in c.args.ops.now c.args.plan) _ c.power-states.ensures c.args.first.now c.args.second.now c.if-first-states.false c.if-second-states.false in
-    not-met (system_in c.args.ops.now c.args.plan) _ _ _ there (omega (arith, c.power-states.ensures, c.if-states-state.false)) c.if-second-state-eq0.true
+    ap (λ x. Err (Refused x)) c.at.ensures ∙ (no-state (system_in c.args.table.now.ops.now c.args.table.now.plan) _ c.power-states.ensures _ _ _ c.in_ok-table_room.ensures c.if-states-state.true)
 
 pub returns : goal.returns
 returns c =
-    let there = both_there (system_in c.args.ops.now c.args.plan) _ c.power-states.ensures c.args.first.now c.args.second.now c.if-first-states.false c.if-second-states.false in
-    is-met (system_in c.args.ops.now c.args.plan) _ _ _ there (omega (arith, c.power-states.ensures, c.if-states-state.false)) c.if-second-state-eq0.false
+    entry-told (system_in c.args.table.now.ops.now c.args.table.now.plan) _ c.power-states.ensures _ _ _ c.in_ok-table_room.ensures c.if-states-state.false

@@ -2,14 +2,10 @@
 use Rattle.evaluation.specs.working.CodeSystem.{stars_in}
 use Rattle.sheets.specs.working.SheetReading.{Reading, steps_at, step_count}
 use mathlib.Core.Path.{◌≡◌}
-use Prim.Native.Nat.{◌+◌, ◌-◌, ◌*◌, ◌≤◌}
+use Prim.Native.Nat.{◌+◌, ◌-◌, ◌*◌}
 use Rattle.sheets.proofs.shapes.trace_shape.Given as goal
 
 abbrev pub invariant-loop-i : goal.invariant-loop-i
 invariant-loop-i l =
-    (l.i ≤ l.n) × (l.at ≡ l.p + 8 + 10 * l.i) ×
-    ((rest : Reading) → steps_at l.states l.plan.commands (stars_in l.plan.stars) l.b l.at (l.n - l.i) rest ≡ steps_at l.states l.plan.commands
-    (stars_in l.plan.stars) l.b (l.p + 8) (step_count l.b (l.p + 8)) rest)
-
-abbrev pub decreases-loop-i : goal.decreases-loop-i
-decreases-loop-i l = l.n - l.i
+    (rest : Reading) → steps_at l.states l.table.plan.commands (stars_in l.table.plan.stars) l.b (l.p + 8 + 10 * l.i) (l.i-end - l.i) rest ≡ steps_at l.states
+    l.table.plan.commands (stars_in l.table.plan.stars) l.b (l.p + 8) (step_count l.b (l.p + 8)) rest

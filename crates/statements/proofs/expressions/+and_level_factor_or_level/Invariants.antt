@@ -15,14 +15,14 @@ decreases-or_level l = 3 * l.depth + 2
 
 abbrev pub invariant-and_level-ands : goal.invariant-and_level-ands
 invariant-and_level-ands l =
-    Turn (and_chain l.text l.names l.l (mode_of l.sc) (16 - l.depth)) l.initial.ops l.initial.cur l.ops l.cur
+    Turn (and_chain l.text l.names l.l (mode_of l.sc) (16 - l.depth)) l.initial.ops l.initial.c l.ops l.c
 
 abbrev pub decreases-and_level-ands : goal.decreases-and_level-ands
-decreases-and_level-ands l = 1024 - l.cur.nodes
+decreases-and_level-ands l = 1024 - l.c.nodes
 
 abbrev pub invariant-or_level-ors : goal.invariant-or_level-ors
 invariant-or_level-ors l =
-    Turn (or_chain l.text l.names l.l (mode_of l.sc) (16 - l.depth)) l.initial.ops l.initial.cur l.ops l.cur
+    Turn (or_chain l.text l.names l.l (mode_of l.sc) (16 - l.depth)) l.initial.ops l.initial.c l.ops l.c
 
 abbrev pub decreases-or_level-ors : goal.decreases-or_level-ors
-decreases-or_level-ors l = 1024 - l.cur.nodes
+decreases-or_level-ors l = 1024 - l.c.nodes

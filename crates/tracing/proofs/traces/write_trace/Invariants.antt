@@ -8,14 +8,11 @@ use Rattle.tracing.proofs.traces.write_trace.Given as goal
 
 abbrev pub invariant-count : goal.invariant-count
 invariant-count l =
-    Walking (transitions_in l.ops l.plan) (code_lawful l.ops l.plan) l.parent l.t l.n l.s
+    Walking (transitions_in l.table.ops.now l.table.plan) (code_lawful l.table.ops.now l.table.plan) l.parent l.t l.n l.s
 
 abbrev pub decreases-count : goal.decreases-count
-decreases-count l = 2 ^ l.plan.bits - l.n
+decreases-count l = 2 ^ l.table.plan.bits - l.n
 
 abbrev pub invariant-write : goal.invariant-write
 invariant-write l =
-    Writing (transitions_in l.ops l.plan) (code_lawful l.ops l.plan) l.parent l.t l.at l.initial.out l.out l.i l.u
-
-abbrev pub decreases-write : goal.decreases-write
-decreases-write l = l.i
+    Writing (transitions_in l.table.ops.now l.table.plan) (code_lawful l.table.ops.now l.table.plan) l.parent l.t l.at l.initial.out l.out l.i l.u

@@ -5,14 +5,10 @@ use Rattle.traversal.proofs.exploring.run.Goals as goal
 
 pub returns-then-x : goal.returns-then-x
 returns-then-x c =
-    run-broke (transitions_in _ c.args.plan) _ c.requires.1 c.begin-x.ensures.began c.if-x.true _
+    run-broke (transitions_in _ c.args.table.now.plan) _ c.requires.0 c.begin-x.ensures.began c.if-x.true _
     c.begin-x.ensures.head_value.1
-
-pub explore-requires : goal.explore-requires
-explore-requires c =
-    (c.requires.0, c.begin-x.ensures.began.kept.ready)
 
 pub returns : goal.returns
 returns c =
-    run_on (transitions_in _ c.args.plan) _ c.requires.1 c.begin-x.ensures.began c.if-x.false
+    run_on (transitions_in _ c.args.table.now.plan) _ c.requires.0 c.begin-x.ensures.began c.if-x.false
     c.explore.ensures

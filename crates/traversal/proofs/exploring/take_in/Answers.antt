@@ -1,5 +1,5 @@
 -- `take_in` meets its contract: the start states before s are taken in, and the states from s on are not met.
-use Prim.Native.Nat.{◌+◌, ◌^◌, ◌≤◌, ◌<◌}
+use Prim.Native.Nat.{◌+◌, ◌^◌, ◌<◌}
 use mathlib.Core.Path.{◌≡◌, refl, sym, ◌∙◌}
 use mathlib.Core.Bool.{true}
 use native.Mathlib.Omega.{arith}
@@ -16,112 +16,73 @@ use Rattle.traversal.proofs.exploring.take_in.Goals.{then-starts+else-breaks, el
 
 -- The state at hand is not met yet; where it violates `keep`, the start states are taken in up to it.
 s-below : (c : In-states) →
-    c.states.s < 2 ^ c.args.plan.bits
+    c.states.s < 2 ^ c.args.table.now.plan.bits
 s-below c =
     omega (arith, c.states-test.true, c.requires.0)
 
 few-states : (c : In-states) → c.states.s < 4096
 few-states c =
-    let bits = c.args.plan.bits in
-    omega (arith, s-below c, pow_small bits (2 ^ bits) c.requires.1.few_bits refl)
+    let bits = c.args.table.now.plan.bits in
+    omega (arith, s-below c, pow_small bits (2 ^ bits) c.args.table.now.sound.few_bits refl)
 
 unmet : (c : In-states) → get_or c.states.parent c.states.s 0 ≡ 0
-unmet c = c.states.invariant.3 c.states.s (omega arith) (s-below c)
+unmet c = c.states.invariant.2 c.states.s (omega arith) (s-below c)
 
 broken : (c : Then-breaks) →
-    Took (transitions_in c.args.ops.now c.args.plan) c.args.queue.now
+    Took (transitions_in c.args.table.now.ops.now c.args.table.now.plan) c.args.queue.now
     c.args.parent.now (set c.states.queue c.states.count c.states.s)
     (c.states.count + 1) (set c.states.parent c.states.s (c.states.s + 1))
     true
 broken c =
     let i : In-states = search in
-    taking_broke c.states.invariant.2 (s-below i)
+    taking_broke c.states.invariant.1 (s-below i)
     (sym c.starts.ensures ∙ c.if-starts.true)
-    (meets_new c.states.invariant.2.kept.ready (s-below i) (unmet i)
+    (meets_new c.states.invariant.1.kept.ready (s-below i) (unmet i)
     c.breaks.ensures)
     c.if-breaks.true
 
 pub states-init : goal.states-init
 states-init c =
-    (omega arith, refl, taking_refl _ _ _ c.requires.2, unmet_first _ _ _ c.requires.2)
+    (refl, taking_refl _ _ _ c.requires.1, unmet_first _ _ _ c.requires.1)
 
 pub starts-requires : goal.starts-requires
 starts-requires c =
-    (few-states (goal.at.starts-requires c).In-states, c.requires.1)
-
-pub overflow_cast-parent : goal.overflow_cast-parent
-overflow_cast-parent c =
-    omega (arith, few-states (goal.at.overflow_cast-parent c).In-states)
-
-pub bounds-parent-s : goal.bounds-parent-s
-bounds-parent-s c =
-    omega (arith, c.states.invariant.2.kept.ready.parent-room)
-
-pub overflow_cast-queue : goal.overflow_cast-queue
-overflow_cast-queue c =
-    omega (arith, few-states (goal.at.overflow_cast-queue c).In-states)
+    few-states (goal.at.starts-requires c).In-states
 
 pub bounds-queue-count : goal.bounds-queue-count
 bounds-queue-count c =
-    let K = c.states.invariant.2.kept in
+    let K = c.states.invariant.1.kept in
     omega (
       arith,
       room _ _ _ _ K.ready 0 _ (s-below (goal.at.bounds-queue-count c).In-states)
-          (c.states.invariant.3 c.states.s (omega arith) (s-below (goal.at.bounds-queue-count c).In-states)),
+          (c.states.invariant.2 c.states.s (omega arith) (s-below (goal.at.bounds-queue-count c).In-states)),
       K.ready.queue-room,
     )
 
-pub overflow_add-count : goal.overflow_add-count
-overflow_add-count c =
-    omega (arith, c.states.invariant.2.kept.few, pow_small c.args.plan.bits (2 ^ c.args.plan.bits) c.requires.1.few_bits refl)
-
 pub breaks-requires : goal.breaks-requires
 breaks-requires c =
-    (few-states (goal.at.breaks-requires c).In-states, c.requires.1)
+    few-states (goal.at.breaks-requires c).In-states
 
 pub states-preserved : goal.states-preserved
 states-preserved c =
     let i = (goal.at.states-preserved c).In-states in
     elim c.if-starts.branch [
       | then-starts+else-breaks w ↦ (
-        omega arith,
-        c.states.invariant.1,
+        c.states.invariant.0,
         rw (w.queue-is, w.count-is, w.parent-is)
-            (taking_next c.states.invariant.2 (s-below i) (sym c.starts.ensures ∙ w.if-starts.true)
-            (meets_new c.states.invariant.2.kept.ready (s-below i) (unmet i) w.breaks.ensures) w.if-breaks.false),
-        rw w.parent-is (unmet_next c.states.parent c.states.s (c.states.s + 1) _ c.states.invariant.3),
+            (taking_next c.states.invariant.1 (s-below i) (sym c.starts.ensures ∙ w.if-starts.true)
+            (meets_new c.states.invariant.1.kept.ready (s-below i) (unmet i) w.breaks.ensures) w.if-breaks.false),
+        rw w.parent-is (unmet_next c.states.parent c.states.s (c.states.s + 1) _ c.states.invariant.2),
       )
       | else-starts w ↦ (
-        omega arith,
-        c.states.invariant.1,
-        rw (w.queue-is, w.count-is, w.parent-is) (taking_skip c.states.invariant.2 (s-below i) (sym c.starts.ensures ∙ w.if-starts.false)),
-        rw w.parent-is (λ j a h. c.states.invariant.3 j (omega arith) h),
+        c.states.invariant.0,
+        rw (w.queue-is, w.count-is, w.parent-is) (taking_skip c.states.invariant.1 (s-below i) (sym c.starts.ensures ∙ w.if-starts.false)),
+        rw w.parent-is (λ j a h. c.states.invariant.2 j (omega arith) h),
       )
     ]
 
-pub shape_of-queue-after-states : goal.shape_of-queue-after-states
-shape_of-queue-after-states c = c.states.invariant.2.kept.queue-length
+pub returns-after-states-clause-took : goal.returns-after-states-clause-took
+returns-after-states-clause-took c = rw c.states.invariant.0 (taking_end c.states.invariant.1 (omega (arith, c.states-test.false, c.requires.0)))
 
-pub shape_of-parent-after-states : goal.shape_of-parent-after-states
-shape_of-parent-after-states c = c.states.invariant.2.kept.parent-length
-
-pub returns-after-states : goal.returns-after-states
-returns-after-states c =
-    let end : 2 ^ c.args.plan.bits ≤ c.states.s = omega (arith, c.states-test.false, c.requires.0) in
-    record {
-      took = rw c.states.invariant.1 (taking_end c.states.invariant.2 end);
-      head_value = (refl, refl);
-    }
-
-pub shape_of-queue-then-breaks : goal.shape_of-queue-then-breaks
-shape_of-queue-then-breaks c = (broken (goal.at.shape_of-queue-then-breaks c).Then-breaks).kept.queue-length
-
-pub shape_of-parent-then-breaks : goal.shape_of-parent-then-breaks
-shape_of-parent-then-breaks c = (broken (goal.at.shape_of-parent-then-breaks c).Then-breaks).kept.parent-length
-
-pub returns-then-breaks : goal.returns-then-breaks
-returns-then-breaks c =
-    record {
-      took = broken (goal.at.returns-then-breaks c).Then-breaks;
-      head_value = (refl, refl);
-    }
+pub returns-then-breaks-clause-took : goal.returns-then-breaks-clause-took
+returns-then-breaks-clause-took c = broken (goal.at.returns-then-breaks-clause-took c).Then-breaks

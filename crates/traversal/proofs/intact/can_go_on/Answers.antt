@@ -1,41 +1,23 @@
 -- `can_go_on` meets its contract: one test after the other.
-use mathlib.Core.Path.{sym, ◌∙◌}
 use native.Mathlib.Omega.{arith}
-use lib.ListN.{take}
-use lib.Seq.{length-take-le}
-use Rattle.exploration.proofs.Laws.{marked_le}
-use Rattle.exploration.proofs.Judging.{many-trials, many-expanded, other_marks, only-states}
+use mathlib.Core.Path.{◌∙◌, sym}
+use lib.Dec.{ltb}
+use lib.ListN.{take, length-take}
+use Rattle.std.proofs.lemmas.List.Sums.{count_by-le-length}
+use Rattle.exploration.proofs.Judging.{never_stood, other_marks, only_states}
 use Rattle.traversal.proofs.intact.can_go_on.Goals as goal
 
 pub returns-then-reach-gt-TRIALS : goal.returns-then-reach-gt-TRIALS
-returns-then-reach-gt-TRIALS c =
-    sym (many-trials c.args.states _ c.args.queue.now c.args.parent.now c.if-reach-gt-TRIALS.true)
+returns-then-reach-gt-TRIALS c = never_stood c.args.states _ c.args.queue.now c.args.parent.now c.then-reach-gt-TRIALS.either
 
-pub returns-then-met-reach : goal.returns-then-met-reach
-returns-then-met-reach c =
-    sym (many-expanded c.args.states _ c.args.queue.now c.args.parent.now (omega (arith, c.if-reach-gt-TRIALS.false)) c.if-met-reach.true)
-
-pub returns-then-count_marked-met : goal.returns-then-count_marked-met
-returns-then-count_marked-met c =
-    sym
-    (other_marks c.args.states _ c.args.queue.now c.args.parent.now (omega (arith, c.if-reach-gt-TRIALS.false)) (omega (arith, c.if-met-reach.false))
-    (λ e. c.if-count_marked-met.true (c.count_marked.ensures ∙ e)))
-
-pub all_states-requires : goal.all_states-requires
-all_states-requires c =
-    let parent = c.args.parent.now in
-    omega (
-      arith,
-      c.count_marked.ensures,
-      c.if-count_marked-met.false,
-      marked_le (take c.args.states parent),
-      length-take-le c.args.states parent c.requires.1,
-      c.requires.0,
-    )
+pub returns-then-count_marked-reach : goal.returns-then-count_marked-reach
+returns-then-count_marked-reach c =
+    other_marks c.args.states _ c.args.queue.now c.args.parent.now c.if-reach-gt-TRIALS.false c.if-reach.false
+    (λ e. c.if-count_marked-reach.true (c.count_marked.ensures ∙ e))
 
 pub returns : goal.returns
 returns c =
     c.all_states.ensures
-    ∙ sym
-    (only-states c.args.states _ c.args.queue.now c.args.parent.now (omega (arith, c.if-reach-gt-TRIALS.false)) (omega (arith, c.if-met-reach.false))
-    (sym c.count_marked.ensures ∙ c.if-count_marked-met.false))
+    ∙ only_states c.args.states _ c.args.queue.now c.args.parent.now c.if-reach-gt-TRIALS.false c.if-reach.false
+    (sym c.count_marked.ensures ∙ c.if-count_marked-reach.false)
+    (omega (arith, c.count_marked.ensures, count_by-le-length (ltb 0) (take c.args.states c.args.parent.now), length-take c.args.states c.args.parent.now))

@@ -1,14 +1,9 @@
 -- `count_each` meets its contract: the counts are those of the steps before i.
 use mathlib.Core.Path.{◌≡◌}
-use Prim.Native.Nat.{◌-◌, ◌*◌, ◌≤◌}
-use lib.ListN.{length}
 use Rattle.traces.specs.working.Passing.{header}
 use Rattle.windows.specs.Bursts.{counts_of}
 use Rattle.windows.specs.working.Surveying.{commands_at}
 use Rattle.windows.proofs.commands.count_each.Given as goal
 
 abbrev pub invariant-loop-i : goal.invariant-loop-i
-invariant-loop-i l = (l.i ≤ l.n) × (l.n ≤ 6551) × (10 * l.n ≤ length l.sheet - 17) × (l.counts ≡ counts_of (commands_at header l.sheet l.i))
-
-abbrev pub decreases-loop-i : goal.decreases-loop-i
-decreases-loop-i l = l.n - l.i
+invariant-loop-i l = l.counts ≡ counts_of (commands_at header l.sheet l.i)

@@ -1,4 +1,4 @@
--- `nutseason_counts` meets its contract: the number of what `survey` replies and its counts, by the law of its replies.
+-- `nutseason_counts` asks for a number of bounded answers with sixteen counts, as the law of the survey's replies has it.
 use Rattle.windows.proofs.Replies.{survey_replies}
 use Rattle.workbench.proofs.bursts.nutseason_counts.Goals as goal
 

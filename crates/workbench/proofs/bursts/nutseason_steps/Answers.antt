@@ -1,6 +1,6 @@
--- `nutseason_steps` meets its contract: the number of what `survey` replies, by the law of its replies.
+-- `nutseason_steps` asks for a number of bounded answers, as the law of the survey's replies has it.
 use Rattle.windows.proofs.Replies.{survey_replies}
 use Rattle.workbench.proofs.bursts.nutseason_steps.Goals as goal
 
-pub reply_number-requires : goal.reply_number-requires
-reply_number-requires c = (survey_replies _ _ _ _ _ _ c.survey-reply.ensures).0
+pub answer_number-requires : goal.answer_number-requires
+answer_number-requires c = (survey_replies _ _ _ _ _ _ c.survey-reply.ensures).0

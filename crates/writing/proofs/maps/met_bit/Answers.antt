@@ -1,25 +1,20 @@
 -- `met_bit` meets its contract: a state was met where its entry is not 0.
-use native.Mathlib.Omega.{arith}
-use Rattle.exploration.proofs.Map.{bit-one, bit_zero, bit_past}
+use mathlib.Core.Path.{◌≡◌, refl, sym, ◌∙◌}
+use mathlib.Core.Bool.{Bool, true, false, cond}
+use mir.Val.{bool_byte}
+use borrow.Author.Tests.{le-ltb}
+use Rattle.exploration.proofs.Map.{bit_within, bit_past}
 use Rattle.writing.proofs.maps.met_bit.Goals as goal
+use Rattle.writing.proofs.maps.met_bit.Goals.{then-s-states, else-s-states}
 
-pub returns-then-parent-s-gt0 : goal.returns-then-parent-s-gt0
-returns-then-parent-s-gt0 c =
-    record {
-      value = bit-one _ _ _ c.if-s-states.true c.if-parent-s-gt0.true;
-      upper_bound = omega arith;
-    }
+byte_of : (b : Bool) → bool_byte b ≡ cond b 1 0
+byte_of true = refl
+byte_of false = refl
 
-pub returns-else-parent-s-gt0 : goal.returns-else-parent-s-gt0
-returns-else-parent-s-gt0 c =
-    record {
-      value = bit_zero _ _ _ c.if-s-states.true c.if-parent-s-gt0.false;
-      upper_bound = omega arith;
-    }
-
-pub returns-else-s-states : goal.returns-else-s-states
-returns-else-s-states c =
-    record {
-      value = bit_past _ _ _ c.if-s-states.false;
-      upper_bound = omega arith;
-    }
+pub returns-clause-value : goal.returns-clause-value
+returns-clause-value c =
+    c.from.ensures ∙ byte_of c.if-s-states.from ∙ elim c.if-s-states.branch [
+      | then-s-states w ↦ rw w.from-is (sym (bit_within c.args.states c.args.parent.now c.args.s w.if-s-states.true))
+      | else-s-states w ↦
+          rw (w.from-is, le-ltb c.args.s c.args.states w.if-s-states.false) (sym (bit_past c.args.states c.args.parent.now c.args.s w.if-s-states.false))
+    ]

@@ -1,7 +1,0 @@
--- Past the end a text has only zeros, by definition.
-use mathlib.Core.Path.{sym}
-use lib.ListN.{get_or-eq_default}
-use Rattle.lexer.proofs.bytes.byte_at.Goals as goal
-
-pub returns : goal.returns
-returns c = sym (get_or-eq_default c.args.text.now 0 c.if-i-text.false)

@@ -1,0 +1,21 @@
+-- `passed_steps` meets its contract: where the trace passes, all of it stands in the sheet.
+use mathlib.Core.Path.{sym, ap, ◌∙◌}
+use native.Mathlib.Omega.{arith}
+use Rattle.traces.specs.working.Passing.{trace_passed}
+use Rattle.traces.proofs.TracesPassed.{HasTrace, text_passed}
+use Rattle.traces.proofs.passed_steps.Goals as goal
+use Rattle.traces.proofs.passed_steps.Goals.{Else-not-trace_passed}
+
+ready : (c : Else-not-trace_passed) → HasTrace c.args.sheet.now
+ready c =
+    text_passed c.args.text.now _ (ap trace_passed (sym c.in_ok-outcome.ensures.value) ∙ sym c.trace_passed.ensures ∙ c.if-not-trace_passed.false)
+
+pub step_count-requires : goal.step_count-requires
+step_count-requires c =
+    let H = ready (goal.at.step_count-requires c).Else-not-trace_passed in
+    (omega (arith, H.room), H.short)
+
+pub returns-clause-there : goal.returns-clause-there
+returns-clause-there c =
+    let H = ready (goal.at.returns-clause-there c).Else-not-trace_passed in
+    (omega (arith, H.room, c.step_count.ensures.0), H.short)

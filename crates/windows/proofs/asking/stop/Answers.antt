@@ -1,6 +1,0 @@
--- `stop` meets its contract.
-use Rattle.windows.proofs.AskLaws.{begun_as}
-use Rattle.windows.proofs.asking.stop.Goals as goal
-
-pub returns : goal.returns
-returns c = begun_as _ _ _ _ _ c.fresh_tally-from.ensures

@@ -1,0 +1,3 @@
+-- Laws of the stores.
+mod Stored
+mod MapBytes
