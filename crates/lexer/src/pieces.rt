@@ -1,8 +1,8 @@
 // Pieces of a text: the next token, with its place, or what is no token.
-ghost use Rattle.std.specs.Prelude.{◌≡◌, ◌+◌, ◌≤◌, ◌<◌, ◌^◌, length, drop};
+ghost use Rattle.std.specs.Prelude.{◌≡◌, ℕ, ◌+◌, ◌≤◌, ◌<◌, ◌^◌, length, drop};
 ghost use Rattle.notation.specs.working.Lexing.{span};
 ghost use Rattle.lexer.specs.working.Kinds.{kind_number};
-ghost use Rattle.lexer.specs.working.Pieces.{BAD, piece_of, misplaced, blanks, byte_piece, word_piece, mark_piece, piece_at};
+ghost use Rattle.lexer.specs.working.Pieces.{BAD, piece_of, misplaced, blanks, byte_piece, word_piece, mark_end, mark_piece, piece_at};
 
 use crate::bytes::{byte_at, is_blank, is_word};
 use crate::words::{reserved_at, reserved_in_other_case};
@@ -66,26 +66,6 @@ impl Piece {
     }
 }
 
-// A piece that is a token, or the end.
-#[tactic(auto, using(crate::proofs::KindNumbers::kind_told))]
-fn token(kind: Kind, start: usize, end: usize) -> Piece
-    ensures { result ≡ piece_of (kind_number kind) start end }
-{
-    Piece { kind, start, end }
-}
-
-// A byte that is not allowed, or a word that is too long.
-#[tactic(auto, unfolding(crate::specs::working::Kinds::kind_of))]
-fn refused(start: usize, end: usize) -> Piece
-    ensures { result ≡ piece_of BAD start end }
-{
-    Piece {
-        kind: Kind::Bad,
-        start,
-        end,
-    }
-}
-
 // The first place from `at` on that holds no blank.
 fn skip_blanks(text: &[u8], at: usize) -> usize
     ensures { result ≡ at + blanks (drop at text.now) }
@@ -110,18 +90,45 @@ fn word_end(text: &[u8], from: usize) -> usize
     text.len()
 }
 
-// The piece that a word of the one byte b is; none is reserved.
-fn byte_piece(b: u8, s: usize, e: usize) -> Piece
-    ensures { result ≡ byte_piece b s e }
+// Kinds are told apart first, and a piece is made of one last: a piece that is handed on is copied with the bytes between its fields.
+
+// The kind of a word of the one byte b; none is reserved.
+fn byte_kind(b: u8) -> Kind
+    ensures { (s e : ℕ) → piece_of (kind_number result) s e ≡ byte_piece b s e }
 {
     if b.is_ascii_alphabetic() {
-        return token(Kind::Name, s, e);
+        return Kind::Name;
     }
     match b {
-        b'0' => token(Kind::Zero, s, e),
-        b'1' => token(Kind::One, s, e),
-        _ => token(Kind::Other, s, e),
+        b'0' => Kind::Zero,
+        b'1' => Kind::One,
+        _ => Kind::Other,
     }
+}
+
+// The kind of the word from s to e.
+fn word_kind(text: &[u8], s: usize, e: usize) -> Kind
+    requires { (s < e) × (e ≤ length text.now) }
+    ensures { piece_of (kind_number result) s e ≡ word_piece text.now s e }
+{
+    let n = e - s;
+    let b = text[s];
+    if n < 2 {
+        return byte_kind(b);
+    }
+    if MAX_WORD < n {
+        return Kind::Bad;
+    }
+    if let Some(kind) = reserved_at(text, s, e) {
+        return kind;
+    }
+    if !b.is_ascii_alphabetic() {
+        return Kind::Other;
+    }
+    if reserved_in_other_case(text, s, e) {
+        return RECASED;
+    }
+    Kind::Name
 }
 
 // The piece that the word from s to e is.
@@ -129,24 +136,33 @@ fn word_piece(text: &[u8], s: usize, e: usize) -> Piece
     requires { (s < e) × (e ≤ length text.now) }
     ensures { result ≡ word_piece text.now s e }
 {
-    let n = e - s;
-    let b = text[s];
-    if n < 2 {
-        return byte_piece(b, s, e);
+    let kind = word_kind(text, s, e);
+    Piece {
+        kind,
+        start: s,
+        end: e,
     }
-    if MAX_WORD < n {
-        return refused(s, e);
+}
+
+// The kind of the mark b, with the byte after it, or 0.
+fn mark_kind(b: u8, next: u8) -> Kind
+    ensures { (s : ℕ) → piece_of (kind_number result) s (mark_end (kind_number result) s) ≡ mark_piece b next s }
+{
+    match b {
+        b'.' => Kind::Dot,
+        b';' => Kind::Semi,
+        b'(' => Kind::Open,
+        b')' => Kind::Close,
+        b'*' => Kind::Star,
+        b'=' => Kind::Other,
+        b':' => {
+            if next == b'=' {
+                return Kind::Assign;
+            }
+            Kind::Other
+        }
+        _ => Kind::Bad,
     }
-    if let Some(kind) = reserved_at(text, s, e) {
-        return token(kind, s, e);
-    }
-    if !b.is_ascii_alphabetic() {
-        return token(Kind::Other, s, e);
-    }
-    if reserved_in_other_case(text, s, e) {
-        return token(RECASED, s, e);
-    }
-    token(Kind::Name, s, e)
 }
 
 // The piece that the mark b is at s, with the byte after it, or 0.
@@ -154,21 +170,12 @@ fn mark_piece(b: u8, next: u8, s: usize) -> Piece
     requires { s + 2 < 2 ^ 64 }
     ensures { result ≡ mark_piece b next s }
 {
-    let e = s + 1;
-    match b {
-        b'.' => token(Kind::Dot, s, e),
-        b';' => token(Kind::Semi, s, e),
-        b'(' => token(Kind::Open, s, e),
-        b')' => token(Kind::Close, s, e),
-        b'*' => token(Kind::Star, s, e),
-        b'=' => token(Kind::Other, s, e),
-        b':' => {
-            if next == b'=' {
-                return token(Kind::Assign, s, s + 2);
-            }
-            token(Kind::Other, s, e)
-        }
-        _ => refused(s, e),
+    let kind = mark_kind(b, next);
+    let end = if kind == Kind::Assign { s + 2 } else { s + 1 };
+    Piece {
+        kind,
+        start: s,
+        end,
     }
 }
 
@@ -179,7 +186,11 @@ pub fn piece_at(text: &[u8], at: usize) -> Piece
     let s = skip_blanks(text, at);
     let n = text.len();
     if n <= s {
-        return token(Kind::Finish, n, n);
+        return Piece {
+            kind: Kind::Finish,
+            start: n,
+            end: n,
+        };
     }
     let b = text[s];
     if is_word(b) {

@@ -33,6 +33,7 @@ const EITHER: u16 = 160;
 
 // A node that is one token, whose code word this is, after which so many stars are counted.
 #[tactic(auto, unfolding(crate::specs::working::Expressions::Leaf))]
+#[inline(always)]
 fn leaf(text: &[u8], ops: &mut [u16; 2048], c: &mut Cursor, code: u16, stars: usize) -> Parsed
     requires { c.old.emitted < 2048 }
     ensures { Leaf text.now c.old code stars ops.old ops.new (reached result c.new) }

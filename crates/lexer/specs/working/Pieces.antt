@@ -112,6 +112,10 @@ sign_piece s (some k) = piece_of k s (s + 1)
 unfoldable pub mark_piece : ℕ → ℕ → ℕ → Piece
 mark_piece b next s = cond (eqb b 58) (cond (eqb next 61) (piece_of ASSIGN s (s + 2)) (piece_of OTHER s (s + 1))) (sign_piece s (mark_of b))
 
+-- Where a mark at s of the kind with a number ends.
+abbrev pub mark_end : ℕ → ℕ → ℕ
+mark_end k s = cond (eqb k ASSIGN) (s + 2) (s + 1)
+
 -- The piece that begins at s, where no blank stands.
 unfoldable pub piece_from : List ℕ → ℕ → Piece
 piece_from text s =

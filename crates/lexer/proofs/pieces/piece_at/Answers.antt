@@ -1,12 +1,14 @@
 -- At the first place that holds no blank stands a word or a mark, and its piece is the next.
-use mathlib.Core.Path.{sym, ◌∙◌}
+use mathlib.Core.Path.{refl, sym, ◌∙◌}
+use Rattle.lexer.specs.working.Kinds.{kind_of}
 use Rattle.lexer.proofs.Runs.{word-run, run-grows}
 use Rattle.lexer.proofs.Lexing.{at-end, at-word, at_mark}
 use Rattle.lexer.proofs.pieces.piece_at.Goals as goal
 
 pub returns-then-n-s : goal.returns-then-n-s
+unfolding kind_of
 returns-then-n-s c =
-    at-end _ _ _ c.skip_blanks-s.ensures c.if-n-s.true c.token.ensures
+    at-end _ _ _ c.skip_blanks-s.ensures c.if-n-s.true refl
 
 pub word_piece-requires : goal.word_piece-requires
 word_piece-requires c = (
