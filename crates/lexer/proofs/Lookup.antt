@@ -9,13 +9,13 @@ use native.Mathlib.Nat.{add-zero, zero-add, suc-add}
 use native.Mathlib.Numerals.{add-one}
 use native.Mathlib.Omega.{arith}
 use lib.Dec.{eqb, leb, ltb, leb-suc-suc}
-use lib.ListN.{length, get_or, set, take, drop, get_or-eq_default, length-drop, length-set}
-use lib.Seq.{slice, slice-cons, slice_empty, length-slice, length-take-le, get_or-take, get_or-drop, get_or-set_same, get_or-set_other}
+use lib.ListN.{length, get_or, set, take, drop, length-set}
+use lib.Seq.{slice, slice-cons, slice_empty, length-slice, get_or-set_same, get_or-set_other}
 use borrow.Author.Tests.{leb-true, ltb-true, ltb-false, lt-ltb, le-ltb, eq-eqb, ne_eqb}
 use Rattle.std.specs.Prelude as C
 use Rattle.std.specs.Prelude.{Some, None, is_some}
 use Rattle.std.specs.Int.{from_le_bytes, w64}
-use Rattle.std.proofs.lemmas.List.{drop-take, length-take}
+use Rattle.std.proofs.lemmas.List.{drop-take}
 use Rattle.std.proofs.lemmas.Nat.{le_bytes_8}
 use Rattle.notation.specs.Bytes.{between, lower_case, in_lower_case, same_word, upper_letter}
 use Rattle.notation.specs.Tokens.{Word}
@@ -95,31 +95,29 @@ module _ (text : List ℕ) where
   none_left a b k h = let e : k ≡ 0 = omega arith in rw e
 
   -- Eight bytes at once.
-  module _ (fits : (j : ℕ) → get_or text j 0 < 256) where
-    part-fits : (i n k : ℕ) → get_or (take n (drop i text)) k 0 < 256
-    part-fits i n k = go (ltb k n) refl
+  window-fits : (i n : ℕ) → ((j : ℕ) → j < n → get_or text (i + j) 0 < 256) → (k : ℕ) → get_or (window text i n) k 0 < 256
+  unfolding window
+  window-fits i zero f k = omega arith
+  window-fits i (suc n) f zero = rw (add-zero i) at (f 0 (omega arith))
+  window-fits i (suc n) f (suc k) =
+      window-fits (suc i) n (λ j h. let e : suc i + j ≡ i + suc j = omega arith in rw e (f (suc j) (omega (arith, h)))) k
+
+  -- Eight bytes of the text as the code takes them are those of the window.
+  pub eight_taken : (i x : ℕ) → i + 8 ≤ length text → x ≡ from_le_bytes w64 (take 8 (drop i text)) → x ≡ from_le_bytes w64 (window text i 8)
+  eight_taken i x h p = p ∙ ap (from_le_bytes w64) (sym (window-from text (i + 8) i 8 refl h ∙ drop-take i 8 text))
+
+  -- Two numbers are the same exactly if their digits are.
+  module _ (a b x y : ℕ) (f : (j : ℕ) → j < 8 → get_or text (b + j) 0 < 256) (g : (j : ℕ) → j < 8 → get_or text (a + j) 0 < 256)
+      (p : x ≡ from_le_bytes w64 (window text b 8)) (q : y ≡ from_le_bytes w64 (window text a 8)) where
+    pub packs_same : eqb x y ≡ same_word (window text b 8) (window text a 8)
+    packs_same = go (same_word (window text b 8) (window text a 8)) refl
       where
-        go : (x : Bool) → ltb k n ≡ x → get_or (take n (drop i text)) k 0 < 256
-        go true e = rw (get_or-take n (drop i text) k 0 (ltb-true k n e), get_or-drop i text k 0) (fits (i + k))
+        go : (s : Bool) → same_word (window text b 8) (window text a 8) ≡ s → eqb x y ≡ s
+        go true e = eq-eqb x y (p ∙ ap (from_le_bytes w64) (same_word_lem _ _ e) ∙ sym q)
         go false e =
-            let l : length (take n (drop i text)) ≤ k = omega (arith, length-take n (drop i text), ltb-false k n e) in
-            let z : get_or (take n (drop i text)) k 0 ≡ 0 = get_or-eq_default (take n (drop i text)) 0 l in
-            omega arith
-
-    length-eight : (i : ℕ) → i + 8 ≤ length text → length (take 8 (drop i text)) ≡ 8
-    length-eight i h = length-take-le 8 (drop i text) (omega (arith, length-drop i text))
-
-    module _ (a b x y : ℕ) (h : a + 8 ≤ length text) (k : b + 8 ≤ length text) (p : x ≡ from_le_bytes w64 (take 8 (drop b text))) (q : y ≡ from_le_bytes w64 (take 8 (drop a text))) where
-      pub eight_same : eqb x y ≡ same_word (window text b 8) (window text a 8)
-      eight_same =
-          rw (window-from text (b + 8) b 8 refl k ∙ drop-take b 8 text, window-from text (a + 8) a 8 refl h ∙ drop-take a 8 text) (go (same_word (take 8 (drop b text)) (take 8 (drop a text))) refl)
-        where
-          go : (s : Bool) → same_word (take 8 (drop b text)) (take 8 (drop a text)) ≡ s → eqb x y ≡ s
-          go true e = eq-eqb x y (p ∙ ap (from_le_bytes w64) (same_word_lem _ _ e) ∙ sym q)
-          go false e =
-              let f = le_bytes_8 (take 8 (drop b text)) x (length-eight b k) (part-fits b 8) p in
-              let g = le_bytes_8 (take 8 (drop a text)) y (length-eight a h) (part-fits a 8) q in
-              ne_eqb x y (λ z. let w : take 8 (drop b text) ≡ take 8 (drop a text) = cc in let n : ◌≡◌ {A = Bool} true false = sym (same_itself (take 8 (drop a text))) ∙ ap (λ (v : Word). same_word v (take 8 (drop a text))) (sym w) ∙ e in let r : ◌≡◌ {A = ℕ} 0 1 = cc in absurd (omega arith))
+            let u = le_bytes_8 (window text b 8) x (window-length text b 8) (window-fits b 8 f) p in
+            let v = le_bytes_8 (window text a 8) y (window-length text a 8) (window-fits a 8 g) q in
+            ne_eqb x y (λ z. let w : window text b 8 ≡ window text a 8 = cc in let n : ◌≡◌ {A = Bool} true false = sym (same_itself (window text a 8)) ∙ ap (λ (v : Word). same_word v (window text a 8)) (sym w) ∙ e in let r : ◌≡◌ {A = ℕ} 0 1 = cc in absurd (omega arith))
 
   -- What is the same as written is the same but for case.
   written_same : (a b n : ℕ) → same_word (window text b n) (window text a n) ≡ true → same_first text a b n ≡ true
