@@ -87,6 +87,11 @@ pub text_passed : (text b : List ℕ) → trace_passed (test_of text b) ≡ true
 unfolding test_of
 text_passed text b e = answer_passed b (answer text) e
 
+-- What the test answers as the code has it, and whether it is that of a trace.
+module _ (text b : List ℕ) (o : Tested) (tested : o ≡ test_of text b) (x : Bool) (judged : x ≡ trace_passed o) where
+  pub judged_so : (y : Bool) → x ≡ y → trace_passed (test_of text b) ≡ y
+  judged_so y e = ap trace_passed (sym tested) ∙ sym judged ∙ e
+
 -- A number of steps, or what is told in its place, tells what the test answers.
 by_ok : (t : Bool) (m n : ℕ) (d : Declined) → ◌≡◌ {A = Result ℕ Declined} (Ok n) (cond t (Ok m) (Err d)) → (t ≡ true) × (n ≡ m)
 by_ok true m n d e = (refl, cc)

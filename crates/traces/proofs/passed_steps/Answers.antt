@@ -1,14 +1,13 @@
 -- `passed_steps` meets its contract: where the trace passes, all of it stands in the sheet.
-use mathlib.Core.Path.{sym, ap, ◌∙◌}
+use mathlib.Core.Bool.{true}
 use native.Mathlib.Omega.{arith}
-use Rattle.traces.specs.working.Passing.{trace_passed}
-use Rattle.traces.proofs.TracesPassed.{HasTrace, text_passed}
+use Rattle.traces.proofs.TracesPassed.{HasTrace, text_passed, judged_so}
 use Rattle.traces.proofs.passed_steps.Goals as goal
 use Rattle.traces.proofs.passed_steps.Goals.{Else-not-trace_passed}
 
 ready : (c : Else-not-trace_passed) → HasTrace c.args.sheet.now
 ready c =
-    text_passed c.args.text.now _ (ap trace_passed (sym c.in_ok-outcome.ensures.value) ∙ sym c.trace_passed.ensures ∙ c.if-not-trace_passed.false)
+    text_passed c.args.text.now _ (judged_so c.args.text.now _ _ c.in_ok-outcome.ensures.value _ c.trace_passed.ensures true c.if-not-trace_passed.false)
 
 pub step_count-requires : goal.step_count-requires
 step_count-requires c =
