@@ -11,10 +11,10 @@ use native.Mathlib.Numerals.{add-one}
 use lib.Dec.{eqb, ltb}
 use lib.ListN.{get_or}
 use borrow.Author.Tests.{eq-eqb, ne_eqb, lt-ltb, le-ltb, eqb-true, eqb-false, ltb-true}
-use Rattle.std.specs.Prelude.{Option, Some, None, is_some, IsSome, option_map}
+use Rattle.std.specs.Prelude.{Option, Some, None, is_some, IsSome, option_map, unwrap_or}
 use Rattle.notation.proofs.Booleans.{and_split}
 use Rattle.exploration.proofs.Order.{moves_mem, moves-has}
-use Rattle.exploration.specs.working.Transitions.{Transitions, Move, moves}
+use Rattle.exploration.specs.working.Transitions.{Transitions, Move, moves, move_of}
 use Rattle.exploration.specs.working.Runs.{Run, starts_at, goes_on, final, Valid, steps, first_move, move_to, Traced}
 use Rattle.exploration.specs.working.Written.{RecordedTo}
 use Rattle.exploration.specs.working.Pauses.{leads, back_from, records_to}
@@ -116,6 +116,11 @@ pub some-found : {X : Type 0} (f : X → Move) (o : Option X) {found : Option Mo
 some-found f None e = ap is_some e
 some-found f (Some x) e = ap is_some e
 
+-- What is found, or else a move, in a form of its own, is what is found where a move is, or else that move.
+pub or-found : {X : Type 0} (f : X → Move) (o : Option X) (d : X) {found : Option Move} → option_map f o ≡ found → f (unwrap_or o d) ≡ unwrap_or found (f d)
+or-found f None d e = ap (λ (m : Option Move). unwrap_or m (f d)) e
+or-found f (Some x) d e = ap (λ (m : Option Move). unwrap_or m (f d)) e
+
 -- A move that is found leads to t, and is the first one that does.
 pub record Found (M : Transitions) (s t : ℕ) (ms : List Move) (m : Move) : Type 0 where
   pub listed : Memᴰ m ms
@@ -148,6 +153,16 @@ module _ (M : Transitions) (s t : ℕ) where
           (λ g. absurd (eqb-false (M.step s k.command k.word) t f (ap (λ (x : Move). M.step s x.command x.word) (sym g) ∙ e)))
           rest
           (Memᴰ.cases_cons h)
+
+  -- The first move is the one that is found, else that of command 0 and word 0.
+  pub first-found : (ms : List Move) → first_move M s t ms ≡ unwrap_or (move_to M s t ms) (move_of 0 0)
+  unfolding move_to first_move
+  first-found [] = refl
+  first-found (k ∷ ms) = go (eqb (M.step s k.command k.word) t) (first-found ms)
+    where
+      go : (b : Bool) → first_move M s t ms ≡ unwrap_or (move_to M s t ms) (move_of 0 0) → cond b k (first_move M s t ms) ≡ unwrap_or (cond b (Some k) (move_to M s t ms)) (move_of 0 0)
+      go true e = refl
+      go false e = e
 
   -- Whether one is found is whether one leads there.
   pub leads-found : is_some (move_to M s t (moves M)) ≡ leads M s t

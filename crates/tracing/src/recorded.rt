@@ -3,7 +3,7 @@ ghost use Rattle.std.specs.Prelude.{◌≡◌, ◌^◌, ◌<◌, ◌≤◌, leng
 ghost use Rattle.exploration.specs.working.CodeTransitions.{transitions_at};
 ghost use Rattle.exploration.specs.working.Pauses.{records_to};
 
-use crate::traces::first_move;
+use crate::traces::move_to;
 use evaluation::one_row::OneRow;
 
 // Whether the table records a run to t that has fewer steps than there are states.
@@ -23,7 +23,7 @@ pub fn is_recorded(table: &OneRow, states: usize, parent: &[u16], t: u16) -> boo
         if states <= before as usize {
             return false;
         }
-        if first_move(table, before, s).is_none() {
+        if move_to(table, before, s).is_none() {
             return false;
         }
         s = before;

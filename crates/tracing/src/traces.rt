@@ -2,7 +2,7 @@
 ghost use Rattle.std.specs.Prelude.{◌≡◌, ◌+◌, ◌*◌, ◌^◌, ◌<◌, ◌≤◌, length, option_map};
 ghost use Rattle.exploration.specs.working.CodeTransitions.{transitions_at};
 ghost use Rattle.exploration.specs.working.Transitions.{moves, move_of};
-ghost use Rattle.exploration.specs.working.Runs.{move_to};
+ghost use Rattle.exploration.specs.working.Runs.{first_move, move_to};
 ghost use Rattle.exploration.specs.working.Written.{RecordedIn, TraceStored};
 
 use evaluation::lanes::{fill, first_rows, pick};
@@ -17,7 +17,7 @@ pub struct Choice {
 }
 
 // The first command, and of its words the first, that leads from s to t, if one does.
-pub fn first_move(table: &OneRow, s: u16, t: u16) -> Option<Choice>
+pub fn move_to(table: &OneRow, s: u16, t: u16) -> Option<Choice>
     requires { s < 2 ^ table.now.plan.bits }
     ensures { option_map (λ x. move_of x.command x.word) result ≡ move_to (transitions_at table.now) s t (moves (transitions_at table.now)) }
 {
@@ -50,6 +50,17 @@ pub fn first_move(table: &OneRow, s: u16, t: u16) -> Option<Choice>
     None
 }
 
+// The same, where one does; else command 0 and word 0.
+pub fn first_move(table: &OneRow, s: u16, t: u16) -> Choice
+    requires { s < 2 ^ table.now.plan.bits }
+    ensures { move_of result.command result.word ≡ first_move (transitions_at table.now) s t (moves (transitions_at table.now)) }
+{
+    move_to(table, s, t).unwrap_or(Choice {
+        command: 0,
+        word: 0,
+    })
+}
+
 // Writes the trace of the recorded run to t from `at` on, its last step first; where it ends.
 pub fn write_trace(table: &OneRow, parent: &[u16], t: u16, at: usize, out: &mut [u8]) -> usize
     requires { (2 ^ table.now.plan.bits ≤ length parent.now) × RecordedIn (transitions_at table.now) parent.now t × (at + 10 * 2 ^ table.now.plan.bits ≤ length out.old + 2) }
@@ -68,7 +79,7 @@ pub fn write_trace(table: &OneRow, parent: &[u16], t: u16, at: usize, out: &mut 
     let mut u = t;
     'write: for i in (0..n).rev() {
         let p = parent[u as usize] - 1;
-        let x = first_move(table, p, u).unwrap();
+        let x = first_move(table, p, u);
         put_step(out, at + 8 + 10 * i, x.command, x.word, u);
         u = p;
     }

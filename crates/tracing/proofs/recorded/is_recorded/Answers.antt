@@ -11,7 +11,7 @@ use Rattle.exploration.specs.working.Pauses.{leads, records_to}
 use Rattle.exploration.specs.working.Transitions.{move_of}
 use Rattle.exploration.proofs.Recorded.{records_none, records_start, records_out, records_lost, records_on, records_end, some-found, leads-found}
 use Rattle.tracing.proofs.recorded.is_recorded.Goals as goal
-use Rattle.tracing.proofs.recorded.is_recorded.Goals.{In-Some, After-first_move, In-back}
+use Rattle.tracing.proofs.recorded.is_recorded.Goals.{In-Some, After-move_to, In-back}
 
 -- There is a state left to go back to.
 left : (c : In-back) → 0 < c.args.states - c.back.counter
@@ -29,10 +29,10 @@ before c =
     )
 
 -- Whether a move leads from there.
-found : (c : After-first_move) →
-    is_some c.first_move.result ≡ leads (transitions_in c.args.table.now.ops.now c.args.table.now.plan) c.in-Some.before c.back.s
+found : (c : After-move_to) →
+    is_some c.move_to.result ≡ leads (transitions_in c.args.table.now.ops.now c.args.table.now.plan) c.in-Some.before c.back.s
 found c =
-    some-found (λ x. move_of x.command x.word) c.first_move.result c.first_move.ensures
+    some-found (λ x. move_of x.command x.word) c.move_to.result c.move_to.ensures
     ∙ leads-found (transitions_in c.args.table.now.ops.now c.args.table.now.plan) c.in-Some.before c.back.s
 
 pub returns-in_default : goal.returns-in_default
@@ -74,7 +74,7 @@ returns-then-is_none c =
     (sym c.back.invariant.1
     ∙ records_lost T table (c.args.states - c.back.counter) c.back.s (left at.In-back) _ (before at.In-Some) c.if-before-s.false
     (omega (arith, c.if-states-before.false, c.requires.0))
-    (sym (found at.After-first_move) ∙ c.if-is_none.ensures))
+    (sym (found at.After-move_to) ∙ c.if-is_none.ensures))
 
 pub back-preserved : goal.back-preserved
 back-preserved c =
@@ -87,7 +87,7 @@ back-preserved c =
           (sym
           (records_on T table (c.args.states - c.back.counter) c.back.s (left at.In-back) _ (before at.In-Some) c.if-before-s.false
           (omega (arith, c.if-states-before.false, c.requires.0))
-          (sym (found at.After-first_move) ∙ c.if-is_none.ensures))
+          (sym (found at.After-move_to) ∙ c.if-is_none.ensures))
           ∙ c.back.invariant.1),
     )
 

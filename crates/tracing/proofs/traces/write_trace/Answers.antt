@@ -8,10 +8,9 @@ use Rattle.exploration.specs.working.Runs.{run_to, steps}
 use Rattle.exploration.specs.working.Transitions.{move_of}
 use Rattle.exploration.proofs.CodeSteps.{code_lawful, words-within}
 use Rattle.exploration.proofs.Trace.{recorded-short, recorded-below, recorded-one, walking_start, walking_end, walking_next}
-use Rattle.exploration.proofs.Trace.{writing_start, writing_parent, writing_some, Turn, writing_next, writing_end}
-use Rattle.exploration.proofs.Recorded.{some-found}
+use Rattle.exploration.proofs.Trace.{writing_start, writing_parent, Turn, writing_next, writing_end}
 use Rattle.tracing.proofs.traces.write_trace.Goals as goal
-use Rattle.tracing.proofs.traces.write_trace.Goals.{After-unwrap-x, At-count, In-write, Start, Then-p-s}
+use Rattle.tracing.proofs.traces.write_trace.Goals.{After-first_move-x, At-count, In-write, Start, Then-p-s}
 
 -- The states on the way back are states; the first loop counts the run's steps, and a turn of the second writes one.
 s-below : (c : At-count) →
@@ -33,14 +32,14 @@ u-below : (c : In-write) →
 u-below c =
     recorded-below (transitions_in _ c.args.table.now.plan) (code_lawful _ c.args.table.now.plan) _ c.write.invariant.here
 
-turn : (c : After-unwrap-x) →
+turn : (c : After-first_move-x) →
     Turn
     (transitions_in c.args.table.now.ops.now c.args.table.now.plan)
     (code_lawful _ c.args.table.now.plan) _ _ _ _ _ _ _ c.write.invariant
-    (move_of c.unwrap-x.result.command c.unwrap-x.result.word)
+    (move_of c.first_move-x.result.command c.first_move-x.result.word)
 turn c =
     writing_next (transitions_in _ c.args.table.now.plan) (code_lawful _ c.args.table.now.plan) _ _ _ _ _ _ _ c.write.invariant
-    c.write-test.true _ (rw c.unwrap-x.ensures at c.first_move.ensures)
+    c.write-test.true _ c.first_move-x.ensures
 
 pub count-init : goal.count-init
 count-init c =
@@ -71,31 +70,26 @@ pub overflow_sub-p-in-write : goal.overflow_sub-p-in-write
 overflow_sub-p-in-write c =
     recorded-one (transitions_in _ c.args.table.now.plan) (code_lawful _ c.args.table.now.plan) _ c.write.invariant.here
 
-pub first_move-requires : goal.first_move-requires
-first_move-requires c =
+pub first_move-x-requires : goal.first_move-x-requires
+first_move-x-requires c =
     writing_parent (transitions_in _ c.args.table.now.plan) (code_lawful _ c.args.table.now.plan) _ _ _ _
     _ _ _ c.write.invariant c.write-test.true
-
-pub unwrap-x-requires : goal.unwrap-x-requires
-unwrap-x-requires c =
-    some-found (λ x. move_of x.command x.word) c.first_move.result c.first_move.ensures
-    ∙ writing_some (transitions_in _ c.args.table.now.plan) (code_lawful _ c.args.table.now.plan) _ _ _ _ _ _ _ c.write.invariant c.write-test.true
 
 pub put_step-requires : goal.put_step-requires
 put_step-requires c = (
   omega (arith, c.write.invariant.room),
-  omega (arith, (turn (goal.at.put_step-requires c).After-unwrap-x).move.0, c.args.table.now.sound.few_commands),
+  omega (arith, (turn (goal.at.put_step-requires c).After-first_move-x).move.0, c.args.table.now.sound.few_commands),
   omega (
     arith,
-    (turn (goal.at.put_step-requires c).After-unwrap-x).move.1,
-    words-within c.args.table.now.sound c.unwrap-x.result.command
-        (turn (goal.at.put_step-requires c).After-unwrap-x).move.0,
+    (turn (goal.at.put_step-requires c).After-first_move-x).move.1,
+    words-within c.args.table.now.sound c.first_move-x.result.command
+        (turn (goal.at.put_step-requires c).After-first_move-x).move.0,
   ),
 )
 
 pub write-preserved : goal.write-preserved
 write-preserved c =
-    rw c.put_step.ensures (turn (goal.at.write-preserved c).After-unwrap-x).next
+    rw c.put_step.ensures (turn (goal.at.write-preserved c).After-first_move-x).next
 
 pub returns : goal.returns
 returns c =

@@ -1,4 +1,4 @@
--- `first_move` meets its contract: the first of the moves left is the first of all.
+-- `move_to` meets its contract: the first of the moves left is the first of all.
 use Prim.Native.Nat.{◌+◌, ◌-◌}
 use mathlib.Core.Path.{◌≡◌}
 use mathlib.Core.List.{◌++◌}
@@ -7,7 +7,7 @@ use Rattle.evaluation.proofs.Batches as B
 use Rattle.exploration.specs.working.CodeTransitions.{transitions_in}
 use Rattle.exploration.specs.working.Runs.{move_to}
 use Rattle.exploration.specs.working.Transitions.{words_from, moves_from, moves}
-use Rattle.tracing.proofs.traces.first_move.Given as goal
+use Rattle.tracing.proofs.traces.move_to.Given as goal
 
 abbrev pub invariant-words : goal.invariant-words
 invariant-words l =
