@@ -6,8 +6,7 @@
 mod progress;
 
 use progress::search_showing;
-use reporting::put_report;
-use search::search;
+use reporting::{put_report, write_report};
 use std::env::Env;
 use std::io::Write;
 use streams::arguments::{argument, argument_count};
@@ -21,12 +20,12 @@ fn report(out: &mut impl Write, errors: &mut impl Write, text: &[u8], showing: b
     let mut second = [0u16; 4096];
     let mut sheet = [0u8; 40967];
     let mut written = [0u8; 147457];
-    let found = if showing {
-        search_showing(errors, text, &mut first, &mut second, &mut sheet)
+    let n = if showing {
+        let found = search_showing(errors, text, &mut first, &mut second, &mut sheet);
+        put_report(text, found, &sheet, &mut written)
     } else {
-        search(text, &mut first, &mut second, &mut sheet)
+        write_report(text, &mut first, &mut second, &mut sheet, &mut written)
     };
-    let n = put_report(text, found, &sheet, &mut written);
     write_out(out, errors, b"report", &written[..n]);
 }
 
