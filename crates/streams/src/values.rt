@@ -1,6 +1,10 @@
-// What a writer puts, by how much room it takes at most.
+// What a writer puts, and how much room it takes at most.
 ghost use Rattle.std.specs.Prelude.{◌+◌, ◌*◌, length};
+ghost use Rattle.lines.specs.Lines.{refusal_line};
+ghost use Rattle.lines.specs.Writers.{Writes};
+ghost use Rattle.refusals.specs.Reasons.{number_of};
 ghost use Rattle.streams.specs.Growth.{RoomFor, Grows};
+ghost use Rattle.streams.specs.Values.{PutsValues};
 
 use lines::Writer;
 use refusals::Refusal;
@@ -9,7 +13,8 @@ use refusals::Refusal;
 #[tactic(auto, using(crate::proofs::Growing::growing))]
 pub fn put_values<T: Copy + Into<usize>>(out: &mut Writer, title: &[u8], values: &[T])
     requires { RoomFor out.old (length title.now + 21 * length values.now) }
-    ensures { Grows out.old (length title.now + 21 * length values.now) out.new }
+    ensures line { PutsValues T.converts title.now values.now out.old out.new }
+    ensures grows { Grows out.old (length title.now + 21 * length values.now) out.new }
 {
     out.put(title);
     for value in values {
@@ -21,7 +26,8 @@ pub fn put_values<T: Copy + Into<usize>>(out: &mut Writer, title: &[u8], values:
 #[tactic(auto, using(crate::proofs::Growing::growing))]
 pub fn put_refused(out: &mut Writer, refusal: Refusal)
     requires { RoomFor out.old 50 }
-    ensures { Grows out.old 50 out.new }
+    ensures line { Writes out.old (refusal_line (number_of refusal.reason) refusal.place) out.new }
+    ensures grows { Grows out.old 50 out.new }
 {
     out.put_refusal(refusal);
 }
