@@ -82,13 +82,20 @@ impl<'a> Writer<'a> {
         self.put(b"\n");
     }
 
-    // `refused`, a refusal's number and its place.
+    // `refused`, a number and a place.
     #[tactic(auto, unfolding(notation::specs::Bytes::bytes))]
+    pub fn put_refusal_line(&mut self, number: usize, place: usize)
+        requires { HasRoom self.old (refusal_line number place) }
+        ensures { Writes self.old (refusal_line number place) self.new }
+    {
+        self.put_numbers_line(b"refused", number, place);
+    }
+
+    // The line of a refusal, with the number of its reason.
     pub fn put_refusal(&mut self, refusal: Refusal)
         requires { HasRoom self.old (refusal_line (number_of refusal.reason) refusal.place) }
         ensures { Writes self.old (refusal_line (number_of refusal.reason) refusal.place) self.new }
     {
-        let number = usize::from(refusal.reason.number());
-        self.put_numbers_line(b"refused", number, refusal.place);
+        self.put_refusal_line(usize::from(refusal.reason.number()), refusal.place);
     }
 }
