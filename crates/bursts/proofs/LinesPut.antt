@@ -4,10 +4,11 @@ use mathlib.Core.Bool.{Bool, true, false, cond}
 use mathlib.Core.Logic.{◌⊎◌, inl, inr}
 use mathlib.Core.Path.{◌≡◌, refl, sym, ap, ◌∙◌}
 use mathlib.Core.List.{List}
-use Prim.Native.Nat.{ℕ, ◌<◌, ◌≤◌}
+use Prim.Native.Nat.{ℕ, ◌+◌, ◌<◌, ◌≤◌}
 use native.Mathlib.Omega.{arith}
 use lib.Dec.{eqb, ltb}
-use lib.ListN.{length, get_or}
+use lib.ListN.{length, get_or, take, drop}
+use lib.Seq.{sets, sets-eq, take-append_seam}
 use borrow.Author.Tests.{eq-eqb, ne_eqb, lt-ltb, le-ltb}
 use Rattle.notation.specs.Tokens.{Word}
 use Rattle.notation.specs.working.Answer.{answer}
@@ -128,3 +129,9 @@ module _ (text b : List ℕ) (w : ℕ) (reply : Reply) (same : reply ≡ (survey
   pub by_declined : (d : Declined) → reply.answer ≡ Err (U.Declined d) → line_of_declined d ≡ bursts_of text b w
   unfolding after_test wording_of
   by_declined d e = by_answer (Err (U.Declined d)) e
+
+-- What was put at a buffer's front, taken from it.
+pub front : (l v : List ℕ) → length v ≤ length l → take (length v) (sets l 0 v) ≡ v
+front l v h =
+    let k : 0 + length v ≤ length l = omega arith in
+    ap (take (length v)) (sets-eq v l 0 k) ∙ take-append_seam v (drop (0 + length v) l)

@@ -1,16 +1,16 @@
 -- Bytes are tested and words compared as the notation does it, and the table of the reserved words gives the number by which a word is a token.
 -- Assumes nothing.
-use mathlib.Core.Path.{◌≡◌, refl, sym, ap, ◌∙◌}
+use mathlib.Core.Path.{◌≡◌, refl, sym, ap, ◌∙◌, subst}
 use mathlib.Core.Bool.{Bool, true, false, cond, not, ◌&&◌, ◌||◌, or_comm, and-true, and-false}
 use mathlib.Core.List.{List, [], ◌∷◌, map}
 use mathlib.Core.Option.{Option, none, some}
-use Prim.Native.Nat.{ℕ, zero, suc, ◌+◌, ◌-◌, ◌≤◌, ◌<◌, max}
+use Prim.Native.Nat.{ℕ, zero, suc, ◌+◌, ◌*◌, ◌-◌, ◌≤◌, ◌<◌, max}
 use native.Mathlib.Numerals.{add-one}
 use native.Mathlib.Omega.{arith}
 use lib.Dec.{leb, eqb}
-use lib.ListN.{length, get_or, take, drop, drop_of_length-le}
+use lib.ListN.{length, get_or, take, drop, drop_of_length-le, get_or-map}
 use lib.Seq.{slice, drop-cons}
-use borrow.Author.Tests.{le-ltb, lt-ltb, le-leb, lt-leb, leb-true, eq-eqb, ne_eqb, eqb-false}
+use borrow.Author.Tests.{le-ltb, lt-ltb, le-leb, lt-leb, leb-true, eq-eqb, ne_eqb, eqb-true, eqb-false}
 use denote.Ref.{Bor}
 use Rattle.std.specs.Prelude.{Some, option_map}
 use Rattle.std.specs.Char.{is_ascii_alphabetic, eq_ignore_ascii_case, to_ascii_lowercase, to_ascii_uppercase}
@@ -168,15 +168,29 @@ module _ (w : Word) where
       go true a e = rw (← a)
       go false a e = rw (← a) e
 
-unfoldable greatest : List ℕ → ℕ
+unfoldable pub greatest : List ℕ → ℕ
 greatest [] = 0
 greatest (a ∷ l) = max a (greatest l)
+
+pub at_most : (l : List ℕ) (i : ℕ) → get_or l i 0 ≤ greatest l
+unfolding greatest
+at_most [] i = omega arith
+at_most (a ∷ l) zero = omega arith
+at_most (a ∷ l) (suc i) = omega (arith, at_most l i)
+
+pub seven : (k : ℕ) → length (get_or reserved k []) ≤ 7
+unfolding reserved bytes greatest
+seven k = subst (λ (n : ℕ). n ≤ 7) (get_or-map length reserved k []) (at_most (map length reserved) k)
 
 -- A word that is longer than all of them is none.
 longer : (w : Word) (vs : List Word) (i : ℕ) → greatest (map length vs) < length w → word_in w vs i ≡ none
 unfolding word_in greatest
 longer w [] i h = refl
 longer w (v ∷ vs) i h = rw (sym (lengths_differ w v (λ e. omega arith))) (longer w vs (suc i) (omega arith))
+
+pub look_long : (w : Word) → LONGEST < length w → word_in w reserved 0 ≡ none
+unfolding reserved bytes greatest
+look_long w h = longer w reserved 0 h
 
 -- What was found is the number of a word of the list.
 pub found_below : (w : Word) (vs : List Word) (i j : ℕ) → word_in w vs i ≡ some j → j < i + length vs
@@ -281,3 +295,28 @@ same-one a b = and-true (eqb a b)
 
 pub plain-digit : (i b : ℕ) → letter b ≡ false → plain_word i (b ∷ []) ≡ cond (eqb b 48) (sign ZERO) (cond (eqb b 49) (sign ONE) (sign OTHER))
 plain-digit i b h = rw (h, same-one b 48, same-one b 49)
+
+-- The lowest digits of two numbers, and what is above them.
+pub peel : (x y p q : ℕ) → x < 256 → y < 256 → eqb (x + 256 * p) (y + 256 * q) ≡ eqb x y && eqb p q
+peel x y p q h k = go (eqb x y) refl (eqb p q) refl
+  where
+    go : (s : Bool) → eqb x y ≡ s → (t : Bool) → eqb p q ≡ t → eqb (x + 256 * p) (y + 256 * q) ≡ s && t
+    go true e true f = eq-eqb (x + 256 * p) (y + 256 * q) (omega (arith, eqb-true x y e, eqb-true p q f))
+    go true e false f = ne_eqb (x + 256 * p) (y + 256 * q) (λ z. eqb-false p q f (omega (arith, eqb-true x y e, z)))
+    go false e t f = ne_eqb (x + 256 * p) (y + 256 * q) (λ z. eqb-false x y e (omega (arith, z)))
+
+-- A number looked for in a list, from place k on.
+module _ (w : ℕ) (js : List ℕ) (k : ℕ) where
+  elem_turn : k < length js → elem w (drop k js) ≡ eqb (get_or js k 0) w || elem w (drop (suc k) js)
+  unfolding elem
+  elem_turn h = ap (elem w) (drop-cons js k 0 h)
+
+  pub elem-here : k < length js → get_or js k 0 ≡ w → true ≡ elem w (drop k js)
+  elem-here h e = sym (elem_turn h ∙ rw (eq-eqb _ _ e))
+
+  pub elem_later : k < length js → (get_or js k 0 ≡ w → ⊥) → elem w (drop (k + 1) js) ≡ elem w (drop k js)
+  elem_later h e = rw add-one (sym (elem_turn h ∙ rw (ne_eqb _ _ e)))
+
+  pub elem_none : length js ≤ k → false ≡ elem w (drop k js)
+  unfolding elem
+  elem_none h = sym (ap (elem w) (drop_of_length-le js h))

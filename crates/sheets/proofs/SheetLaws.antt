@@ -124,3 +124,8 @@ steps_left states commands stars b p q n i rest h k e f =
 pub map-length_pos : (states n : ℕ) → n ≡ map_length states → 1 ≤ n
 unfolding map_length
 map-length_pos states n e = omega arith
+
+-- No map of so few states is longer than this.
+pub map-length_le : (states n : ℕ) → states ≤ 4096 → n ≡ map_length states → n ≤ 512
+unfolding map_length
+map-length_le states n h e = omega arith

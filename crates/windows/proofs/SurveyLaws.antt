@@ -17,7 +17,7 @@ use Rattle.windows.specs.declared.record.Unanswered.{Unanswered}
 use Rattle.windows.specs.declared.record.Tally.{Tally}
 use Rattle.windows.specs.declared.record.Begun.{Begun}
 use Rattle.windows.specs.declared.record.Reply.{Reply}
-use Rattle.windows.proofs.Filled.{part-front, part-rest}
+use Rattle.windows.proofs.Filled.{length-filled, part-front, part-rest}
 use Rattle.windows.proofs.AskLaws.{counts-long}
 
 survey-for : (q : Question) (b : List ℕ) (list : List Step) (x : N.Outcome)
@@ -39,6 +39,15 @@ module _ (q : Question) (text b : List ℕ) (list : List Step) where
 
   pub survey-counts : length (survey_of q text b list).reply.counts ≡ 16
   survey-counts = ap (λ (s : Survey). length s.reply.counts) (sym survey_by) ∙ sixteen (begin_of q text b (length list)) refl
+
+  -- Whatever it begins with, the list is as long as before.
+  as_long : (x : Result Begun Unanswered) → length (survey_in header q x b list).list ≡ length list
+  unfolding survey_in
+  as_long (Ok begun) = length-filled (step_at header b) list begun.steps
+  as_long (Err u) = refl
+
+  pub survey-length : length (survey_of q text b list).list ≡ length list
+  survey-length = ap (λ (s : Survey). length s.list) (sym survey_by) ∙ as_long (begin_of q text b (length list))
 
   -- What it begins with, as the code has it, tells the whole survey.
   whole : (x : Result Begun Unanswered) → x ≡ begin_of q text b (length list) → survey_in header q x b list ≡ survey_of q text b list
