@@ -104,11 +104,6 @@ module _ (text names : List ℕ) (l : Ledger) (c : Cursor) (r : Ready text l 0 c
   item-skip false u p a y h =
       skip-says (item_words text names l false) Item.skip' (item_at text names l false c) p a y (rw (listed-sign text t 11 u (omega arith), reader_token (length text) T.item) refl) refl h
 
-  -- Outside a `for`, what is said of items is said here.
-  pub item-outside : (rows : Bool) → rows ≡ false → (p a : List ℕ) (y : Parsed) → SaysItem text names l false c p a y → SaysItem text names l rows c p a y
-  item-outside true e p a y h = absurd (false≢true (sym e))
-  item-outside false e p a y h = h
-
   -- ---- an item that is none
 
   pub item_missing : (rows : Bool) → (kind_number t.kind ≡ 11 → ⊥) → (kind_number t.kind ≡ 24 → ⊥) → (kind_number t.kind ≡ 9 → rows ≡ true) → item_at text names l rows c ≡ stopped (misplaced t)

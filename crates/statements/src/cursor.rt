@@ -1,5 +1,5 @@
 // Where a reading stands, and how it moves on.
-ghost use Rattle.std.specs.Prelude.{◌≡◌, ◌<◌, set};
+ghost use Rattle.std.specs.Prelude.{◌≡◌, ◌<◌, set, OnErr};
 ghost use Rattle.lexer.specs.working.Kinds.{kind_number};
 ghost use Rattle.statements.specs.working.Cursors.{passed, reached, Expected, emitted};
 
@@ -45,7 +45,8 @@ impl Cursor {
     // Past a sign that has to stand here.
     #[tactic(auto, unfolding(crate::specs::working::Cursors::Expected))]
     pub fn expect(&mut self, text: &[u8], kind: Kind) -> Parsed
-        ensures { Expected text.now self.old (kind_number kind) (reached result self.new) }
+        ensures says { Expected text.now self.old (kind_number kind) (reached result self.new) }
+        ensures kept { OnErr result (self.new ≡ self.old) }
     {
         if self.next.kind != kind {
             return Err(self.next.misplaced());

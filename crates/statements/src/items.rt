@@ -1,5 +1,5 @@
 // Items, one or more, joined by semicolons, in a command and inside `for`.
-ghost use Rattle.std.specs.Prelude.{◌≡◌, ◌<◌, true, false};
+ghost use Rattle.std.specs.Prelude.{◌≡◌, ◌<◌, true, false, OnErr};
 ghost use Rattle.notation.specs.Tokens.{FOR};
 ghost use Rattle.lexer.specs.working.Kinds.{kind_number};
 ghost use Rattle.lexer.specs.working.Pieces.{NAME};
@@ -30,7 +30,8 @@ const PASS: u16 = 320;
 #[tactic(auto, unfolding(crate::specs::working::Items::Marked, crate::specs::working::Cursors::Expected))]
 pub fn mark(text: &[u8], ops: &mut [u16; 2048], c: &mut Cursor, kind: Kind, code: u16) -> Parsed
     requires { c.old.emitted < 2048 }
-    ensures { Marked text.now (kind_number kind) code c.old ops.old ops.new (reached result c.new) }
+    ensures says { Marked text.now (kind_number kind) code c.old ops.old ops.new (reached result c.new) }
+    ensures kept { OnErr result (c.new ≡ c.old) }
 {
     c.expect(text, kind)?;
     c.emit(ops, code);
@@ -82,8 +83,44 @@ fn assignment(
     Ok(())
 }
 
+// `skip`, or an assignment to a row name.
+fn row_item(
+    text: &[u8],
+    names: &[u16; 56],
+    ops: &mut [u16; 2048],
+    c: &mut Cursor,
+    l: Ledger,
+) -> Parsed
+    requires { Ready text.now l 0 c.old }
+    ensures { SaysItem text.now names.now l true c.old ops.old ops.new (reached result c.new) }
+{
+    match c.next.kind {
+        Kind::Skip => skip_item(text, ops, c),
+        Kind::Name => assignment(text, names, ops, c, l, true),
+        _ => Err(c.next.misplaced()),
+    }
+}
+
+// Row items joined by semicolons.
+fn row_items(
+    text: &[u8],
+    names: &[u16; 56],
+    ops: &mut [u16; 2048],
+    c: &mut Cursor,
+    l: Ledger,
+) -> Parsed
+    requires { Ready text.now l 0 c.old }
+    ensures { SaysItems text.now names.now l true c.old ops.old ops.new (reached result c.new) }
+{
+    row_item(text, names, ops, c, l)?;
+    'rows: while c.next.kind == Kind::Semi {
+        c.pass(text);
+        row_item(text, names, ops, c, l)?;
+    }
+    Ok(())
+}
+
 // `for`: its condition and its two branches.
-#[cycle(item_items_for_item)]
 fn for_item(
     text: &[u8],
     names: &[u16; 56],
@@ -105,35 +142,26 @@ fn for_item(
     };
     or_level(text, names, ops, MAX_DEPTH, c, sc, l)?;
     mark(text, ops, c, Kind::Do, WHEN)?;
-    items(text, names, ops, c, l, true)?;
+    row_items(text, names, ops, c, l)?;
     mark(text, ops, c, Kind::Else, OTHERWISE)?;
-    items(text, names, ops, c, l, true)?;
+    row_items(text, names, ops, c, l)?;
     mark(text, ops, c, Kind::End, DONE)
 }
 
-// `skip`, an assignment to a row name, if `rows`, or else to a shared name, or, outside a `for`, `for`.
-#[cycle(item_items_for_item)]
-fn item(
-    text: &[u8],
-    names: &[u16; 56],
-    ops: &mut [u16; 2048],
-    c: &mut Cursor,
-    l: Ledger,
-    rows: bool,
-) -> Parsed
+// `skip`, an assignment to a shared name, or `for`.
+fn item(text: &[u8], names: &[u16; 56], ops: &mut [u16; 2048], c: &mut Cursor, l: Ledger) -> Parsed
     requires { Ready text.now l 0 c.old }
-    ensures { SaysItem text.now names.now l rows c.old ops.old ops.new (reached result c.new) }
+    ensures { SaysItem text.now names.now l false c.old ops.old ops.new (reached result c.new) }
 {
     match c.next.kind {
         Kind::Skip => skip_item(text, ops, c),
-        Kind::Name => assignment(text, names, ops, c, l, rows),
-        Kind::For if !rows => for_item(text, names, ops, c, l),
+        Kind::Name => assignment(text, names, ops, c, l, false),
+        Kind::For => for_item(text, names, ops, c, l),
         _ => Err(c.next.misplaced()),
     }
 }
 
 // Items joined by semicolons: row items, if `rows`, or else items.
-#[cycle(item_items_for_item)]
 pub fn items(
     text: &[u8],
     names: &[u16; 56],
@@ -145,10 +173,13 @@ pub fn items(
     requires { Ready text.now l 0 c.old }
     ensures { SaysItems text.now names.now l rows c.old ops.old ops.new (reached result c.new) }
 {
-    item(text, names, ops, c, l, rows)?;
+    if rows {
+        return row_items(text, names, ops, c, l);
+    }
+    item(text, names, ops, c, l)?;
     'list: while c.next.kind == Kind::Semi {
         c.pass(text);
-        item(text, names, ops, c, l, rows)?;
+        item(text, names, ops, c, l)?;
     }
     Ok(())
 }

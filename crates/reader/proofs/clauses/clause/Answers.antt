@@ -22,4 +22,4 @@ returns-in_err-segment-2 c =
 
 pub returns : goal.returns
 returns c =
-    clause-says _ _ _ _ _ _ c.requires.0 c.requires.1.0 _ _ _ _ _ c.in_ok-segment.ensures _ _ _ c.in_ok-segment-2.ensures _ c.expect.ensures
+    clause-says _ _ _ _ _ _ c.requires.0 c.requires.1.0 _ _ _ _ _ c.in_ok-segment.ensures _ _ _ c.in_ok-segment-2.ensures _ c.expect.ensures.says

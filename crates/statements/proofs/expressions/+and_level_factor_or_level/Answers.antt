@@ -100,7 +100,7 @@ factor-returns-in_err-or_level-in-Open t c =
 pub factor-returns-in_ok-or_level-in-Open : goal.factor-returns-in_ok-or_level-in-Open
 factor-returns-in_ok-or_level-in-Open t c =
     open_closes _ _ _ _ _ _ c.requires.1 (ap kind_number c.in-Open.is) c.requires.0 c.if-depth-eq0.false _
-    (is-past c.pass.ensures) (said_ok c.in_ok-or_level-in-Open.ensures) c.expect.ensures
+    (is-past c.pass.ensures) (said_ok c.in_ok-or_level-in-Open.ensures) c.expect.ensures.says
 
 pub factor-returns-then-depth-eq0-2 : goal.factor-returns-then-depth-eq0-2
 factor-returns-then-depth-eq0-2 t c =

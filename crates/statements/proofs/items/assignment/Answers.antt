@@ -17,7 +17,7 @@ ready c =
     let s = some_name (sym c.find_name.ensures ∙ c.in-Some.is) in
     value-ready _ c.args.names.now _ _ c.requires.0 c.args.rows _ _ _ c.first_target-from.ensures
     c.visible-to.ensures s.0 s.1 c.if-c-ge-MAX_ITEMS.false _ (is-past c.pass.ensures)
-    _ c.in_ok-expect.ensures
+    _ c.in_ok-expect.ensures.says
 
 -- The name's number is small.
 few : (c : In-Some) → c.in-Some.i < 12
@@ -51,7 +51,7 @@ returns-in_err-expect c =
     (was_refused
     (assign_bad _ c.args.names.now _ _ c.requires.0 c.args.rows _ _ _ c.first_target-from.ensures
     c.visible-to.ensures s.0
-    s.1 c.if-c-ge-MAX_ITEMS.false _ (is-past c.pass.ensures) _ c.in_err-expect.ensures)
+    s.1 c.if-c-ge-MAX_ITEMS.false _ (is-past c.pass.ensures) _ c.in_err-expect.ensures.says)
     wrote_none)
 
 pub or_level-requires : goal.or_level-requires
@@ -64,7 +64,7 @@ returns-in_err-or_level c =
     rw (passed c.from_residual-in_err-or_level.result c.from_residual-in_err-or_level.ensures.1)
     (value_bad _ c.args.names.now _ _ c.requires.0 c.args.rows _ _ _ c.first_target-from.ensures
     c.visible-to.ensures s.0
-    s.1 c.if-c-ge-MAX_ITEMS.false _ (is-past c.pass.ensures) _ c.in_ok-expect.ensures
+    s.1 c.if-c-ge-MAX_ITEMS.false _ (is-past c.pass.ensures) _ c.in_ok-expect.ensures.says
     c.in_err-or_level.ensures)
 
 pub overflow_cast-i : goal.overflow_cast-i
@@ -84,5 +84,5 @@ returns c =
     let s = some_name (sym c.find_name.ensures ∙ c.in-Some.is) in
     assign-says _ c.args.names.now _ _ c.requires.0 c.args.rows _ _ _ c.first_target-from.ensures
     c.visible-to.ensures s.0
-    s.1 c.if-c-ge-MAX_ITEMS.false _ (is-past c.pass.ensures) _ c.in_ok-expect.ensures
+    s.1 c.if-c-ge-MAX_ITEMS.false _ (is-past c.pass.ensures) _ c.in_ok-expect.ensures.says
     (said_ok c.in_ok-or_level.ensures) c.emit.ensures
