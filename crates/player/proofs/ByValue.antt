@@ -1,5 +1,5 @@
 -- A record by value that is lent from a local: one walk for every function `fn f(player: Player, text: &[u8], sheet: &[u8]) -> Move { let mut lent = player; let answer = g(&mut lent, text, sheet); Move { player: lent, answer: answer } }`.
--- The walk knows of g only that it meets the contract of a record that is lent, `On move` of `Lent.antt`. So it holds of any key g and any `move`; a proof of such a function is `by_value_as` at its own two.
+-- The walk knows of g only that it meets the contract of a record that is lent, `On move` of `Lent.antt`. So it holds of any key g and any `move`; a function's own proof is `by_value_as` at its own two.
 -- The local is lent to g for a lifetime of the call, and comes back moved.
 -- Assumes nothing.
 use mathlib.Core.Path.{◌≡◌, refl, subst}

@@ -1,5 +1,5 @@
 -- A lent record that a move changes in place: one walk for every function `fn f(player: &mut Player, text: &[u8], sheet: &[u8]) -> Result<Answer, Declined> { let moved = g(text, sheet, *player); *player = moved.player; moved.answer }`.
--- The walk knows of g only that it meets `From move`: its result is `move text sheet player`. So it holds of any key g and any `move`; a proof of such a function is `lent_as` at its own two.
+-- The walk knows of g only that it meets `From move`: its result is `move text sheet player`. So it holds of any key g and any `move`; a function's own proof is `lent_as` at its own two.
 -- Assumes nothing.
 use mathlib.Core.Path.{◌≡◌, refl, ap, subst}
 use Prim.Native.Nat.{ℕ}
@@ -22,10 +22,10 @@ use sound.WpLaws.{FmC, fm_of, WpFn-mono}
 use denote.RattleType.{RattleType, owns}
 use denote.Laws.{Is, shows}
 use denote.Memory.{mem, pointee}
-use denote.Builtin.{u8, SliceRefOf}
+use denote.Builtin.{u8}
 use denote.Ref.{Bor, MutBor, MutRef, mut_vals, mut_Tells}
 use denote.Slice.{slice_val, slice_ty, ShrSlice, shr_slice_vals, shr_slice_Tells, shr_slice_Lawful}
-use denote.Signature.{Signature, plain, shr_slice_of}
+use denote.Signature.{plain, shr_slice_of}
 use denote.Steps.{only, opens, closes, owned, peeks, heard, nothing}
 use denote.Struct.Steps.{spelt}
 use denote.Struct.Laws as LL
@@ -37,7 +37,7 @@ use denote.Triple.Call.{calls_at}
 use denote.Triple.Entry.{on_entry}
 use denote.Triple.Spec.{Meets, triple_of}
 use denote.Triple.Walked.{says, Stays, stay_ref, stay_dropped, walk_of, Goes-ref, Goes-dropped, ends_at, walked, walk_Meets}
-use denote.Triple.Clauses.{Clauses, Ended, closing, ensured, lasts}
+use denote.Triple.Clauses.{Clauses, closing, ensured, lasts}
 use denote.Exit.{yes}
 use Rattle.sheets.specs.SheetTexts.{AreBytes}
 use Rattle.player.specs.declared.record.Player.{Player}
@@ -53,8 +53,9 @@ use Rattle.std.specs.contracts.result.Result as R
 use Rattle.std.proofs.result.Result.TheLaws as R'
 use Rattle.player.specs.contracts.record.Move as N
 use Rattle.player.proofs.record.Move.TheLaws as N'
--- a function of the kind, for its signature alone: every other has the same
+-- two functions of the kind, for their signatures alone: every other has the same
 use Rattle.player.specs.contracts.forward as on
+use Rattle.player.specs.contracts.moves.forward_from as by_value
 
 -- an answer, or what is told in its place
 abbrev pub answer_type : Declared
@@ -75,18 +76,6 @@ answer_plain = R'.the_plain A.the_row D.the_row A'.the_row_plain D'.the_row_plai
 -- what a move does to a text, a sheet and a record
 abbrev pub Moves : Type 0
 Moves = List ℕ → List ℕ → Player → Move
-
--- the signature of the function that is called, and that it keeps nothing
-abbrev pub by_value : Signature
-by_value = record {
-  lifetimes = 2;
-  outlives = [];
-  params = SliceRefOf (0 ∷ []) tt (plain (λ _. u8)) (λ _. tt) ∷ SliceRefOf (1 ∷ []) tt (plain (λ _. u8)) (λ _. tt) ∷ plain (λ _. P.the_row) ∷ [];
-  result = plain (λ _. N.the_row);
-}
-
-abbrev pub by_value_ended : Ended
-by_value_ended = record { signature = by_value; kept = (yes, (yes, (yes, tt))) }
 
 -- the code, at the key of the function that it calls
 abbrev pub code_of : Callee → Fn
@@ -112,14 +101,14 @@ stayed = (stay_ref (0 ∷ []) tt (plain (λ _. P.the_row)), (stay_dropped (shr_s
 
 module _ {M : Type 1} (𝓤 : Ura M) (moves : Moves) where
   -- the contract of the function by value, and of the one on a record that is lent
-  abbrev pub From : Clauses 𝓤 by_value_ended
+  abbrev pub From : Clauses 𝓤 by_value.ended
   From κs a = record { ghost = Unit {0}; requires = λ _. emp 𝓤; ensures = λ _ r _. fact 𝓤 ((r ≡ moves a.0.now a.1.0.now a.1.1.0) × AreBytes a.1.0.now) }
 
   abbrev pub On : Clauses 𝓤 on.ended
   On κs a = record { ghost = Unit {0}; requires = λ _. emp 𝓤; ensures = λ _ r e. fact 𝓤 ((e.0.now ≡ (moves a.1.0.now a.1.1.0.now a.0.now).player) × (r ≡ (moves a.1.0.now a.1.1.0.now a.0.now).answer) × AreBytes a.1.1.0.now) }
 
 abbrev pub FromOf : {M : Type 1} {𝓤 : Ura M} (𝓛 : Logic 𝓤) (moves : Moves) → Contract 𝓤
-FromOf {𝓤 = 𝓤} 𝓛 moves = triple_of 𝓛 by_value (closing 𝓛 by_value_ended (From 𝓤 moves))
+FromOf {𝓤 = 𝓤} 𝓛 moves = triple_of 𝓛 by_value.signature (closing 𝓛 by_value.ended (From 𝓤 moves))
 
 abbrev pub OnOf : {M : Type 1} {𝓤 : Ura M} (𝓛 : Logic 𝓤) (moves : Moves) → Contract 𝓤
 OnOf {𝓤 = 𝓤} 𝓛 moves = triple_of 𝓛 on.signature (closing 𝓛 on.ended (On 𝓤 moves))
@@ -161,8 +150,8 @@ module _ {M : Type 1} {𝓤 : Ura M} (𝓛 : Logic 𝓤) (moves : Moves) (κ κ�
   Known r = (r ≡ moves text.now sheet.now h) × AreBytes sheet.now
 
   -- of the callee's `ensured`, the clause alone
-  said : (r : Move) → ent 𝓤 (ensured 𝓛 by_value_ended (From 𝓤 moves) (κ₁, (κ₂, tt)) (text, (sheet, (h, tt))) tt r) (fact 𝓤 (Known r))
-  said r = ex_e 𝓤 _ (λ ws. snd∗ 𝓤 (sem 𝓛 (lasts by_value_ended (κ₁, (κ₂, tt)) (text, (sheet, (h, tt))) ws)) (fact 𝓤 (Known r)))
+  said : (r : Move) → ent 𝓤 (ensured 𝓛 by_value.ended (From 𝓤 moves) (κ₁, (κ₂, tt)) (text, (sheet, (h, tt))) tt r) (fact 𝓤 (Known r))
+  said r = ex_e 𝓤 _ (λ ws. snd∗ 𝓤 (sem 𝓛 (lasts by_value.ended (κ₁, (κ₂, tt)) (text, (sheet, (h, tt))) ws)) (fact 𝓤 (Known r)))
 
   exits : (r : Move) → Is answer_row r.answer (EL.vals answer_type answer_laws r.answer) → Known r
       → ent 𝓤 (⋆ 𝓛 (‵ (fobs γ ((P.the_row).coded.code r.player)) ∷ ‵ (fbor κ (Body (mem P.the_row) b o γ)) ∷ ‵ (flft κ q) ∷ (‵ (flft κ₁ q₁) ⊛ ‵ (flft κ₂ q₂) ⊛ ‵ ftrue) ∷ [])) (Post (EL.val answer_type answer_laws r.answer))
@@ -188,7 +177,7 @@ module _ {M : Type 1} {𝓤 : Ura M} (𝓛 : Logic 𝓤) (moves : Moves) (κ κ�
         move ! (4 ∷ 5 ∷ []) $ use2 𝓛 (raw ((FromOf 𝓛 moves).pre to)) (goes was) $
         -- [what the callee asks; the record's cell; the open borrow; obs; auth; _6; …; _5; …; _4; …; _3; …; _2; …; _1; …; room for _0; …]
         calls_at ! fm (FromOf 𝓛 moves) known to (and_then ! (load ! (from ! (stop !)) (look ! 13 refl)) (and_then ! (load ! (from ! (stop !)) (look ! 11 refl)) (and_then ! (load ! (from ! (stop !)) (look ! 7 refl)) (no_more !)))) (λ v.
-        use1 𝓛 (later (some (λ (r : Move). ((‵ (flft κ₁ q₁) ⊛ ‵ (flft κ₂ q₂) ⊛ ‵ ftrue) ⊛ ‵ ((N.the_row).own_val r (v ∷ []))) ⊛ raw (ensured 𝓛 by_value_ended (From 𝓤 moves) (κ₁, (κ₂, tt)) (text, (sheet, (h, tt))) tt r)))) (id⊢ 𝓤 _) $ await ! tt $ pick ! (λ r.
+        use1 𝓛 (later (some (λ (r : Move). ((‵ (flft κ₁ q₁) ⊛ ‵ (flft κ₂ q₂) ⊛ ‵ ftrue) ⊛ ‵ ((N.the_row).own_val r (v ∷ []))) ⊛ raw (ensured 𝓛 by_value.ended (From 𝓤 moves) (κ₁, (κ₂, tt)) (text, (sheet, (h, tt))) tt r)))) (id⊢ 𝓤 _) $ await ! tt $ pick ! (λ r.
         split ! $ move ! (1 ∷ []) $ use1 𝓛 (raw (fact 𝓤 (Known r))) (said r) $ heard ! (Known r) (λ e. split ! $ move ! (1 ∷ []) $
         peeks ! N.the_row (Is N.the_row) (shows 𝓛 N.the_row) r (v ∷ []) (λ is. drop ! $
         -- [the slices' tokens; the record's cell; the open borrow; obs; auth; room for _6; …; _5; …; room for _4; …; _3; …; _2; …; _1; …; room for _0; …]: the result lands, and its machine value is written out

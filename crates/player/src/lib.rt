@@ -11,8 +11,8 @@ ghost use Rattle.player.specs.declared.record.Direction.TheVariants.{Forward, Ba
 ghost use Rattle.player.specs.working.Playing.{move_of};
 
 use conditions::outcome::Declined;
-use moves::moved;
-use record::{Answer, Direction, Player};
+use moves::{back_from, beginning_from, forward_from};
+use record::{Answer, Player};
 
 // One step on.
 pub fn forward(player: &mut Player, text: &[u8], sheet: &[u8]) -> Result<Answer, Declined>
@@ -20,7 +20,9 @@ pub fn forward(player: &mut Player, text: &[u8], sheet: &[u8]) -> Result<Answer,
         × (result ≡ (move_of Forward text.now sheet.now player.old).answer)
         × AreBytes sheet.now }
 {
-    moved(player, text, sheet, Direction::Forward)
+    let moved = forward_from(text, sheet, *player);
+    *player = moved.player;
+    moved.answer
 }
 
 // One step back.
@@ -29,7 +31,9 @@ pub fn back(player: &mut Player, text: &[u8], sheet: &[u8]) -> Result<Answer, De
         × (result ≡ (move_of Back text.now sheet.now player.old).answer)
         × AreBytes sheet.now }
 {
-    moved(player, text, sheet, Direction::Back)
+    let moved = back_from(text, sheet, *player);
+    *player = moved.player;
+    moved.answer
 }
 
 // To the beginning.
@@ -38,5 +42,7 @@ pub fn beginning(player: &mut Player, text: &[u8], sheet: &[u8]) -> Result<Answe
         × (result ≡ (move_of Beginning text.now sheet.now player.old).answer)
         × AreBytes sheet.now }
 {
-    moved(player, text, sheet, Direction::Beginning)
+    let moved = beginning_from(text, sheet, *player);
+    *player = moved.player;
+    moved.answer
 }

@@ -1,11 +1,12 @@
-// Opening, and moves of a record that is lent: the test comes first, then the record is held against the sheet.
+// Opening, and moves of a record that is lent or comes by value: the test comes first, then the record is held against the sheet.
 ghost use Rattle.std.specs.Prelude.{◌≡◌, ◌+◌, ◌*◌, ◌≤◌, length, IfSome};
 ghost use Rattle.sheets.specs.SheetTexts.{AreBytes};
 ghost use Rattle.player.specs.Places.{leads};
+ghost use Rattle.player.specs.declared.record.Direction.TheVariants.{Forward, Back, Beginning};
 ghost use Rattle.traces.specs.working.Passing.{header};
 ghost use Rattle.player.specs.working.Playing.{record_at, move_of, open_of};
 
-use crate::record::{Answer, Direction, Player};
+use crate::record::{Answer, Direction, Move, Player};
 use conditions::outcome::Declined;
 use sheets::fields::{HEADER, two_at};
 use traces::passed_steps;
@@ -58,6 +59,35 @@ pub fn moved(
         }
         None => Ok(Answer::AtEnd),
     }
+}
+
+// A move in a direction, of a record by value: it is lent from here, and goes back with the answer.
+fn moved_from(text: &[u8], sheet: &[u8], mut player: Player, direction: Direction) -> Move
+    ensures { (result ≡ move_of direction text.now sheet.now player) × AreBytes sheet.now }
+{
+    let answer = moved(&mut player, text, sheet, direction);
+    Move { player, answer }
+}
+
+// One step on.
+pub fn forward_from(text: &[u8], sheet: &[u8], player: Player) -> Move
+    ensures { (result ≡ move_of Forward text.now sheet.now player) × AreBytes sheet.now }
+{
+    moved_from(text, sheet, player, Direction::Forward)
+}
+
+// One step back.
+pub fn back_from(text: &[u8], sheet: &[u8], player: Player) -> Move
+    ensures { (result ≡ move_of Back text.now sheet.now player) × AreBytes sheet.now }
+{
+    moved_from(text, sheet, player, Direction::Back)
+}
+
+// To the beginning.
+pub fn beginning_from(text: &[u8], sheet: &[u8], player: Player) -> Move
+    ensures { (result ≡ move_of Beginning text.now sheet.now player) × AreBytes sheet.now }
+{
+    moved_from(text, sheet, player, Direction::Beginning)
 }
 
 // A player opened on a sheet: a record at the beginning of its trace.

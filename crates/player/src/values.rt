@@ -4,34 +4,52 @@ ghost use Rattle.sheets.specs.SheetTexts.{AreBytes};
 ghost use Rattle.player.specs.declared.record.Direction.TheVariants.{Forward, Back, Beginning};
 ghost use Rattle.player.specs.working.Playing.{move_of};
 
-use crate::moves::moved;
 use crate::record::{Direction, Move, Player};
-
-// A move in a direction.
-pub fn move_of(direction: Direction, mut player: Player, text: &[u8], sheet: &[u8]) -> Move
-    ensures { (result ≡ move_of direction text.now sheet.now player) × AreBytes sheet.now }
-{
-    let answer = moved(&mut player, text, sheet, direction);
-    Move { player, answer }
-}
+use crate::{back, beginning, forward};
 
 // One step on.
 pub fn forward_of(player: Player, text: &[u8], sheet: &[u8]) -> Move
     ensures { (result ≡ move_of Forward text.now sheet.now player) × AreBytes sheet.now }
 {
-    move_of(Direction::Forward, player, text, sheet)
+    let mut lent = player;
+    let answer = forward(&mut lent, text, sheet);
+    Move {
+        player: lent,
+        answer,
+    }
 }
 
 // One step back.
 pub fn back_of(player: Player, text: &[u8], sheet: &[u8]) -> Move
     ensures { (result ≡ move_of Back text.now sheet.now player) × AreBytes sheet.now }
 {
-    move_of(Direction::Back, player, text, sheet)
+    let mut lent = player;
+    let answer = back(&mut lent, text, sheet);
+    Move {
+        player: lent,
+        answer,
+    }
 }
 
 // To the beginning.
 pub fn beginning_of(player: Player, text: &[u8], sheet: &[u8]) -> Move
     ensures { (result ≡ move_of Beginning text.now sheet.now player) × AreBytes sheet.now }
 {
-    move_of(Direction::Beginning, player, text, sheet)
+    let mut lent = player;
+    let answer = beginning(&mut lent, text, sheet);
+    Move {
+        player: lent,
+        answer,
+    }
+}
+
+// A move in a direction.
+pub fn move_of(direction: Direction, player: Player, text: &[u8], sheet: &[u8]) -> Move
+    ensures { (result ≡ move_of direction text.now sheet.now player) × AreBytes sheet.now }
+{
+    match direction {
+        Direction::Forward => forward_of(player, text, sheet),
+        Direction::Back => back_of(player, text, sheet),
+        Direction::Beginning => beginning_of(player, text, sheet),
+    }
 }
