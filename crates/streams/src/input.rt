@@ -8,7 +8,7 @@ const BLOCK: usize = 65536;
 #[derive(Drop)]
 pub struct Input<R> {
     reader: R,
-    block: [u8; 65536],
+    block: [u8; BLOCK],
     at: usize,
     end: usize,
 }
@@ -17,18 +17,27 @@ impl<R: Read> Input<R> {
     pub fn new(reader: R) -> Input<R> {
         Input {
             reader,
-            block: [0; 65536],
+            block: [0; BLOCK],
             at: 0,
             end: 0,
         }
     }
 
-    pub fn next_byte(&mut self) -> Option<u8> {
+    // Reads the next block where the last is used up; None where the input ends.
+    fn fill(&mut self) -> Option<()> {
         if self.at >= self.end {
             self.end = self.reader.read(&mut self.block).ok()?;
             self.at = 0;
+            if self.end == 0 {
+                return None;
+            }
         }
-        let b = self.block[..self.end.min(BLOCK)].get(self.at).copied()?;
+        Some(())
+    }
+
+    pub fn next_byte(&mut self) -> Option<u8> {
+        self.fill()?;
+        let b = self.block.get(self.at).copied()?;
         self.at += 1;
         Some(b)
     }
@@ -49,11 +58,21 @@ impl<R: Read> Input<R> {
     // A text, which comes as its length, its bytes and a newline: how long it is. It is put into the room as far as it goes.
     pub fn text(&mut self, room: &mut [u8]) -> Option<usize> {
         let n = self.number()?;
-        for i in 0..n {
-            let b = self.next_byte()?;
-            if let Some(place) = room.get_mut(i) {
-                *place = b;
+        let mut left = n;
+        for _ in 0..n {
+            if left == 0 {
+                break;
             }
+            self.fill()?;
+            let waiting = self.block.get(self.at..self.end)?;
+            let k = waiting.len().min(left);
+            let from = n - left;
+            let m = k.min(room.len().saturating_sub(from));
+            if let Some(places) = room.get_mut(from..from + m) {
+                places.copy_from_slice(&waiting[..m]);
+            }
+            self.at += k;
+            left -= k;
         }
         (self.next_byte()? == b'\n').then_some(n)
     }
