@@ -58,24 +58,18 @@ pub fn read_into(
 pub fn read(text: &[u8]) -> Result<Code, Refusal>
     ensures { result ≡ reading_of text.now }
 {
-    let mut code = Code {
-        ops: [0; 2048],
-        ends: [0; 20],
-        stars: [0; 16],
-        names: [0; 56],
-        shared: 0,
-        row: 0,
-        commands: 0,
-    };
-    let counts = read_into(
-        text,
-        &mut code.names,
-        &mut code.ops,
-        &mut code.ends,
-        &mut code.stars,
-    )?;
-    code.shared = counts.shared;
-    code.row = counts.row;
-    code.commands = counts.commands;
-    Ok(code)
+    let mut ops = [0u16; 2048];
+    let mut names = [0u16; 56];
+    let mut ends = [0u16; 20];
+    let mut stars = [0u16; 16];
+    let counts = read_into(text, &mut names, &mut ops, &mut ends, &mut stars)?;
+    Ok(Code {
+        ops,
+        ends,
+        stars,
+        names,
+        shared: counts.shared,
+        row: counts.row,
+        commands: counts.commands,
+    })
 }

@@ -8,7 +8,7 @@ mod progress;
 use progress::search_showing;
 use reporting::{put_report, write_report};
 use std::env::Env;
-use std::io::Write;
+use std::io::{Read, Write};
 use streams::arguments::{argument, argument_count};
 use streams::output::write_out;
 use streams::told::tell;
@@ -36,16 +36,20 @@ fn asks_progress(rt: &impl Env) -> bool {
     &room[..n] == b"--progress".as_slice()
 }
 
-// The room has a byte more than the longest text, so a longer one is refused by the search itself.
+// Reads the text, and reports. The room has a byte more than the longest text, so a longer one is refused by the search itself.
+fn answer(input: &mut impl Read, out: &mut impl Write, errors: &mut impl Write, showing: bool) {
+    let mut text = [0u8; 16385];
+    if let Some(n) = read_in(input, errors, b"report", &mut text) {
+        report(out, errors, &text[..n], showing);
+    }
+}
+
+// What takes much room stands in `answer`, so that whoever asks wrongly is told so with little.
 fn main(rt: HostRuntime) {
     let mut errors = rt.stderr();
-    let showing = match argument_count(&rt) {
-        1 => false,
-        2 if asks_progress(&rt) => true,
-        _ => return tell(&mut errors, b"usage: report [--progress] < TEXT\n"),
-    };
-    let mut text = [0u8; 16385];
-    if let Some(n) = read_in(&mut rt.stdin(), &mut errors, b"report", &mut text) {
-        report(&mut rt.stdout(), &mut errors, &text[..n], showing);
+    match argument_count(&rt) {
+        1 => answer(&mut rt.stdin(), &mut rt.stdout(), &mut errors, false),
+        2 if asks_progress(&rt) => answer(&mut rt.stdin(), &mut rt.stdout(), &mut errors, true),
+        _ => tell(&mut errors, b"usage: report [--progress] < TEXT\n"),
     }
 }
