@@ -13,6 +13,31 @@ pub struct Span {
     pub to: usize,
 }
 
+// Segment i of the code that a plan is about.
+#[tactic(auto, using(crate::proofs::OneRowCode::begin_later, crate::proofs::OneRowCode::begin_first))]
+pub fn segment(plan: &Plan, i: usize) -> Span
+    requires { (i < 4 + plan.now.commands) × Sound plan.now }
+    ensures { Bounds plan.now.ends i result.from result.to }
+{
+    let from = if i == 0 {
+        0
+    } else {
+        usize::from(plan.ends[i - 1])
+    };
+    Span {
+        from,
+        to: usize::from(plan.ends[i]),
+    }
+}
+
+// How many choice words command k of a plan has.
+pub fn word_count(plan: &Plan, k: usize) -> usize
+    requires { (k < plan.now.commands) × Sound plan.now }
+    ensures { (result ≡ 2 ^ stars_in plan.now.stars k) × (result ≤ 256) }
+{
+    power(usize::from(plan.stars[k]))
+}
+
 // A model's code words, and where they stand.
 #[derive(Clone, Copy)]
 pub struct OneRow<'a> {
@@ -23,20 +48,11 @@ pub struct OneRow<'a> {
 
 impl OneRow<'_> {
     // Segment i of the code.
-    #[tactic(auto, using(crate::proofs::OneRowCode::begin_later, crate::proofs::OneRowCode::begin_first))]
     pub fn segment(&self, i: usize) -> Span
         requires { i < 4 + self.now.plan.commands }
         ensures { Bounds self.now.plan.ends i result.from result.to }
     {
-        let from = if i == 0 {
-            0
-        } else {
-            usize::from(self.plan.ends[i - 1])
-        };
-        Span {
-            from,
-            to: usize::from(self.plan.ends[i]),
-        }
+        segment(&self.plan, i)
     }
 
     // How many choice words command k has.
@@ -44,7 +60,7 @@ impl OneRow<'_> {
         requires { k < self.now.plan.commands }
         ensures { (result ≡ 2 ^ stars_in self.now.plan.stars k) × (result ≤ 256) }
     {
-        power(usize::from(self.plan.stars[k]))
+        word_count(&self.plan, k)
     }
 
     // Whether the expression whose code is segment i holds in a state.

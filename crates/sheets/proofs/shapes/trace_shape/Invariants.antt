@@ -7,5 +7,5 @@ use Rattle.sheets.proofs.shapes.trace_shape.Given as goal
 
 abbrev pub invariant-loop-i : goal.invariant-loop-i
 invariant-loop-i l =
-    (rest : Reading) → steps_at l.states l.table.plan.commands (stars_in l.table.plan.stars) l.b (l.p + 8 + 10 * l.i) (l.i-end - l.i) rest ≡ steps_at l.states
-    l.table.plan.commands (stars_in l.table.plan.stars) l.b (l.p + 8) (step_count l.b (l.p + 8)) rest
+    (rest : Reading) → steps_at l.states l.plan.commands (stars_in l.plan.stars) l.b (l.p + 8 + 10 * l.i) (l.i-end - l.i) rest ≡ steps_at l.states
+    l.plan.commands (stars_in l.plan.stars) l.b (l.p + 8) (step_count l.b (l.p + 8)) rest
