@@ -23,13 +23,12 @@ use std::fs::Files;
 use std::io::{Read, Write};
 use streams::arguments::argument_count;
 use streams::files::read_argument;
-use streams::input::Input;
 use streams::output::write_out;
 use streams::told::tell;
 use wording::{Line, put_declined};
 
-// More bytes than ever come: a thousand million of them each second would take 584 years.
-const MOST_BYTES: u64 = u64::MAX;
+// More blocks than ever come: a thousand million of them each second would take 584 years.
+const MOST_BLOCKS: u64 = u64::MAX;
 
 // What a byte asks for, if for anything.
 #[tactic(auto, unfolding(crate::specs::Keys::asked_by))]
@@ -144,7 +143,7 @@ fn answer_byte(
     Some(after)
 }
 
-// Answers the bytes of standard input as they come. Nothing says that the input ends, so they are counted.
+// Answers the bytes of standard input as they come, a block of them at a time. Nothing says that the input ends, so the blocks are counted.
 fn walk(
     input: &mut impl Read,
     out: &mut impl Write,
@@ -154,15 +153,20 @@ fn walk(
     sheet: &[u8],
 ) {
     let mut player = first;
-    let mut bytes = Input::new(input);
-    'bytes: for _ in 0..MOST_BYTES {
-        let Some(b) = bytes.next_byte() else {
+    let mut block = [0u8; 65536];
+    'blocks: for _ in 0..MOST_BLOCKS {
+        let Ok(n) = input.read(&mut block) else {
             return;
         };
-        let Some(next) = answer_byte(out, errors, b, player, text, sheet) else {
+        if n == 0 {
             return;
-        };
-        player = next;
+        }
+        'bytes: for b in &block[..n] {
+            let Some(next) = answer_byte(out, errors, *b, player, text, sheet) else {
+                return;
+            };
+            player = next;
+        }
     }
 }
 
