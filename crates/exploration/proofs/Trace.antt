@@ -9,10 +9,13 @@ use lib.ListN.{length, get_or, set, take}
 use lib.Seq.{sets, length-sets, set_comm, get_or-take}
 use Rattle.sheets.specs.Sheets.{start_bytes, step_bytes, steps_bytes}
 use Rattle.exploration.specs.working.Transitions.{Transitions, Lawful, Move, moves}
-use Rattle.exploration.specs.working.Runs.{Run, starts_at, goes_on, final, MoveOf, Valid, steps, first_move, run_to, Traced, step_of, steps_of}
+use Rattle.exploration.specs.working.Runs.{Run, starts_at, goes_on, final, MoveOf, Valid, steps, first_move, move_to, run_to, Traced, step_of, steps_of}
 use Rattle.exploration.specs.working.Written.{run_bytes, RecordedTo}
 use Rattle.exploration.proofs.First.{run-to, final-below}
 use Rattle.exploration.proofs.TraceSteps.{run_snoc, run_length}
+use Rattle.exploration.proofs.Order.{moves-has}
+use Rattle.exploration.proofs.Recorded.{finds}
+use Rattle.std.specs.Prelude.{IsSome}
 
 -- Stores that don't meet.
 
@@ -124,6 +127,15 @@ module _ (M : Transitions) (law : Lawful M) (P : List ℕ) where
     -- The state before it is a state.
     pub writing_parent : 0 < i → get_or P s 0 - 1 < M.size
     writing_parent h = recorded-below (step_back h).before
+
+    -- A move from there leads to it.
+    pub writing_some : 0 < i → IsSome (move_to M (get_or P s 0 - 1) s (moves M))
+    writing_some h =
+        let b = step_back h in
+        let m = b.move in
+        let e : M.step (get_or P s 0 - 1) m.command m.word ≡ s =
+        ap (λ (u : ℕ). M.step u m.command m.word) (sym b.before.ends) ∙ ap (final M) (sym b.whole) ∙ W.here.ends in
+        finds M (get_or P s 0 - 1) s (moves M) m (moves-has M 0 M.commands m (omega arith) (omega (arith, b.moved.0)) b.moved.1) e
 
     pub record Turn (m : Move) : Type 0 where
       pub move : MoveOf M m

@@ -119,6 +119,12 @@ module _ (text : List ℕ) where
             let v = le_bytes_8 (window text a 8) y (window-length text a 8) (window-fits a 8 g) q in
             ne_eqb x y (λ z. let w : window text b 8 ≡ window text a 8 = cc in let n : ◌≡◌ {A = Bool} true false = sym (same_itself (window text a 8)) ∙ ap (λ (v : Word). same_word v (window text a 8)) (sym w) ∙ e in let r : ◌≡◌ {A = ℕ} 0 1 = cc in absurd (omega arith))
 
+  -- The same of eight bytes as the code takes them, of a text whose elements are bytes.
+  module _ (fits : (j : ℕ) → get_or text j 0 < 256) where
+    module _ (a b x y : ℕ) (h : a + 8 ≤ length text) (k : b + 8 ≤ length text) (p : x ≡ from_le_bytes w64 (take 8 (drop b text))) (q : y ≡ from_le_bytes w64 (take 8 (drop a text))) where
+      pub eight_same : eqb x y ≡ same_word (window text b 8) (window text a 8)
+      eight_same = packs_same a b x y (λ j _. fits (b + j)) (λ j _. fits (a + j)) (eight_taken b x k p) (eight_taken a y h q)
+
   -- What is the same as written is the same but for case.
   written_same : (a b n : ℕ) → same_word (window text b n) (window text a n) ≡ true → same_first text a b n ≡ true
   unfolding same_first
